@@ -1,0 +1,3 @@
+pub mod Order
+pub mod VersionOrder
+pub mod VersionOrderLaws

@@ -1,0 +1,17 @@
+//! Values that are joined: the traits of keys and of joins with their laws, and contents with
+//! versions.
+//!
+//! A join semilattice is an order in which any two values have a least upper bound, their join.
+//! Replicas whose states form one come to the same state in whatever order they hear of each
+//! other (Shapiro, Preguica, Baquero, Zawirski, "Conflict-free Replicated Data Types", 2011).
+#![tactic(auto)]
+
+mod joins;
+mod keys;
+#[cfg(test)]
+mod tests;
+mod versions;
+
+pub use joins::{Join, Rest};
+pub use keys::Key;
+pub use versions::{Version, Versioned};
