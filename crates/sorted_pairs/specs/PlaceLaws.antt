@@ -1,0 +1,101 @@
+-- What an edit at a place does to the pairs.
+use Rattle.std.specs.Prelude.{◌≡◌, ℕ, zero, suc, ◌<◌, ◌≤◌, List, [], ◌∷◌, ◌++◌, Some, None, Bool, true, false, cond, refl, length, ◌&&◌, IsTrue}
+use Rattle.std.specs.List.{insert}
+use Rattle.std.specs.Cmp.{IsTotalOrder}
+use Rattle.std.specs.Ordering.{is_eq, is_lt, ordering_reverse}
+use Rattle.std.proofs.Common.{ap, sym, ◌∙◌, set, get_or, take, arith}
+use Rattle.std.specs.declared.cmp.Ordering.{Ordering}
+use Rattle.std.specs.declared.cmp.Ordering.TheVariants.{Less, Equal, Greater}
+use Rattle.std.specs.FinMap.Entries.{find, put, is_sorted, by_order, below_all}
+use Rattle.sorted_pairs.specs.Places.{IsAt, IsGap, AreBelow, IsNotBelow}
+
+pub both_first : (a b : Bool) → IsTrue (a && b) → IsTrue a
+both_first true b p = refl
+both_first false b p = p
+
+pub both_second : (a b : Bool) → IsTrue (a && b) → IsTrue b
+both_second true b p = p
+both_second false b p = cc (p)
+
+pub both : (a b : Bool) → IsTrue a → IsTrue b → IsTrue (a && b)
+both true b p q = q
+both false b p q = cc (p)
+
+pub is_less : (r : Ordering) → IsTrue (is_lt r) → r ≡ Less
+is_less Less p = refl
+is_less Equal p = cc (p)
+is_less Greater p = cc (p)
+
+turned : {K : Type 0} (R : K → K → Ordering) (o : IsTotalOrder R) (k x : K) → R x k ≡ Less → R k x ≡ Greater
+turned R o k x h = o.antisymm k x ∙ ap ordering_reverse h
+
+module _ {K V : Type 0} (R : K → K → Ordering) (k : K) where
+  pub at_within : (es : List (K × V)) (i : ℕ) → IsAt R k es i → i < length es
+  at_within [] i a = absurd a
+  at_within (e ∷ es) zero a = omega arith
+  at_within (e ∷ es) (suc i) a = let h = at_within es i a.1 in omega arith
+
+  pub gap_within : (es : List (K × V)) (i : ℕ) → IsGap R k es i → i ≤ length es
+  gap_within [] zero g = omega arith
+  gap_within [] (suc i) g = absurd g
+  gap_within (e ∷ es) zero g = omega arith
+  gap_within (e ∷ es) (suc i) g = let h = gap_within es i g.1 in omega arith
+
+  -- a write of the value at the key's place
+  pub set_is_put : (es : List (K × V)) (i : ℕ) (v : V) (d : K × V) → IsAt R k es i → set es i ((get_or es i d).0, v) ≡ put R k v es
+  set_is_put [] i v d a = absurd a
+  set_is_put (e ∷ es) zero v d a = sym (ap (λ r. by_order r ((k, v) ∷ e ∷ es) ((e.0, v) ∷ es) (e ∷ put R k v es)) a)
+  set_is_put (e ∷ es) (suc i) v d a = ap (λ l. e ∷ l) (set_is_put es i v d a.1) ∙ sym (ap (λ r. by_order r ((k, v) ∷ e ∷ es) ((e.0, v) ∷ es) (e ∷ put R k v es)) a.0)
+
+  -- a new pair in the gap
+  pub insert_is_put : (es : List (K × V)) (i : ℕ) (v : V) → IsGap R k es i → insert es i (k, v) ≡ put R k v es
+  insert_is_put [] zero v g = refl
+  insert_is_put [] (suc i) v g = absurd g
+  insert_is_put (e ∷ es) zero v g = sym (ap (λ r. by_order r ((k, v) ∷ e ∷ es) ((e.0, v) ∷ es) (e ∷ put R k v es)) g)
+  insert_is_put (e ∷ es) (suc i) v g = ap (λ l. e ∷ l) (insert_is_put es i v g.1) ∙ sym (ap (λ r. by_order r ((k, v) ∷ e ∷ es) ((e.0, v) ∷ es) (e ∷ put R k v es)) g.0)
+
+  -- what is found at the key's place
+  pub find_at : (es : List (K × V)) (i : ℕ) (d : K × V) → IsAt R k es i → find R k es ≡ Some (get_or es i d).1
+  find_at [] i d a = absurd a
+  find_at (e ∷ es) zero d a = ap (λ r. cond (is_eq r) (Some e.1) (find R k es)) a
+  find_at (e ∷ es) (suc i) d a = ap (λ r. cond (is_eq r) (Some e.1) (find R k es)) a.0 ∙ find_at es i d a.1
+
+  module _ (o : IsTotalOrder R) where
+    pub find_before : (x : K) → R k x ≡ Less → (es : List (K × V)) → IsTrue (below_all R x es) → find R k es ≡ None
+    find_before x p [] h = refl
+    find_before x p (e ∷ es) h = ap (λ r. cond (is_eq r) (Some e.1) (find R k es)) (o.trans k x e.0 p (is_less _ (both_first _ _ h))) ∙ find_before x p es (both_second _ _ h)
+
+    -- nothing is found at a gap
+    pub find_gap : (es : List (K × V)) (i : ℕ) → IsTrue (is_sorted R es) → IsGap R k es i → find R k es ≡ None
+    find_gap [] i s g = refl
+    find_gap (e ∷ es) zero s g = ap (λ r. cond (is_eq r) (Some e.1) (find R k es)) g ∙ find_before e.0 g es (both_first _ _ s)
+    find_gap (e ∷ es) (suc i) s g = ap (λ r. cond (is_eq r) (Some e.1) (find R k es)) g.0 ∙ find_gap es i (both_second _ _ s) g.1
+
+    -- behind lesser pairs the place is that in what follows
+    pub put_behind : (xs ys : List (K × V)) (v : V) → AreBelow R k xs → put R k v (xs ++ ys) ≡ xs ++ put R k v ys
+    put_behind [] ys v b = refl
+    put_behind (x ∷ xs) ys v b =
+        ap (λ r. by_order r ((k, v) ∷ x ∷ xs ++ ys) ((x.0, v) ∷ (xs ++ ys)) (x ∷ put R k v (xs ++ ys))) (turned R o k x.0 b.0) ∙
+        ap (λ (l : List (K × V)). x ∷ l) (put_behind xs ys v b.1)
+
+    pub find_behind : (xs ys : List (K × V)) → AreBelow R k xs → find R k (xs ++ ys) ≡ find R k ys
+    find_behind [] ys b = refl
+    find_behind (x ∷ xs) ys b = ap (λ r. cond (is_eq r) (Some x.1) (find R k (xs ++ ys))) (turned R o k x.0 b.0) ∙ find_behind xs ys b.1
+
+  pub below_append : (xs ys : List (K × V)) → AreBelow R k xs → AreBelow R k ys → AreBelow R k (xs ++ ys)
+  below_append [] ys b c = c
+  below_append (x ∷ xs) ys b c = (b.0, below_append xs ys b.1 c)
+
+-- below a lesser key, below a greater one
+pub below_further : {K V : Type 0} (R : K → K → Ordering) (o : IsTotalOrder R) (k m : K) → R k m ≡ Less → (xs : List (K × V)) → AreBelow R k xs → AreBelow R m xs
+below_further R o k m h [] b = tt
+below_further R o k m h (x ∷ xs) b = (o.trans x.0 k m b.0 h, below_further R o k m h xs b.1)
+
+-- the first pair alone
+pub below_first : {K V : Type 0} (R : K → K → Ordering) (k : K) (xs : List (K × V)) (d : K × V) → R (get_or xs 0 d).0 k ≡ Less → AreBelow R k (take 1 xs)
+below_first R k [] d h = tt
+below_first R k (x ∷ xs) d h = (h, tt)
+
+pub not_below_first : {K V : Type 0} (R : K → K → Ordering) (k : K) (xs : List (K × V)) (d : K × V) → is_lt (R (get_or xs 0 d).0 k) ≡ false → IsNotBelow R k xs
+not_below_first R k [] d h = tt
+not_below_first R k (x ∷ xs) d h = λ e. let f = ap is_lt e in cc (f, h)

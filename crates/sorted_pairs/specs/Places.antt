@@ -1,0 +1,28 @@
+-- Places of a key among pairs in the order of their keys.
+use Rattle.std.specs.Prelude.{◌≡◌, ◌≢◌, ℕ, zero, suc, List, [], ◌∷◌}
+use Rattle.std.specs.declared.cmp.Ordering.{Ordering}
+use Rattle.std.specs.declared.cmp.Ordering.TheVariants.{Less, Equal, Greater}
+
+module _ {K V : Type 0} (R : K → K → Ordering) (k : K) where
+  -- the key stands at place i, after lesser ones
+  abbrev pub IsAt : List (K × V) → ℕ → Type 0
+  IsAt [] i = ⊥
+  IsAt (e ∷ es) zero = R k e.0 ≡ Equal
+  IsAt (e ∷ es) (suc i) = (R k e.0 ≡ Greater) × IsAt es i
+
+  -- the key would stand at place i, between lesser ones and a greater one
+  abbrev pub IsGap : List (K × V) → ℕ → Type 0
+  IsGap [] zero = Unit {0}
+  IsGap [] (suc i) = ⊥
+  IsGap (e ∷ es) zero = R k e.0 ≡ Less
+  IsGap (e ∷ es) (suc i) = (R k e.0 ≡ Greater) × IsGap es i
+
+  -- the key is above all of these
+  abbrev pub AreBelow : List (K × V) → Type 0
+  AreBelow [] = Unit {0}
+  AreBelow (e ∷ es) = (R e.0 k ≡ Less) × AreBelow es
+
+  -- the first of these, if there is one, is not below the key
+  abbrev pub IsNotBelow : List (K × V) → Type 0
+  IsNotBelow [] = Unit {0}
+  IsNotBelow (e ∷ es) = R e.0 k ≢ Less

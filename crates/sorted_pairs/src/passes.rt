@@ -1,0 +1,56 @@
+//! One pass over sorted pairs: those that are passed, and those that are not.
+ghost use Rattle.std.specs.Prelude.{◌≡◌, ◌+◌, ◌<◌, ◌≤◌, ◌++◌, [], take, drop, vec_len, vec_capacity};
+ghost use Rattle.std.specs.VecDeque.{deque_len};
+ghost use Rattle.sorted_pairs.specs.Places.{AreBelow, IsNotBelow};
+
+use join_law::Key;
+use std::collections::VecDeque;
+
+/// Passes the pairs whose keys are below the given one. No pair is lost, and none is moved past
+/// another. Linear in the pairs that are passed.
+pub fn pass_below<K: Key, V: Drop>(passed: &mut Vec<(K, V)>, rest: &mut VecDeque<(K, V)>, key: &K)
+    requires room { vec_len passed.old + deque_len rest.old ≤ vec_capacity passed.old }
+    requires below { AreBelow K.cmp key.now passed.old.items }
+    ensures pairs { passed.new.items ++ rest.new.items ≡ passed.old.items ++ rest.old.items }
+    ensures below { AreBelow K.cmp key.now passed.new.items }
+    ensures next { IsNotBelow K.cmp key.now rest.new.items }
+    ensures len { vec_len passed.new + deque_len rest.new ≡ vec_len passed.old + deque_len rest.old }
+    ensures capacity { vec_capacity passed.old ≤ vec_capacity passed.new }
+{
+    while let Some(pair) = rest.front() {
+        if !pair.0.cmp(key).is_lt() {
+            return;
+        }
+        pass_one(passed, rest);
+    }
+}
+
+/// Passes all pairs that are left. Linear in them.
+pub fn pass_all<K: Drop, V: Drop>(passed: &mut Vec<(K, V)>, rest: &mut VecDeque<(K, V)>)
+    requires room { vec_len passed.old + deque_len rest.old ≤ vec_capacity passed.old }
+    ensures pairs { passed.new.items ≡ passed.old.items ++ rest.old.items }
+    ensures none_left { rest.new.items ≡ [] }
+{
+    while !rest.is_empty() {
+        pass_one(passed, rest);
+    }
+}
+
+// Passes the first pair that is left.
+fn pass_one<K: Drop, V: Drop>(passed: &mut Vec<(K, V)>, rest: &mut VecDeque<(K, V)>)
+    requires room { vec_len passed.old + deque_len rest.old ≤ vec_capacity passed.old }
+    requires some { 0 < deque_len rest.old }
+    ensures pairs { passed.new.items ++ rest.new.items ≡ passed.old.items ++ rest.old.items }
+    ensures first { passed.new.items ≡ passed.old.items ++ take 1 rest.old.items }
+    ensures left { rest.new.items ≡ drop 1 rest.old.items }
+    ensures len { vec_len passed.new + deque_len rest.new ≡ vec_len passed.old + deque_len rest.old }
+    ensures shorter { deque_len rest.new + 1 ≡ deque_len rest.old }
+    ensures capacity { vec_capacity passed.old ≤ vec_capacity passed.new }
+{
+    if let Some(pair) = rest.pop_front() {
+        match passed.push(pair) {
+            Ok(()) => {}
+            Err(_) => unreachable!(),
+        }
+    }
+}

@@ -1,0 +1,17 @@
+//! Places of keys.
+ghost use Rattle.std.specs.Prelude.{◌≡◌, ◌≤◌, ◌<◌, length, IsTrue, IfOk, IfErr};
+ghost use Rattle.std.specs.FinMap.{is_sorted};
+ghost use Rattle.sorted_pairs.specs.Places.{IsAt, IsGap};
+
+use join_law::Key;
+
+/// Where a key stands among sorted pairs, or as an error where it would stand. O(log n).
+pub fn seek<K: Key, V>(pairs: &[(K, V)], key: &K) -> Result<usize, usize>
+    requires sorted { IsTrue (is_sorted K.cmp pairs.now) }
+    ensures found { IfOk result (IsAt K.cmp key.now pairs.now) }
+    ensures absent { IfErr result (IsGap K.cmp key.now pairs.now) }
+    ensures at_within { IfOk result (λ at. at < length pairs.now) }
+    ensures gap_within { IfErr result (λ at. at ≤ length pairs.now) }
+{
+    pairs.binary_search_by(|pair| pair.0.cmp(key))
+}
