@@ -1,0 +1,96 @@
+-- Paths of the unit load path, their texts and their order.
+use Rattle.std.specs.Prelude.{ℕ, ◌+◌, ◌==◌, ◌<◌, ◌≡◌, Bool, not, ◌&&◌, ◌||◌, nat_lt, nat_le, nat_eq, if◌then◌else◌, List, [], ◌∷◌, ◌++◌, length, drop, codes, Option, Some, None, unwrap_or, slice_get, Result, Ok, Err, IsTrue}
+use Rattle.std.specs.List.{slice_split, starts_with, list_all}
+use Rattle.std.specs.Option.{option_map_or}
+use Rattle.std.specs.Str.{bytes_eq}
+use Rattle.std.specs.Ordering.{nat_cmp, ordering_then}
+use Rattle.std.specs.Cmp.Lexicographic.{slice_cmp}
+use Rattle.std.specs.declared.cmp.Ordering.{Ordering}
+use Rattle.load_path.specs.declared.paths.PathFault.{PathFault}
+use Rattle.load_path.specs.declared.paths.PathFault.TheVariants.{Directory, Depth, Component}
+
+-- the rank of its directory, its folder (empty where it has one component alone), and its name
+pub record PathParts : Type 0 where
+  pub rank : ℕ
+  pub folder : List ℕ
+  pub name : List ℕ
+
+-- the directories of the load path; each overrides those after it
+abbrev pub directories : List (List ℕ)
+directories = codes "/etc/systemd/system" ∷ codes "/run/systemd/system" ∷ codes "/usr/local/lib/systemd/system" ∷ codes "/usr/lib/systemd/system" ∷ []
+
+-- the directory of a rank
+abbrev pub directory_of : ℕ → List ℕ
+directory_of rank = unwrap_or (slice_get directories rank) []
+
+-- whether a path has two components
+abbrev pub has_folder : PathParts → Bool
+has_folder path = nat_lt 0 (length path.folder)
+
+-- how a path is written
+unfoldable pub text_of : PathParts → List ℕ
+text_of path = directory_of path.rank ++ 47 ∷ ((if has_folder path then path.folder ++ 47 ∷ [] else []) ++ path.name)
+
+-- printable ASCII but the slash, which separates components
+abbrev pub is_component_byte : ℕ → Bool
+is_component_byte b = nat_le 33 b && nat_le b 126 && not (b == 47)
+
+-- one or two dots alone
+abbrev pub is_dots : List ℕ → Bool
+is_dots bytes = bytes_eq bytes (codes ".") || bytes_eq bytes (codes "..")
+
+-- one component of a path: 1 to 255 such bytes that aren't one or two dots alone
+abbrev pub is_component : List ℕ → Bool
+is_component bytes = nat_lt 0 (length bytes) && nat_le (length bytes) 255 && list_all is_component_byte bytes && not (is_dots bytes)
+
+-- the parts of a path: a directory of the load path, a component or no folder, and a component
+pub record IsPath (path : PathParts) : Type 0 where
+  pub directory : path.rank < 4
+  pub folder : IsTrue (not (has_folder path) || is_component path.folder)
+  pub name : IsTrue (is_component path.name)
+
+-- what stands behind a directory and a slash, where a text begins with these
+unfoldable pub below_directory : List ℕ → List ℕ → Option (List ℕ)
+below_directory directory text =
+    if starts_with nat_eq text (directory ++ 47 ∷ []) then Some (drop (length directory + 1) text) else None
+
+-- the rank of the first of these directories that a text begins with, and what stands below it
+abbrev pub located_from : ℕ → List (List ℕ) → List ℕ → Option (ℕ × List ℕ)
+located_from rank [] text = None
+located_from rank (directory ∷ rest) text =
+    option_map_or (λ below. Some (rank, below)) (below_directory directory text) (located_from (rank + 1) rest text)
+
+-- the rank of the directory that a text begins with, and what stands below it
+unfoldable pub located : List ℕ → Option (ℕ × List ℕ)
+located text = located_from 0 directories text
+
+-- the path of one or two components, or what is wrong with them
+abbrev pub path_below : ℕ → List (List ℕ) → Result PathParts PathFault
+path_below rank [] = Err Depth
+path_below rank (name ∷ []) =
+    if is_component name then Ok (record { rank = rank; folder = []; name = name }) else Err Component
+path_below rank (folder ∷ name ∷ []) =
+    if is_component folder && is_component name then Ok (record { rank = rank; folder = folder; name = name }) else Err Component
+path_below rank (first ∷ second ∷ third ∷ rest) = Err Depth
+
+-- where components are cut
+abbrev pub is_slash : ℕ → Bool
+is_slash b = b == 47
+
+-- the path of what was located
+abbrev pub path_within : Option (ℕ × List ℕ) → Result PathParts PathFault
+path_within None = Err Directory
+path_within (Some (rank, rest)) = path_below rank (slice_split is_slash rest)
+
+-- the path that a text writes, or the first thing wrong with it
+unfoldable pub path_of : List ℕ → Result PathParts PathFault
+path_of text = path_within (located text)
+
+-- by rank, then by folder with none first, then by name
+abbrev pub path_cmp : PathParts → PathParts → Ordering
+path_cmp x y = ordering_then (nat_cmp x.rank y.rank) (ordering_then (slice_cmp nat_cmp x.folder y.folder) (slice_cmp nat_cmp x.name y.name))
+
+-- whatever lawful path is written is read back, and what is read is what was written
+pub record AreTheirTexts : Type 0 where
+  pub read_back : (path : PathParts) → IsPath path → path_of (text_of path) ≡ Ok path
+  pub written_back : (text : List ℕ) (path : PathParts) → path_of text ≡ Ok path → (text_of path ≡ text) × IsPath path

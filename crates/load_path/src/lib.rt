@@ -1,0 +1,14 @@
+//! Paths of the unit load path: a directory, perhaps a folder, and a name (systemd.unit(5),
+//! "Unit File Load Path").
+#![tactic(auto)]
+
+mod bytes;
+mod laws;
+mod paths;
+#[cfg(test)]
+mod tests;
+mod texts;
+
+pub use bytes::Bytes;
+pub use laws::paths_are_their_texts;
+pub use paths::{COMPONENT_LIMIT, Path, PathFault};
