@@ -1,0 +1,8 @@
+use Rattle.edit_sums.specs.CounterLaws.{high_of-sum_of, high_of-join}
+use Rattle.edit_sums.proofs.laws.counters_of_sums.Goals as goal
+
+pub returns-clause-sum : goal.returns-clause-sum
+returns-clause-sum c = high_of-sum_of
+
+pub returns-clause-join : goal.returns-clause-join
+returns-clause-join c = high_of-join

@@ -1,0 +1,77 @@
+-- The greatest counter that a sum or a join holds.
+use Rattle.std.proofs.Common.{◌≡◌, ℕ, ◌≤◌, false, Option, Some, None, List, [], ◌∷◌, ◌++◌, map, inl, inr, refl, ap, subst, ◌∙◌, arith}
+use Rattle.std.specs.Prelude.{max}
+use Rattle.std.specs.declared.cmp.Ordering.{Ordering}
+use Rattle.std.specs.declared.cmp.Ordering.TheVariants.{Less, Equal, Greater}
+use Rattle.std.specs.Ordering.{nat_cmp, ordering_then, is_gt}
+use Rattle.std.proofs.lemmas.Bool.Decides.{nat_tests}
+use Rattle.std.specs.FinMap as finmap
+use Rattle.load_path.specs.Paths.{PathParts}
+use Rattle.edit_sums.specs.declared.entries.Entry.{Entry}
+use Rattle.edit_sums.specs.declared.entries.Edit.{Edit}
+use Rattle.edit_sums.specs.Entries.{IsBelow}
+use Rattle.edit_sums.specs.GreatestLaws.{get_from_edits_of}
+use Rattle.edit_sums.specs.SumLaws.{sum_of-IsSum, sum_of-edits_of}
+use Rattle.edit_sums.specs.Sums.{EntryMap, entry_of, edit_of, edits_of, IsAmong, sum_of, join, greatest_counter, high_of, high_among}
+
+high_among-append : (xs ys : List Edit) → high_among (xs ++ ys) ≡ max (high_among xs) (high_among ys)
+high_among-append [] ys = omega arith
+high_among-append (x ∷ xs) ys = omega (arith, high_among-append xs ys)
+
+-- what is held has the greatest counter of the entries as edits
+pub high_among-edits_of : (s : EntryMap) → high_among (edits_of s) ≡ high_of s
+high_among-edits_of s = by (finmap.entries s)
+  where
+    by : (ps : List (PathParts × Entry)) → high_among (map edit_of ps) ≡ greatest_counter ps
+    by [] = refl
+    by (p ∷ ps) = ap (max p.1.version.counter) (by ps)
+
+-- no edit has a greater counter
+pub counter_among : (e : Edit) (es : List Edit) → IsAmong e es → e.version.counter ≤ high_among es
+counter_among e [] h = absurd h
+counter_among e (f ∷ fs) (inl h) = let same : f.version.counter ≡ e.version.counter = ap (λ (g : Edit). g.version.counter) h in omega arith
+counter_among e (f ∷ fs) (inr h) = let rest = counter_among e fs h in omega arith
+
+-- and it is the least such bound
+pub high_among-least : (es : List Edit) (n : ℕ) → ((e : Edit) → IsAmong e es → e.version.counter ≤ n) → high_among es ≤ n
+high_among-least [] n h = omega arith
+high_among-least (e ∷ es) n h =
+    let here = h e (inl refl) in
+    let rest = high_among-least es n (λ f a. h f (inr a)) in
+    omega arith
+
+not_greater : (a b : ℕ) (r s : Ordering) → is_gt (ordering_then (ordering_then (nat_cmp a b) r) s) ≡ false → a ≤ b
+not_greater a b r s h = by (nat_cmp a b) refl h
+  where
+    by : (o : Ordering) → nat_cmp a b ≡ o → is_gt (ordering_then (ordering_then o r) s) ≡ false → a ≤ b
+    by Less e h = grind (arith, nat_tests)
+    by Equal e h = grind (arith, nat_tests)
+    by Greater e h = cc (h)
+
+-- an entry that is at most another has no greater counter
+pub counter_of_below : (x : Entry) (y : Entry) → IsBelow (Some x) (Some y) → x.version.counter ≤ y.version.counter
+counter_of_below x y h = not_greater _ _ _ _ h
+
+-- what is held at a path is one of the entries as edits
+pub edits_of-found : (s : EntryMap) (q : PathParts) (x : Entry) → finmap.get s q ≡ Some x → IsAmong (edit_of (q, x)) (edits_of s)
+edits_of-found s q x h = (sum_of-IsSum (edits_of s)).found q x (ap (λ (t : EntryMap). finmap.get t q) (sum_of-edits_of s) ∙ h)
+
+-- each entry that is held has at most the greatest counter
+pub high_of-above : (s : EntryMap) (q : PathParts) (x : Entry) → finmap.get s q ≡ Some x → x.version.counter ≤ high_of s
+high_of-above s q x h = subst (λ n. x.version.counter ≤ n) (high_among-edits_of s) (counter_among (edit_of (q, x)) (edits_of s) (edits_of-found s q x h))
+
+pub high_of-sum_of : (es : List Edit) → high_of (sum_of es) ≡ high_among es
+high_of-sum_of es =
+    let down : high_of (sum_of es) ≤ high_among es = subst (λ n. n ≤ high_among es) (high_among-edits_of (sum_of es)) (high_among-least (edits_of (sum_of es)) (high_among es) (λ e a. counter_among e es ((sum_of-IsSum es).found e.path (entry_of e) (get_from_edits_of e (sum_of es) a)))) in
+    let up : high_among es ≤ high_of (sum_of es) = high_among-least es (high_of (sum_of es)) (λ e a. held e (finmap.get (sum_of es) e.path) refl ((sum_of-IsSum es).above e a)) in
+    omega arith
+  where
+    held : (e : Edit) (y : Option Entry) → finmap.get (sum_of es) e.path ≡ y → IsBelow (Some (entry_of e)) y → e.version.counter ≤ high_of (sum_of es)
+    held e None g b = absurd b
+    held e (Some y) g b =
+        let low = counter_of_below (entry_of e) y b in
+        let high = high_of-above (sum_of es) e.path y g in
+        omega arith
+
+pub high_of-join : (s t : EntryMap) → high_of (join s t) ≡ max (high_of s) (high_of t)
+high_of-join s t = high_of-sum_of (edits_of s ++ edits_of t) ∙ high_among-append (edits_of s) (edits_of t) ∙ λ i. max (high_among-edits_of s i) (high_among-edits_of t i)

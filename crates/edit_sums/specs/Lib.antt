@@ -1,0 +1,9 @@
+pub mod Limits
+pub mod Contents
+pub mod ContentLaws
+pub mod Entries
+pub mod EntryLaws
+pub mod Sums
+pub mod GreatestLaws
+pub mod SumLaws
+pub mod CounterLaws

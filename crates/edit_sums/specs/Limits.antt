@@ -1,0 +1,15 @@
+-- Which bytes a file or a link may have.
+use Rattle.std.specs.Prelude.{ℕ, Bool, ◌&&◌, nat_lt, nat_le, List, length}
+use Rattle.std.specs.List.{list_all}
+
+-- the bytes of a file: at most 65,536
+abbrev pub is_file : List ℕ → Bool
+is_file bytes = nat_le (length bytes) 65536
+
+-- printable ASCII but the space
+abbrev pub is_graphic : ℕ → Bool
+is_graphic b = nat_le 33 b && nat_le b 126
+
+-- the target of a link: 1 to 4,095 such bytes
+abbrev pub is_target : List ℕ → Bool
+is_target bytes = nat_lt 0 (length bytes) && nat_le (length bytes) 4095 && list_all is_graphic bytes

@@ -1,0 +1,80 @@
+-- The laws of sums and joins.
+use Rattle.std.proofs.Common.{◌≡◌, true, false, cond, Some, None, List, [], ◌∷◌, ◌++◌, sym, ap, subst, ◌∙◌}
+use Rattle.std.specs.FinMap as finmap
+use Rattle.std.specs.Ordering.{eq_by_cmp}
+use Rattle.std.specs.FinMap.{same_map}
+use Rattle.load_path.specs.Paths.{PathParts, path_cmp}
+use Rattle.load_path.specs.PathLaws.{path_cmp_total, path_cmp-IsAntisymmetric}
+use Rattle.edit_sums.specs.declared.entries.Edit.{Edit}
+use Rattle.edit_sums.specs.Entries.{IsBelow, larger}
+use Rattle.edit_sums.specs.Sums.{EntryMap, entry_of, IsAmong, greatest_at, with_edit, sum_of, edits_of, join, IsStoreBelow, IsSum}
+use Rattle.edit_sums.specs.EntryLaws.{larger_assoc, larger_comm, larger_idem, larger-None, larger-left, larger-right, larger-least, below_antisym}
+use Rattle.edit_sums.specs.GreatestLaws.{get-with_edit, get-sum_of, get-join, greatest_at-append, greatest_at-edits_of, greatest_at-mono, greatest_at-above, greatest_at-found}
+
+-- stores that have the same at each path are the same
+pub same_store : (s t : EntryMap) → ((q : PathParts) → finmap.get s q ≡ finmap.get t q) → s ≡ t
+same_store s t is = same_map path_cmp_total path_cmp-IsAntisymmetric s t is
+
+pub sum_of-append : (xs ys : List Edit) → sum_of (xs ++ ys) ≡ join (sum_of xs) (sum_of ys)
+sum_of-append xs ys =
+    same_store _ _
+    (λ q. get-sum_of (xs ++ ys) q ∙ greatest_at-append q xs ys ∙
+    sym (get-join (sum_of xs) (sum_of ys) q ∙ ap (λ y. larger y (finmap.get (sum_of ys) q)) (get-sum_of xs q) ∙ ap (larger (greatest_at q xs)) (get-sum_of ys q)))
+
+-- a sum depends on which edits there are, and not on their order or number
+pub sum_of-same_edits : (xs ys : List Edit) → ((e : Edit) → IsAmong e xs → IsAmong e ys) → ((e : Edit) → IsAmong e ys → IsAmong e xs) → sum_of xs ≡ sum_of ys
+sum_of-same_edits xs ys there back =
+    same_store _ _
+    (λ q. get-sum_of xs q ∙ below_antisym _ _ (greatest_at-mono q xs ys there) (greatest_at-mono q ys xs back) ∙ sym (get-sum_of ys q))
+
+pub sum_of-edits_of : (s : EntryMap) → sum_of (edits_of s) ≡ s
+sum_of-edits_of s = same_store _ _ (λ q. get-sum_of (edits_of s) q ∙ greatest_at-edits_of q s)
+
+pub join_comm : (s t : EntryMap) → join s t ≡ join t s
+join_comm s t = same_store _ _ (λ q. get-join s t q ∙ larger_comm (finmap.get s q) (finmap.get t q) ∙ sym (get-join t s q))
+
+pub join_assoc : (s t u : EntryMap) → join (join s t) u ≡ join s (join t u)
+join_assoc s t u =
+    same_store _ _
+    (λ q. get-join (join s t) u q ∙ ap (λ y. larger y (finmap.get u q)) (get-join s t q) ∙ larger_assoc (finmap.get s q) (finmap.get t q) (finmap.get u q) ∙
+    sym (get-join s (join t u) q ∙ ap (larger (finmap.get s q)) (get-join t u q)))
+
+pub join_idem : (s : EntryMap) → join s s ≡ s
+join_idem s = same_store _ _ (λ q. get-join s s q ∙ larger_idem (finmap.get s q))
+
+pub join-left : (s t : EntryMap) → IsStoreBelow s (join s t)
+join-left s t q = subst (λ y. IsBelow (finmap.get s q) y) (sym (get-join s t q)) (larger-left (finmap.get s q) (finmap.get t q))
+
+pub join-right : (s t : EntryMap) → IsStoreBelow t (join s t)
+join-right s t q = subst (λ y. IsBelow (finmap.get t q) y) (sym (get-join s t q)) (larger-right (finmap.get s q) (finmap.get t q))
+
+pub join-least : (s t u : EntryMap) → IsStoreBelow s u → IsStoreBelow t u → IsStoreBelow (join s t) u
+join-least s t u h k q = subst (λ y. IsBelow y (finmap.get u q)) (sym (get-join s t q)) (larger-least (finmap.get s q) (finmap.get t q) (finmap.get u q) (h q) (k q))
+
+pub sum_of-IsSum : (es : List Edit) → IsSum es (sum_of es)
+sum_of-IsSum es = record {
+  above = λ e a. subst (λ y. IsBelow (Some (entry_of e)) y) (sym (get-sum_of es e.path)) (greatest_at-above e es a);
+  found = λ q x h. greatest_at-found q es x (sym (get-sum_of es q) ∙ h);
+}
+
+pub with_edit-join : (s : EntryMap) (e : Edit) → with_edit s e ≡ join s (sum_of (e ∷ []))
+with_edit-join s e =
+    same_store _ _
+    (λ q.
+    let one : finmap.get (sum_of (e ∷ [])) q ≡ cond (eq_by_cmp path_cmp q e.path) (Some (entry_of e)) None = get-sum_of (e ∷ []) q in
+    get-with_edit s e q ∙
+    elim (eq_by_cmp path_cmp q e.path) as (λ b. cond b (larger (Some (entry_of e)) (finmap.get s q)) (finmap.get s q) ≡ larger (finmap.get s q) (cond b (Some (entry_of e)) None)) [
+      | true ↦ larger_comm (Some (entry_of e)) (finmap.get s q)
+      | false ↦ sym (larger-None (finmap.get s q))
+    ] ∙
+    sym (get-join s (sum_of (e ∷ [])) q ∙ ap (larger (finmap.get s q)) one))
+
+pub sum_of-push : (xs : List Edit) (e : Edit) → sum_of (xs ++ e ∷ []) ≡ with_edit (sum_of xs) e
+sum_of-push xs e = sum_of-append xs (e ∷ []) ∙ sym (with_edit-join (sum_of xs) e)
+
+pub with_edit-of_join : (s t : EntryMap) (e : Edit) → with_edit (join s t) e ≡ join s (with_edit t e)
+with_edit-of_join s t e =
+    with_edit-join (join s t) e ∙ join_assoc s t (sum_of (e ∷ [])) ∙ ap (join s) (sym (with_edit-join t e))
+
+pub join-nothing : (s : EntryMap) → join s (sum_of []) ≡ s
+join-nothing s = same_store _ _ (λ q. get-join s (sum_of []) q ∙ ap (larger (finmap.get s q)) (get-sum_of [] q) ∙ larger-None (finmap.get s q))

@@ -1,0 +1,53 @@
+//! Entries and edits.
+ghost use Rattle.std.specs.Prelude.{◌≡◌, IfOk};
+
+use crate::contents::Content;
+use join_law::{Key, Version};
+use load_path::Path;
+use std::alloc::AllocError;
+
+/// What a store has at a path: a version and a content, ordered by version, then content. Of two
+/// entries at one path the greater one wins.
+#[derive(Debug, PartialEq, Eq, PartialOrd, Ord, Drop)]
+pub struct Entry {
+    /// The version of the edit that wrote it.
+    pub version: Version,
+    /// What was written.
+    pub content: Content,
+}
+
+impl Entry {
+    /// An equal entry. It fails for want of memory alone.
+    pub fn try_clone(&self) -> Result<Entry, AllocError>
+        ensures copy { IfOk result (λ copy. copy ≡ self.now) }
+    {
+        Ok(Entry {
+            version: self.version,
+            content: self.content.try_clone()?,
+        })
+    }
+}
+
+/// What a writer does at a path: under a version it writes a content there.
+#[derive(Debug, PartialEq, Eq, Drop)]
+pub struct Edit {
+    /// Where it writes.
+    pub path: Path,
+    /// The number of the edit.
+    pub version: Version,
+    /// What it writes.
+    pub content: Content,
+}
+
+impl Edit {
+    /// An equal edit. It fails for want of memory alone.
+    pub fn try_clone(&self) -> Result<Edit, AllocError>
+        ensures copy { IfOk result (λ copy. copy ≡ self.now) }
+    {
+        Ok(Edit {
+            path: self.path.try_clone()?,
+            version: self.version,
+            content: self.content.try_clone()?,
+        })
+    }
+}

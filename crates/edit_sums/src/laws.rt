@@ -1,0 +1,30 @@
+//! Laws of sums and joins, for all lists of edits and all stores.
+ghost use Rattle.std.specs.Prelude.{◌≡◌, List, max};
+ghost use Rattle.edit_sums.specs.declared.entries.Edit.{Edit};
+ghost use Rattle.edit_sums.specs.Sums.{EntryMap, IsSum, IsAmong, IsStoreBelow, sum_of, join, high_of, high_among};
+
+/// The sum of edits holds at each path the greatest of the edits there, and nothing else; it
+/// depends on which edits there are, and not on their order or number.
+pub fn sums_of_edits()
+    ensures sum { (es : List Edit) → IsSum es (sum_of es) }
+    ensures members { (xs ys : List Edit) → ((e : Edit) → IsAmong e xs → IsAmong e ys)
+        → ((e : Edit) → IsAmong e ys → IsAmong e xs) → sum_of xs ≡ sum_of ys }
+{}
+
+/// The join of two stores is their least upper bound. It is commutative, associative and
+/// idempotent.
+pub fn joins_of_stores()
+    ensures left { (s t : EntryMap) → IsStoreBelow s (join s t) }
+    ensures right { (s t : EntryMap) → IsStoreBelow t (join s t) }
+    ensures least { (s t u : EntryMap) → IsStoreBelow s u → IsStoreBelow t u → IsStoreBelow (join s t) u }
+    ensures commutative { (s t : EntryMap) → join s t ≡ join t s }
+    ensures associative { (s t u : EntryMap) → join (join s t) u ≡ join s (join t u) }
+    ensures idempotent { (s : EntryMap) → join s s ≡ s }
+{}
+
+/// The greatest counter of a sum is the greatest of its edits', and that of a join the greater of
+/// the two.
+pub fn counters_of_sums()
+    ensures sum { (es : List Edit) → high_of (sum_of es) ≡ high_among es }
+    ensures join { (s t : EntryMap) → high_of (join s t) ≡ max (high_of s) (high_of t) }
+{}

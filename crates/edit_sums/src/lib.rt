@@ -1,0 +1,13 @@
+//! Edits of unit files, the sum of a list of edits, and the laws of sums.
+//!
+//! What a store holds is the sum of the edits that it took: at each path the greatest of them.
+//! Sums are defined here from the list of edits, without any store.
+#![tactic(auto)]
+
+mod contents;
+mod entries;
+mod laws;
+
+pub use contents::{Content, ContentFault, FILE_LIMIT, FileBytes, LinkTarget, TARGET_LIMIT};
+pub use entries::{Edit, Entry};
+pub use laws::{counters_of_sums, joins_of_stores, sums_of_edits};
