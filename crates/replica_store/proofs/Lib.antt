@@ -1,0 +1,10 @@
+pub mod Heads
+pub mod Maps
+pub mod Rises
+pub mod Counts
+pub mod Turns
+pub mod Ends
+pub mod Kept
+pub mod SameLists
+pub mod Puts
+pub mod Spans

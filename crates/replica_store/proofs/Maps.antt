@@ -1,0 +1,43 @@
+-- Maps of sorted pairs.
+use Rattle.std.proofs.Common.{◌≡◌, length, true, false, Bool, List, [], ◌∷◌, ◌++◌, IsTrue, refl, sym, ap, subst, ◌∙◌}
+use Rattle.std.specs.Prelude.{T}
+use Rattle.std.specs.FinMap as finmap
+use Rattle.std.specs.FinMap.Entries.{find, put, is_sorted, below_all, is_sorted-put}
+use Rattle.load_path.specs.Paths.{PathParts, path_cmp}
+use Rattle.load_path.specs.PathLaws.{path_cmp_total}
+use Rattle.edit_sums.specs.declared.entries.Entry.{Entry}
+use Rattle.edit_sums.specs.Sums.{sum_of}
+use Rattle.sorted_pairs.specs.PlaceLaws.{both_second}
+use Rattle.replica_store.specs.Merges.{Pair, map_of}
+use Rattle.std.specs.FinMap.Entries.{is_sorted-where_key}
+use Rattle.std.proofs.Common.{filter}
+
+-- tests as facts
+
+to_T : (b : Bool) → IsTrue b → T b
+to_T b h = subst T (sym h) tt
+
+from_T : (b : Bool) → T b → IsTrue b
+from_T true t = refl
+from_T false t = absurd t
+
+pub get-map_of : (ps : List Pair) (q : PathParts) → IsTrue (is_sorted path_cmp ps) → finmap.get (map_of ps) q ≡ find path_cmp q ps
+get-map_of ps q s = finmap.get-from_sorted path_cmp ps q (to_T _ s)
+
+pub entries-map_of : (ps : List Pair) → IsTrue (is_sorted path_cmp ps) → finmap.entries (map_of ps) ≡ ps
+entries-map_of ps s = finmap.entries-from_sorted path_cmp ps (to_T _ s)
+
+pub put_sorted : (k : PathParts) (v : Entry) (es : List Pair) → IsTrue (is_sorted path_cmp es) → IsTrue (is_sorted path_cmp (put path_cmp k v es))
+put_sorted k v es s = from_T _ (is_sorted-put path_cmp path_cmp_total k v es (to_T _ s))
+
+pub nothing_is_empty : map_of [] ≡ sum_of []
+nothing_is_empty = finmap.empty_of_len _ (finmap.len-entries _ ∙ ap length (finmap.entries-from_sorted path_cmp [] tt))
+
+-- what stands behind is in order
+pub sorted_behind : (xs ys : List Pair) → IsTrue (is_sorted path_cmp (xs ++ ys)) → IsTrue (is_sorted path_cmp ys)
+sorted_behind [] ys s = s
+sorted_behind (x ∷ xs) ys s = sorted_behind xs ys (both_second (below_all path_cmp x.0 (xs ++ ys)) _ s)
+
+-- what is left out leaves the rest in order
+pub sorted_among : (p : PathParts → Bool) (es : List Pair) → IsTrue (is_sorted path_cmp es) → IsTrue (is_sorted path_cmp (filter (λ (e : Pair). p e.0) es))
+sorted_among p es s = from_T _ (is_sorted-where_key path_cmp p es (to_T _ s))

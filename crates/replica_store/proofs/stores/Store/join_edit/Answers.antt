@@ -1,0 +1,5 @@
+use Rattle.replica_store.proofs.Kept.{kept_edit}
+use Rattle.replica_store.proofs.stores.Store.join_edit.Goals as goal
+
+pub invariant_of-self-2 : goal.invariant_of-self-2
+invariant_of-self-2 c = rw c.max-self-inside.ensures (kept_edit _ _ _ c.args.edit c.self.invariant c.in_ok-join_one.ensures.sorted c.in_ok-join_one.ensures.ok)

@@ -1,0 +1,15 @@
+-- The paths of a folder.
+use Rattle.std.specs.Prelude.{ℕ, Bool, ◌==◌, ◌&&◌, List}
+use Rattle.std.specs.Str.{bytes_eq}
+use Rattle.std.specs.Ordering.{nat_cmp, ordering_then}
+use Rattle.std.specs.Cmp.Lexicographic.{slice_cmp}
+use Rattle.std.specs.declared.cmp.Ordering.{Ordering}
+use Rattle.load_path.specs.Paths.{PathParts}
+
+-- the path is in this folder of the directory of this rank; the empty folder has the paths of one component
+abbrev pub is_in : ℕ → List ℕ → PathParts → Bool
+is_in rank folder path = (path.rank == rank) && bytes_eq path.folder folder
+
+-- where the path stands in path order: before all paths of this folder, among them or behind them
+abbrev pub place_by : ℕ → List ℕ → PathParts → Ordering
+place_by rank folder path = ordering_then (nat_cmp path.rank rank) (slice_cmp nat_cmp path.folder folder)

@@ -1,0 +1,20 @@
+//! Replicated stores: what a node holds of the edits of a whole fleet.
+//!
+//! A store is a finite map from paths to entries. It is seen in contracts as that map, and is the
+//! sum of the edits that it took; stores are joined, and the join is their least upper bound
+//! (Shapiro, Preguica, Baquero, Zawirski, "Conflict-free Replicated Data Types", 2011).
+#![tactic(auto)]
+
+mod folders;
+mod merges;
+mod replicas;
+mod scans;
+mod stores;
+#[cfg(test)]
+mod tests;
+
+pub use edit_sums::{Content, ContentFault, Edit, Entry, FileBytes, LinkTarget};
+pub use join_law::{Rest, Version};
+pub use load_path::{Path, PathFault};
+pub use replicas::{EditFault, Replica};
+pub use stores::Store;
