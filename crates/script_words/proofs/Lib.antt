@@ -1,0 +1,4 @@
+pub mod CutLemmas
+pub mod NumberLemmas
+pub mod TextLemmas
+pub mod WordLemmas

@@ -1,0 +1,104 @@
+-- Steps of reading a text.
+use Rattle.std.proofs.Common.{◌≡◌, ◌<◌, ◌==◌, ◌⊎◌, inl, inr, ⊎_elim, ℕ, Bool, true, false, cond, List, [], ◌∷◌, ◌++◌, length, Some, None, refl, sym, ap, subst, ◌∙◌, append_assoc, arith}
+use Rattle.std.proofs.lemmas.Bool.{and_parts, ltb-true, eqb-true, eqb-false}
+use Rattle.std.proofs.lemmas.List.{append-nil}
+use Rattle.script_words.specs.Text.{IsSpelling, itself, line_feed, tab, backslash, two_digits, Spells, IsBadText, byte_read, escape_read, hex_read}
+use Rattle.script_words.specs.TextLaws.{same_read, none_read, spells_read, spells_none}
+
+by_test : {A : Type 0} (t : Bool) (x y z : A) → cond t x y ≡ z → ((t ≡ true) × (x ≡ z)) ⊎ ((t ≡ false) × (y ≡ z))
+by_test true x y z e = inl (refl, e)
+by_test false x y z e = inr (refl, e)
+
+-- the text, behind what stands before it, begins with a spelling of the byte, and the rest follows
+abbrev Begins : List ℕ → List ℕ → List ℕ → ℕ → Type 0
+Begins front text rest byte = (part : List ℕ) × (front ++ text ≡ part ++ rest) × IsSpelling part byte
+
+hex_begins : (text rest : List ℕ) (byte : ℕ) → hex_read text ≡ Some (byte, rest) → Begins (92 ∷ 120 ∷ []) text rest byte
+hex_begins [] rest byte read = absurd (none_read _ read)
+hex_begins (high ∷ []) rest byte read = absurd (none_read _ read)
+hex_begins (high ∷ low ∷ text) rest byte read = ⊎_elim
+    (λ t.
+    let digits = and_parts _ _ t.0 in
+    let same = same_read _ _ t.1 in (
+      92 ∷ 120 ∷ high ∷ low ∷ [],
+      ap (λ (p : ℕ × List ℕ). 92 ∷ 120 ∷ high ∷ low ∷ p.1) same,
+      two_digits high low refl (ltb-true _ _ digits.0) (ltb-true _ _ digits.1) (sym (ap (λ (p : ℕ × List ℕ). p.0) same)),
+    ))
+    (λ t. absurd (none_read _ t.1))
+    (by_test _ _ _ _ read)
+
+-- both are what one read gave
+abbrev AreReadAlike : ℕ × List ℕ → ℕ × List ℕ → Type 0
+AreReadAlike p q = Some p ≡ Some q
+
+-- a letter that names a byte
+letter_begins : (letter name byte code : ℕ) (text rest : List ℕ) → (letter == name) ≡ true → AreReadAlike (code, text) (byte, rest) → (92 ∷ letter ∷ text ≡ 92 ∷ name ∷ rest) × (byte ≡ code)
+letter_begins letter name byte code text rest is read =
+    let same = same_read (code, text) (byte, rest) read in (
+      ap (λ v. 92 ∷ v ∷ text) (eqb-true letter name is) ∙ ap (λ (p : ℕ × List ℕ). 92 ∷ name ∷ p.1) same,
+      sym (ap (λ (p : ℕ × List ℕ). p.0) same),
+    )
+
+escape_begins : (text rest : List ℕ) (byte : ℕ) → escape_read text ≡ Some (byte, rest) → Begins (92 ∷ []) text rest byte
+escape_begins [] rest byte read = absurd (none_read _ read)
+escape_begins (letter ∷ text) rest byte read = ⊎_elim
+    (λ t. let named = letter_begins letter 110 byte 10 text rest t.0 t.1 in (92 ∷ 110 ∷ [], named.0, line_feed refl named.1))
+    (λ t. ⊎_elim
+    (λ t. let named = letter_begins letter 116 byte 9 text rest t.0 t.1 in (92 ∷ 116 ∷ [], named.0, tab refl named.1))
+    (λ t. ⊎_elim
+    (λ t. let named = letter_begins letter 92 byte 92 text rest t.0 t.1 in (92 ∷ 92 ∷ [], named.0, backslash refl named.1))
+    (λ t. ⊎_elim
+    (λ t. let begins = hex_begins text rest byte t.1 in (begins.0, ap (λ v. 92 ∷ v ∷ text) (eqb-true letter 120 t.0) ∙ begins.1, begins.2))
+    (λ t. absurd (none_read _ t.1))
+    (by_test _ _ _ _ t.1))
+    (by_test _ _ _ _ t.1))
+    (by_test _ _ _ _ t.1))
+    (by_test _ _ _ _ read)
+
+byte_begins : (text rest : List ℕ) (byte : ℕ) → byte_read text ≡ Some (byte, rest) → Begins [] text rest byte
+byte_begins [] rest byte read = absurd (none_read _ read)
+byte_begins (b ∷ text) rest byte read = ⊎_elim
+    (λ t. let begins = escape_begins text rest byte t.1 in (begins.0, ap (λ v. v ∷ text) (eqb-true b 92 t.0) ∙ begins.1, begins.2))
+    (λ t.
+    let same = same_read (b, text) (byte, rest) t.1 in
+    let first : b ≡ byte = ap (λ (p : ℕ × List ℕ). p.0) same in (
+      b ∷ [],
+      ap (λ (p : ℕ × List ℕ). b ∷ p.1) same,
+      itself (ap (λ v. v ∷ []) first) (λ is. eqb-false b 92 t.0 (first ∙ is)),
+    ))
+    (by_test _ _ _ _ read)
+
+-- The text spells what is done and then what the rest spells, and nothing else.
+pub record IsReadTo (text done rest : List ℕ) : Type 0 where
+  pub joins : (bytes : List ℕ) → Spells rest bytes → Spells text (done ++ bytes)
+  pub parts : (bytes : List ℕ) → Spells text bytes → (later : List ℕ) × (bytes ≡ done ++ later) × Spells rest later
+
+pub read_none : (text : List ℕ) → IsReadTo text [] text
+read_none text = record { joins = λ bytes s. s; parts = λ bytes s. (bytes, refl, s) }
+
+pub read_more : (text done rest after : List ℕ) (byte : ℕ) → IsReadTo text done rest → byte_read rest ≡ Some (byte, after) → IsReadTo text (done ++ byte ∷ []) after
+unfolding Spells
+read_more text done rest after byte so_far read =
+    let begins = byte_begins rest after byte read in
+    record {
+      joins = λ bytes s. subst (λ v. Spells text v) (sym (append_assoc done (byte ∷ []) bytes)) (so_far.joins (byte ∷ bytes) (begins.0, after, begins.1, begins.2, s));
+      parts = λ bytes s.
+          let later = so_far.parts bytes s in
+          let cut = spells_read rest after later.0 byte read later.2 in
+          (cut.0, later.1 ∙ ap (λ v. done ++ v) cut.1 ∙ sym (append_assoc done (byte ∷ []) cut.0), cut.2);
+    }
+
+pub read_all : (text done rest : List ℕ) → IsReadTo text done rest → rest ≡ [] → Spells text done
+unfolding Spells
+read_all text done rest so_far end = subst (λ v. Spells text v) (append-nil done) (so_far.joins [] end)
+
+pub read_bad : (text done rest : List ℕ) → IsReadTo text done rest → 0 < length rest → byte_read rest ≡ None → IsBadText text
+unfolding Spells
+read_bad text done rest so_far some read = λ bytes s. bad (so_far.parts bytes s).0 (so_far.parts bytes s).2
+  where
+    empty : Spells rest [] → ⊥
+    empty end = omega (arith, ap length end)
+
+    bad : (later : List ℕ) → Spells rest later → ⊥
+    bad [] s = empty s
+    bad (b ∷ later) s = spells_none rest b later read s

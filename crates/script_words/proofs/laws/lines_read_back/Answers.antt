@@ -1,0 +1,12 @@
+use Rattle.std.proofs.lemmas.List.Elements.{recursion_from_All}
+use Rattle.script_words.specs.Lines.{IsPlainLine, HasNoLineFeed}
+use Rattle.script_words.specs.LinesLaws.{lines_of-nil, lines_of-line_feeds, lines_of-returns, lines_of-last}
+use Rattle.script_words.proofs.laws.lines_read_back.Goals as goal
+
+pub returns : goal.returns
+returns c = record {
+  nothing = lines_of-nil;
+  line_feeds = λ lines rest plain. lines_of-line_feeds lines rest (recursion_from_All IsPlainLine lines plain);
+  returns = λ lines rest none. lines_of-returns lines rest (recursion_from_All HasNoLineFeed lines none);
+  last = lines_of-last;
+}

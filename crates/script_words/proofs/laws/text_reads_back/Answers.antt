@@ -1,0 +1,11 @@
+use Rattle.std.proofs.Common.{◌≢◌}
+use Rattle.std.proofs.lemmas.List.Elements.{recursion_from_All}
+use Rattle.script_words.specs.TextLaws.{spells_one, spells_plain, spells_doubled}
+use Rattle.script_words.proofs.laws.text_reads_back.Goals as goal
+
+pub returns : goal.returns
+returns c = record {
+  one = spells_one;
+  plain = λ bytes plain. spells_plain bytes (recursion_from_All (λ b. b ≢ 92) bytes plain);
+  doubled = spells_doubled;
+}

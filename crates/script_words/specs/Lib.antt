@@ -1,0 +1,9 @@
+pub mod Lines
+pub mod LinesLaws
+pub mod Names
+pub mod Numbers
+pub mod NumbersLaws
+pub mod Text
+pub mod TextLaws
+pub mod Words
+pub mod WordsLaws

@@ -1,0 +1,39 @@
+-- The words of a line, and the text that follows some of them.
+use Rattle.std.specs.Prelude.{◌≢◌, ℕ, zero, suc, ◌<◌, ◌==◌, nat_lt, Bool, List, [], ◌∷◌, ◌++◌, length, drop, filter, All}
+use Rattle.std.specs.List.{flat_map, slice_split, prefix_len, position_or_len}
+
+-- The space alone separates words: a tab or a carriage return is a part of a word.
+abbrev pub is_space : ℕ → Bool
+is_space b = b == 32
+
+abbrev pub has_bytes : List ℕ → Bool
+has_bytes part = nat_lt 0 (length part)
+
+-- The words of a line: what stands between its spaces, where that isn't nothing.
+unfoldable pub words_of : List ℕ → List (List ℕ)
+words_of line = filter has_bytes (slice_split is_space line)
+
+-- a line without the spaces at its front
+abbrev pub skip_spaces : List ℕ → List ℕ
+skip_spaces line = drop (prefix_len is_space line) line
+
+-- a line from its first space on
+abbrev pub skip_word : List ℕ → List ℕ
+skip_word line = drop (position_or_len is_space line) line
+
+-- What follows the first word of a line, with the space that ends the word.
+unfoldable pub after_word : List ℕ → List ℕ
+after_word line = skip_word (skip_spaces line)
+
+-- What follows the first n words of a line and exactly one space, or nothing.
+abbrev pub text_after : ℕ → List ℕ → List ℕ
+text_after zero line = drop 1 line
+text_after (suc n) line = text_after n (after_word line)
+
+-- a word as it may stand in a line: it isn't empty and has no space
+abbrev pub IsWord : List ℕ → Type 0
+IsWord word = (0 < length word) × All (λ b. b ≢ 32) word
+
+-- words, each with a space behind it
+abbrev pub spaced : List (List ℕ) → List ℕ
+spaced words = flat_map (λ word. word ++ 32 ∷ []) words

@@ -1,0 +1,50 @@
+//! Laws that say, by how a script is put together, which lines, words and bytes are read out of it.
+ghost use Rattle.std.specs.Prelude.{◌≡◌, ◌<◌, ◌≤◌, ◌+◌, ◌^◌, ℕ, replicate, List, [], ◌∷◌, ◌++◌, length, All};
+ghost use Rattle.std.specs.Fmt.{decimal};
+ghost use Rattle.std.specs.List.{flat_map};
+ghost use Rattle.script_words.specs.Lines.{lines_of, HasNoLineFeed, IsPlainLine};
+ghost use Rattle.script_words.specs.Words.{words_of, text_after, spaced, IsWord};
+ghost use Rattle.script_words.specs.Numbers.{number_of};
+ghost use Rattle.script_words.specs.Text.{Spells, HasNoBackslash, with_doubled};
+
+/// Lines with their endings behind them are the first lines of that script.
+pub fn lines_read_back()
+    ensures nothing { lines_of [] ≡ [] }
+
+    // Behind each line stands a line feed.
+    ensures line_feeds { (lines : List (List ℕ)) (rest : List ℕ) → All IsPlainLine lines
+        → lines_of (flat_map (λ line. line ++ 10 ∷ []) lines ++ rest) ≡ lines ++ lines_of rest }
+
+    // Behind each line stand a carriage return and a line feed: a further carriage return belongs to the line.
+    ensures returns { (lines : List (List ℕ)) (rest : List ℕ) → All HasNoLineFeed lines
+        → lines_of (flat_map (λ line. line ++ 13 ∷ 10 ∷ []) lines ++ rest) ≡ lines ++ lines_of rest }
+
+    // The last line needs no ending, and a carriage return at its end belongs to it.
+    ensures last { (line : List ℕ) → 0 < length line → HasNoLineFeed line → lines_of line ≡ line ∷ [] }
+{}
+
+/// Words with a space behind each are the first words of that line, and what follows is the text behind them.
+pub fn words_read_back()
+    ensures nothing { words_of [] ≡ [] }
+    ensures spaces { (line : List ℕ) → words_of (32 ∷ line) ≡ words_of line }
+    ensures words { (words : List (List ℕ)) (line : List ℕ) → All IsWord words
+        → words_of (spaced words ++ line) ≡ words ++ words_of line }
+    ensures last { (word : List ℕ) → IsWord word → words_of word ≡ word ∷ [] }
+    ensures text { (words : List (List ℕ)) (text : List ℕ) → 0 < length words → All IsWord words
+        → text_after (length words) (spaced words ++ text) ≡ text }
+    ensures no_text { (words : List (List ℕ)) (word : List ℕ) → All IsWord words → IsWord word
+        → text_after (length words + 1) (spaced words ++ word) ≡ [] }
+{}
+
+/// Numbers that are written in decimal are read back, also with zeros in front, up to 10 digits.
+pub fn numbers_read_back()
+    ensures decimal { (n zeros : ℕ) → n < 2 ^ 32 → zeros + length (decimal n) ≤ 10
+        → number_of (replicate zeros 48 ++ decimal n) ≡ Some n }
+{}
+
+/// A text spells one list of bytes at most, and any bytes are spelled by a text.
+pub fn text_reads_back()
+    ensures one { (text first second : List ℕ) → Spells text first → Spells text second → first ≡ second }
+    ensures plain { (bytes : List ℕ) → HasNoBackslash bytes → Spells bytes bytes }
+    ensures doubled { (bytes : List ℕ) → Spells (with_doubled bytes) bytes }
+{}

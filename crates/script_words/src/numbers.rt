@@ -1,0 +1,39 @@
+//! The numbers that words spell.
+ghost use Rattle.std.specs.Prelude.{◌≡◌, ◌≤◌, true, length};
+ghost use Rattle.std.specs.Char.{is_ascii_digit};
+ghost use Rattle.std.specs.List.{list_all};
+ghost use Rattle.std.specs.Str.Parse.{digits_value};
+ghost use Rattle.script_words.specs.Numbers.{number_of};
+
+/// The most digits of a number, zeros in front among them.
+const MOST_DIGITS: usize = 10;
+
+/// The number that a word spells: 1 to 10 decimal digits, at most 4,294,967,295. `None` where it spells none.
+#[tactic(auto, unfolding(crate::specs::Numbers::number_of))]
+pub fn parse_number(word: &[u8]) -> Option<u32>
+    ensures value { result ≡ number_of word.now }
+{
+    if word.is_empty() || word.len() > MOST_DIGITS || !all_digits(word) {
+        return None;
+    }
+    u32::try_from(value_of(word)).ok()
+}
+
+fn all_digits(word: &[u8]) -> bool
+    ensures value { result ≡ list_all is_ascii_digit word.now }
+{
+    word.iter().all(|b| b.is_ascii_digit())
+}
+
+/// The value of digits.
+fn value_of(digits: &[u8]) -> u64
+    requires few { length digits.now ≤ MOST_DIGITS }
+    requires digits { list_all is_ascii_digit digits.now ≡ true }
+    ensures value { result ≡ digits_value 10 digits.now }
+{
+    let mut value = 0;
+    for b in digits {
+        value = value * 10 + u64::from(*b - b'0');
+    }
+    value
+}

@@ -1,0 +1,81 @@
+//! Text with escapes.
+ghost use Rattle.std.specs.Prelude.{◌≡◌, ◌<◌, MatchOption, IfOk, IfSome, SomeIff, length};
+ghost use Rattle.std.specs.Char.{digit_value};
+ghost use Rattle.script_words.specs.Text.{Spells, IsBadText, byte_read, escape_read, hex_read};
+
+use std::alloc::{AllocError, Global};
+
+/// The bytes that a text spells, or `None` where a backslash in it begins no escape.
+///
+/// The escapes are `\n`, `\t`, `\\` and `\xHH`, with hexadecimal digits of either case; every other byte spells
+/// itself. It allocates once, as many bytes as the text has, and fails only where that is refused.
+pub fn unescape(alloc: Global, text: &[u8]) -> Result<Option<Vec<u8>>, AllocError>
+    ensures bytes { IfOk result
+        (λ found. MatchOption found (IsBadText text.now) (λ bytes. Spells text.now bytes.items)) }
+{
+    let mut bytes = Vec::with_capacity(alloc, text.len())?;
+    let mut rest = text;
+    while !rest.is_empty() {
+        let Some((byte, after)) = read_byte(rest) else {
+            return Ok(None);
+        };
+        bytes.push(byte)?;
+        rest = after;
+    }
+    Ok(Some(bytes))
+}
+
+/// The first byte that a text spells, and what follows its spelling.
+fn read_byte(text: &[u8]) -> Option<(u8, &[u8])>
+    ensures value { MatchOption result (byte_read text.now ≡ None)
+        (λ read. byte_read text.now ≡ Some (read.0, read.1.now)) }
+    ensures shorter { IfSome result (λ read. length read.1.now < length text.now) }
+{
+    let (first, rest) = text.split_first()?;
+    if *first == b'\\' {
+        read_escape(rest)
+    } else {
+        Some((*first, rest))
+    }
+}
+
+/// The byte that what follows a backslash names, and what follows that.
+fn read_escape(text: &[u8]) -> Option<(u8, &[u8])>
+    ensures value { MatchOption result (escape_read text.now ≡ None)
+        (λ read. escape_read text.now ≡ Some (read.0, read.1.now)) }
+    ensures shorter { IfSome result (λ read. length read.1.now < length text.now) }
+{
+    let (letter, rest) = text.split_first()?;
+    match *letter {
+        b'n' => Some((b'\n', rest)),
+        b't' => Some((b'\t', rest)),
+        b'\\' => Some((b'\\', rest)),
+        b'x' => read_hex(rest),
+        _ => None,
+    }
+}
+
+/// The byte that two hexadecimal digits name, and what follows them.
+fn read_hex(text: &[u8]) -> Option<(u8, &[u8])>
+    ensures value { MatchOption result (hex_read text.now ≡ None)
+        (λ read. hex_read text.now ≡ Some (read.0, read.1.now)) }
+    ensures shorter { IfSome result (λ read. length read.1.now < length text.now) }
+{
+    let (high, rest) = text.split_first()?;
+    let (low, rest) = rest.split_first()?;
+    let high = hex_digit(*high)?;
+    let low = hex_digit(*low)?;
+    Some((16 * high + low, rest))
+}
+
+/// The value of a hexadecimal digit of either case.
+fn hex_digit(b: u8) -> Option<u8>
+    ensures value { SomeIff result (digit_value b < 16) (digit_value b) }
+{
+    match b {
+        b'0'..=b'9' => Some(b - b'0'),
+        b'A'..=b'F' => Some(b - b'A' + 10),
+        b'a'..=b'f' => Some(b - b'a' + 10),
+        _ => None,
+    }
+}

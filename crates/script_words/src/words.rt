@@ -1,0 +1,53 @@
+//! The words of a line.
+ghost use Rattle.std.specs.Prelude.{◌≡◌, [], ◌∷◌, ◌<◌, ◌≤◌, length, MatchOption, IfSome};
+ghost use Rattle.std.specs.List.{prefix_len, position_or_len};
+ghost use Rattle.script_words.specs.Words.{words_of, after_word, text_after, is_space, skip_spaces};
+
+/// How many spaces a line begins with.
+fn count_spaces(line: &[u8]) -> usize
+    ensures count { result ≡ prefix_len is_space line.now }
+    ensures within { result ≤ length line.now }
+{
+    line.iter().take_while(|b| **b == b' ').count()
+}
+
+/// A line without the spaces at its front.
+fn without_spaces(line: &[u8]) -> &[u8]
+    ensures line { result.now ≡ skip_spaces line.now }
+{
+    &line[count_spaces(line)..]
+}
+
+/// How many bytes of a line stand before its first space.
+fn count_to_space(line: &[u8]) -> usize
+    ensures count { result ≡ position_or_len is_space line.now }
+    ensures within { result ≤ length line.now }
+{
+    line.iter().take_while(|b| **b != b' ').count()
+}
+
+/// Cuts a line behind its first word: the word, and what follows it. `None` where the line has no words.
+///
+/// Spaces alone separate words, and spaces before the first word are passed over. What follows the word begins
+/// with a space, if it isn't empty.
+pub fn cut_word(line: &[u8]) -> Option<(&[u8], &[u8])>
+    ensures words { MatchOption result (words_of line.now ≡ [])
+        (λ cut. words_of line.now ≡ cut.0.now ∷ words_of cut.1.now) }
+    ensures rest { IfSome result (λ cut. cut.1.now ≡ after_word line.now) }
+    ensures shorter { IfSome result (λ cut. length cut.1.now < length line.now) }
+{
+    let body = without_spaces(line);
+    if body.is_empty() {
+        return None;
+    }
+    Some(body.split_at(count_to_space(body)))
+}
+
+/// The text that follows a word, of what `cut_word` left behind that word: all but one space.
+///
+/// Further spaces belong to the text, at its front and at its end.
+pub fn text_of_rest(rest: &[u8]) -> &[u8]
+    ensures text { result.now ≡ text_after 0 rest.now }
+{
+    rest.get(1..).unwrap_or(&[])
+}
