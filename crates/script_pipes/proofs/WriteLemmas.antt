@@ -1,0 +1,28 @@
+-- Steps of writing all of some bytes.
+use Rattle.std.proofs.Common.{◌≡◌, ℕ, List, ◌++◌, take, drop, Option, sym, ap, subst, ◌∙◌, append_assoc}
+use Rattle.std.specs.Io.KnownBytes.{Appends, Keeps}
+use Rattle.std.proofs.lemmas.List.{take-append-drop}
+use Rattle.script_pipes.specs.KnownBytes.{AppendsFront}
+use Rattle.script_pipes.specs.KnownBytesLaws.{Appends-append, AppendsFront-keeps}
+
+-- Some of the bytes were written, none was refused, and the rest is left.
+pub record IsWrittenTo (old now : Option (List ℕ)) (refused_before refused : ℕ) (bytes rest : List ℕ) : Type 0 where
+  pub done : List ℕ
+  pub parts : bytes ≡ done ++ rest
+  pub appends : Appends old now done
+  pub unrefused : refused ≡ refused_before
+
+-- a write took the first n bytes of the rest
+pub write_more : (old now next : Option (List ℕ)) (refused_before refused refused_next : ℕ) (bytes rest : List ℕ) (n : ℕ) → IsWrittenTo old now refused_before refused bytes rest
+    → Appends now next (take n rest) → refused_next ≡ refused → IsWrittenTo old next refused_before refused_next bytes (drop n rest)
+write_more old now next refused_before refused refused_next bytes rest n so_far took same = record {
+  done = so_far.done ++ take n rest;
+  parts = so_far.parts ∙ ap (λ v. so_far.done ++ v) (sym (take-append-drop n rest)) ∙ sym (append_assoc so_far.done (take n rest) (drop n rest));
+  appends = Appends-append old now next so_far.done (take n rest) so_far.appends took;
+  unrefused = same ∙ so_far.unrefused;
+}
+
+-- a write was refused
+pub write_stops : (old now next : Option (List ℕ)) (refused_before refused : ℕ) (bytes rest : List ℕ) → IsWrittenTo old now refused_before refused bytes rest → Keeps now next → AppendsFront old next bytes
+write_stops old now next refused_before refused bytes rest so_far kept =
+    subst (λ v. AppendsFront old next v) (sym so_far.parts) (AppendsFront-keeps old now next so_far.done rest so_far.appends kept)

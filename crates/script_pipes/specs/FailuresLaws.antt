@@ -1,0 +1,27 @@
+-- Counts of failures over several calls.
+use Rattle.std.proofs.Common.{◌≤◌, ◌+◌, ℕ, true, ⊎_elim, arith}
+use Rattle.std.proofs.lemmas.Bool.{cases_lt}
+use Rattle.std.proofs.lemmas.Bool.Decides.{nat_tests}
+use Rattle.script_pipes.specs.Failures.{FailedSince, count_with}
+
+-- a count never goes down
+pub count_with-le : (count : ℕ) → count ≤ count_with true count
+count_with-le count = grind (arith, nat_tests)
+
+pub count_with-le_succ : (count : ℕ) → count_with true count ≤ count + 1
+count_with-le_succ count = grind (arith, nat_tests)
+
+-- one more call failed
+pub FailedSince-count_with : (count : ℕ) → FailedSince count (count_with true count)
+FailedSince-count_with count = λ low. grind (arith, nat_tests)
+
+-- what failed after a later moment failed after an earlier one
+pub FailedSince-before : (old mid new : ℕ) → old ≤ mid → mid ≤ new → FailedSince mid new → FailedSince old new
+FailedSince-before old mid new earlier later failed = λ low. ⊎_elim
+    (λ below. omega (arith, failed below))
+    (λ stopped. omega arith)
+    (cases_lt mid 18446744073709551615)
+
+-- what failed up to a moment failed up to a later one
+pub FailedSince-then : (old mid new : ℕ) → FailedSince old mid → mid ≤ new → FailedSince old new
+FailedSince-then old mid new failed later = λ low. omega (arith, failed low)

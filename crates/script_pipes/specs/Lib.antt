@@ -1,0 +1,5 @@
+pub mod Failures
+pub mod FailuresLaws
+pub mod KnownBytes
+pub mod KnownBytesLaws
+pub mod Watch

@@ -1,0 +1,16 @@
+//! A script that is read to its end within limits, and answers that are written, with their faults.
+//!
+//! The readers and writers of std don't say in their contracts whether a call failed. Here a source and a sink
+//! count that, so a fault in a result can't be made up: it comes only where a call failed or a limit was passed.
+#![tactic(auto)]
+
+mod reading;
+mod watching;
+mod writing;
+
+pub use reading::{MAX_READS, MAX_SCRIPT_BYTES, ReadFault, Source, read_all};
+pub use watching::Watched;
+pub use writing::{Sink, WriteFault, write_all};
+
+#[cfg(test)]
+mod tests;

@@ -1,0 +1,61 @@
+//! Sinks, and bytes that are written to one.
+ghost use Rattle.std.specs.Prelude.{◌≡◌, ◌<◌, ◌≤◌, ℕ, true, List, length, take, Option, OnOk, OnErr, IfOk};
+ghost use Rattle.std.specs.Io.{WritesAtMost};
+ghost use Rattle.std.specs.Io.KnownBytes.{Appends, Keeps, WriteAppends};
+ghost use Rattle.script_pipes.specs.Failures.{FailedSince, count_with, is_refusal};
+ghost use Rattle.script_pipes.specs.KnownBytes.{AppendsFront};
+
+use std::io;
+use thiserror::Error;
+
+/// What answers are written to: a writer that counts its refusals.
+pub trait Sink {
+    // The bytes that it holds, where they are known.
+    ghost contents: { Self → Option (List ℕ) };
+
+    // How many writes failed or took no byte so far.
+    ghost refusals: { Self → ℕ };
+
+    /// Writes a front of `buf`, as std's `write` does.
+    fn write(&mut self, buf: &[u8]) -> io::Result<usize>
+        ensures bound { WritesAtMost result buf.now }
+        ensures bytes { WriteAppends (contents self.old) (contents self.new) result buf.now }
+        ensures counted { refusals self.new ≡ count_with (is_refusal result) (refusals self.old) };
+}
+
+/// A write failed or took no byte.
+#[derive(Clone, Copy, Debug, PartialEq, Eq, Error)]
+#[error("a write failed or took no byte")]
+pub struct WriteFault;
+
+/// Writes all of the bytes. After a fault the sink has taken a front of them, and the rest isn't tried.
+///
+/// A write that was interrupted is a fault too: unlike reads, writes have no limit within which to try again.
+pub fn write_all<K: Sink>(sink: &mut K, bytes: &[u8]) -> Result<(), WriteFault>
+    ensures ok { OnOk result (Appends (K.contents sink.old) (K.contents sink.new) bytes.now) }
+    ensures unrefused { OnOk result (K.refusals sink.new ≡ K.refusals sink.old) }
+    ensures front { OnErr result (AppendsFront (K.contents sink.old) (K.contents sink.new) bytes.now) }
+    ensures refused { OnErr result (FailedSince (K.refusals sink.old) (K.refusals sink.new)) }
+{
+    let mut rest = bytes;
+    while !rest.is_empty() {
+        let taken = write_some(sink, rest)?;
+        rest = &rest[taken..];
+    }
+    Ok(())
+}
+
+/// Writes a front of the bytes that isn't empty, and answers its length.
+fn write_some<K: Sink>(sink: &mut K, bytes: &[u8]) -> Result<usize, WriteFault>
+    ensures some { IfOk result (λ n. 0 < n) }
+    ensures within { IfOk result (λ n. n ≤ length bytes.now) }
+    ensures ok { IfOk result (λ n. Appends (K.contents sink.old) (K.contents sink.new) (take n bytes.now)) }
+    ensures unrefused { OnOk result (K.refusals sink.new ≡ K.refusals sink.old) }
+    ensures err { OnErr result (Keeps (K.contents sink.old) (K.contents sink.new)) }
+    ensures refused { OnErr result (K.refusals sink.new ≡ count_with true (K.refusals sink.old)) }
+{
+    match sink.write(bytes) {
+        Ok(0) | Err(_) => Err(WriteFault),
+        Ok(n) => Ok(n),
+    }
+}
