@@ -1,0 +1,118 @@
+-- A script has one list of answers.
+use Rattle.std.proofs.Common.{◌≡◌, ◌⊎◌, inl, inr, ℕ, ◌==◌, Bool, true, false, List, [], ◌∷◌, ◌++◌, length, nat_lt, Option, Some, None, Result, Ok, Err, codes, sym, ap, subst, ◌∙◌}
+use Rattle.std.specs.Prelude.{MatchOption, MatchResult}
+use Rattle.std.specs.Bool.{MatchBool}
+use Rattle.load_path.specs.Paths.{PathParts, path_of}
+use Rattle.load_path.specs.declared.paths.PathFault.{PathFault}
+use Rattle.load_path.specs.declared.paths.PathFault.TheVariants as path
+use Rattle.edit_sums.specs.declared.contents.Content.{Content}
+use Rattle.edit_sums.specs.declared.contents.Content.TheVariants.{Gone, File}
+use Rattle.edit_sums.specs.Limits.{is_file}
+use Rattle.edit_sums.specs.Sums.{high_of, visible_at, changed_paths}
+use Rattle.script_words.specs.Lines.{lines_of, is_passed_over}
+use Rattle.script_words.specs.TextLaws.{spells_one}
+use Rattle.fleet_script.specs.declared.commands.Command.{Command}
+use Rattle.fleet_script.specs.declared.commands.Command.TheVariants.{Node, Put, Remove, Merge, Files, Same}
+use Rattle.fleet_script.specs.declared.commands.Refusal.{Refusal}
+use Rattle.fleet_script.specs.declared.commands.Refusal.TheVariants.{LineTooLong, UnknownNode, BadText, NodeTaken, WriterTaken, Directory, Depth, Component, FileTooLarge, VersionsSpent, Nothing}
+use Rattle.fleet_script.specs.Commands.{command_of}
+use Rattle.fleet_script.specs.Does.{Does, Gives, Refuses, AtNode, AtPath, RefusesPath, WithText, WithFile, Writes}
+use Rattle.fleet_script.specs.Scripts.{Run, AnswersLine, AnswersCommand, Answers, Says}
+use Rattle.fleet_script.specs.Texts.{Outcome, ok_line, changed_line, files_text, error_line, outcome_text}
+use Rattle.fleet_script.specs.Worlds.{World, blank, put, merge, held, happened, with_node, node_named, has_writer, next_edit}
+
+-- two outcomes, and two worlds after them, are the same
+abbrev IsSame : Outcome → World → Outcome → World → Type 0
+IsSame a x b y = (a ≡ b) × (x ≡ y)
+
+bool_both : (t : Bool) (P Q R S C : Type 0) → MatchBool t P Q → MatchBool t R S → (P → R → C) → (Q → S → C) → C
+bool_both true P Q R S C p r f g = f p r
+bool_both false P Q R S C q s f g = g q s
+
+option_both : {X : Type 0} (o : Option X) (P R : Type 0) (Q S : X → Type 0) (C : Type 0) → MatchOption o P Q → MatchOption o R S → (P → R → C) → ((v : X) → Q v → S v → C) → C
+option_both None P R Q S C p r f g = f p r
+option_both (Some v) P R Q S C q s f g = g v q s
+
+result_both : {X E : Type 0} (o : Result X E) (P R : X → Type 0) (Q S : E → Type 0) (C : Type 0) → MatchResult o P Q → MatchResult o R S → ((v : X) → P v → R v → C) → ((e : E) → Q e → S e → C) → C
+result_both (Ok v) P R Q S C p r f g = f v p r
+result_both (Err e) P R Q S C q s f g = g e q s
+
+module _ (old : World) (a b : Outcome) (x y : World) where
+  gives_same : (words : List ℕ) (world : World) → Gives words world a x → Gives words world b y → IsSame a x b y
+  gives_same words world p q = (p.outcome_is ∙ sym q.outcome_is, p.world_is ∙ sym q.world_is)
+
+  refuses_same : (refusal : Refusal) → Refuses old refusal a x → Refuses old refusal b y → IsSame a x b y
+  refuses_same refusal p q = (p.outcome_is ∙ sym q.outcome_is, p.world_is ∙ sym q.world_is)
+
+  node_same : (name : List ℕ) (P Q : ℕ → Type 0) → AtNode old a x name P → AtNode old b y name Q → ((k : ℕ) → P k → Q k → IsSame a x b y) → IsSame a x b y
+  node_same name P Q p q f = option_both (node_named old.nodes name) _ _ P Q (IsSame a x b y) p q (refuses_same UnknownNode) f
+
+  path_same : (text : List ℕ) (P Q : PathParts → Type 0) → AtPath old a x text P → AtPath old b y text Q → ((at : PathParts) → P at → Q at → IsSame a x b y) → IsSame a x b y
+  path_same text P Q p q f = result_both (path_of text) P Q (RefusesPath old a x) (RefusesPath old b y) (IsSame a x b y) p q f refused
+    where
+      refused : (fault : PathFault) → RefusesPath old a x fault → RefusesPath old b y fault → IsSame a x b y
+      refused path.Directory p q = refuses_same Directory p q
+      refused path.Depth p q = refuses_same Depth p q
+      refused path.Component p q = refuses_same Component p q
+      refused path.Memory p q = absurd p
+
+  text_same : (text : List ℕ) (P Q : List ℕ → Type 0) → WithText old a x text P → WithText old b y text Q → ((bytes : List ℕ) → P bytes → Q bytes → IsSame a x b y) → IsSame a x b y
+  text_same text P Q (inl p) (inl q) f = f q.0 (subst P (spells_one text p.0 q.0 p.1 q.1) p.2) q.2
+  text_same text P Q (inl p) (inr q) f = absurd (q.0 p.0 p.1)
+  text_same text P Q (inr p) (inl q) f = absurd (p.0 q.0 q.1)
+  text_same text P Q (inr p) (inr q) f = refuses_same BadText p.1 q.1
+
+  writes_same : (k : ℕ) (at : PathParts) (content : Content) → Writes old a x k at content → Writes old b y k at content → IsSame a x b y
+  writes_same k at content p q =
+      let edit = next_edit old k at content in
+      bool_both (high_of (held old k) == 18446744073709551615) _ _ _ _ (IsSame a x b y) p q (refuses_same VersionsSpent) (gives_same (ok_line edit.version) (happened old (put k edit)))
+
+  file_same : (k : ℕ) (at : PathParts) (bytes : List ℕ) → WithFile old a x bytes (Writes old a x k at) → WithFile old b y bytes (Writes old b y k at) → IsSame a x b y
+  file_same k at bytes p q = bool_both (is_file bytes) _ _ _ _ (IsSame a x b y) p q (writes_same k at (File bytes)) (refuses_same FileTooLarge)
+
+  compared_same : (j k : ℕ) → (((held old j ≡ held old k) × Gives (codes "same\n") old a x) ⊎ ((held old j ≡ held old k → ⊥) × Gives (codes "differ\n") old a x))
+      → (((held old j ≡ held old k) × Gives (codes "same\n") old b y) ⊎ ((held old j ≡ held old k → ⊥) × Gives (codes "differ\n") old b y)) → IsSame a x b y
+  compared_same j k (inl p) (inl q) = gives_same (codes "same\n") old p.1 q.1
+  compared_same j k (inl p) (inr q) = absurd (q.0 p.0)
+  compared_same j k (inr p) (inl q) = absurd (p.0 q.0)
+  compared_same j k (inr p) (inr q) = gives_same (codes "differ\n") old p.1 q.1
+
+  does_same : (command : Command) → Does old command a x → Does old command b y → IsSame a x b y
+  does_same (Node name writer) p q =
+      option_both (node_named old.nodes name) _ _ _ _ (IsSame a x b y) p q
+      (λ p q. bool_both (has_writer old.nodes writer) _ _ _ _ (IsSame a x b y) p q (refuses_same WriterTaken) (gives_same (codes "ok\n") (with_node old name writer)))
+      (λ k. refuses_same NodeTaken)
+  does_same (Put node path text) p q =
+      node_same node _ _ p q (λ k p q. path_same path _ _ p q (λ at p q. text_same text _ _ p q (file_same k at)))
+  does_same (Remove node path) p q =
+      node_same node _ _ p q (λ k p q. path_same path _ _ p q (λ at p q.
+      option_both (visible_at (held old k) at) _ _ _ _ (IsSame a x b y) p q (refuses_same Nothing) (λ shown. writes_same k at Gone)))
+  does_same (Merge from to) p q =
+      node_same from _ _ p q (λ j p q. node_same to _ _ p q (λ k.
+      gives_same (changed_line (changed_paths (held old k) (held (happened old (merge j k)) k))) (happened old (merge j k))))
+  does_same (Files node) p q = node_same node _ _ p q (λ k. gives_same (files_text (held old k)) old)
+  does_same (Same left right) p q = node_same left _ _ p q (λ j p q. node_same right _ _ p q (λ k. compared_same j k))
+
+module _ (old : World) (a b : List ℕ) (x y : World) where
+  says_same : (words : List ℕ) → Says words old a x → Says words old b y → (a ≡ b) × (x ≡ y)
+  says_same words p q = (p.answer_is ∙ sym q.answer_is, p.world_is ∙ sym q.world_is)
+
+  command_same : (line : List ℕ) → AnswersCommand old line a x → AnswersCommand old line b y → (a ≡ b) × (x ≡ y)
+  command_same line p q =
+      let both = result_both (command_of line) _ _ _ _ (IsSame p.0 x q.0 y) p.2 q.2 (does_same old p.0 q.0 x y) (refuses_same old p.0 q.0 x y) in
+      (p.1 ∙ ap outcome_text both.0 ∙ sym q.1, both.1)
+
+  line_same : (line : List ℕ) → AnswersLine old line a x → AnswersLine old line b y → (a ≡ b) × (x ≡ y)
+  line_same line p q =
+      bool_both (nat_lt 300000 (length line)) _ _ _ _ ((a ≡ b) × (x ≡ y)) p q (says_same (error_line LineTooLong))
+      (λ p q. bool_both (is_passed_over line) _ _ _ _ ((a ≡ b) × (x ≡ y)) p q (says_same []) (command_same line))
+
+run_same : (old : World) (lines : List (List ℕ)) (a b : List ℕ) (x y : World) → Run old lines a x → Run old lines b y → (a ≡ b) × (x ≡ y)
+run_same old [] a b x y p q = (p.0 ∙ sym q.0, p.1 ∙ sym q.1)
+run_same old (line ∷ lines) a b x y p q =
+    let now = line_same old p.0 q.0 p.2 q.2 line p.4 q.4 in
+    let later = run_same p.2 lines p.1 q.1 x y p.5 (subst (λ w. Run w lines q.1 y) (sym now.1) q.5) in
+    (p.3 ∙ ap (λ v. v ++ p.1) now.0 ∙ ap (λ v. q.0 ++ v) later.0 ∙ sym q.3, later.1)
+
+pub one : (script first second : List ℕ) → Answers script first → Answers script second → first ≡ second
+one script first second p q = (run_same blank (lines_of script) first second p.0 q.0 p.1 q.1).0

@@ -1,0 +1,119 @@
+-- How a run goes on from line to line, and how its answers reach the writer.
+use Rattle.std.proofs.Common.{◌≡◌, ℕ, ◌+◌, List, [], ◌∷◌, ◌++◌, length, take, Option, Result, Ok, Err, OnErr, true, false, refl, sym, ap, subst, ◌∙◌, append_assoc, arith}
+use Rattle.std.specs.Prelude.{is_ok, is_err, if◌then◌else◌}
+use Rattle.std.specs.Io.KnownBytes.{Appends}
+use Rattle.std.proofs.lemmas.Bool.{true≢false}
+use Rattle.std.proofs.Math.Seq.{take-append-add}
+use Rattle.std.proofs.lemmas.List.{append-nil, take_at, take_all}
+use Rattle.script_words.specs.Lines.{lines_of}
+use Rattle.script_pipes.specs.KnownBytes.{AppendsFront}
+use Rattle.script_pipes.specs.KnownBytesLaws.{Appends-append, Appends-nothing}
+use Rattle.fleet_script.specs.declared.states.Kept.{Kept}
+use Rattle.fleet_script.specs.Worlds.{World, blank}
+use Rattle.fleet_script.specs.Scripts.{Run, AnswersLine, Answers, AnswersFront}
+use Rattle.fleet_script.specs.Holds.{Holds, Continues}
+
+-- one line more
+run_more : (old : World) (lines : List (List ℕ)) (written : List ℕ) (mid : World) (line answer : List ℕ) (new : World)
+    → Run old lines written mid → AnswersLine mid line answer new → Run old (lines ++ line ∷ []) (written ++ answer) new
+run_more old [] written mid line answer new r s =
+    let end : AnswersLine old line answer new = subst (λ v. AnswersLine v line answer new) r.1 s in
+    (answer, [], new, ap (λ v. v ++ answer) r.0 ∙ sym (append-nil answer), end, (refl, refl))
+run_more old (first ∷ lines) written mid line answer new r s = (
+  r.0,
+  r.1 ++ answer,
+  r.2,
+  ap (λ v. v ++ answer) r.3 ∙ append_assoc r.0 r.1 answer,
+  r.4,
+  run_more r.2 lines r.1 mid line answer new r.5 s,
+)
+
+-- what is true between two lines: some answers were written, and others wait
+pub record Progress (script rest : List ℕ) (nodes : List Kept) (old now : Option (List ℕ)) (pending : List ℕ) : Type 0 where
+  pub before : List (List ℕ)
+  pub world : World
+  pub written : List ℕ
+  pub lines : lines_of script ≡ before ++ lines_of rest
+  pub holds : Holds nodes world
+  pub run : Run blank before (written ++ pending) world
+  pub appended : Appends old now written
+
+pub begins : (script pending : List ℕ) (nodes : List Kept) (a : Option (List ℕ)) → nodes ≡ [] → pending ≡ [] → Progress script script nodes a a pending
+begins script pending nodes a none nothing = subst (λ ns. Progress script script ns a a pending) (sym none) (subst (λ v. Progress script script [] a a v) (sym nothing) first)
+  where
+    first : Progress script script [] a a []
+    first = record { before = []; world = blank; written = []; lines = refl; holds = record { members = refl; stores = λ k kept e. cc (e); fresh = λ k le. refl }; run = (refl, refl); appended = Appends-nothing a }
+
+pub moved : (script rest pending more : List ℕ) (nodes : List Kept) (old now after : Option (List ℕ)) → now ≡ after → pending ≡ more → Progress script rest nodes old now pending → Progress script rest nodes old after more
+moved script rest pending more nodes old now after e is p = subst (λ v. Progress script rest nodes old v more) e (subst (λ v. Progress script rest nodes old now v) is p)
+
+pub line_answered : (script rest line later answer pending more : List ℕ) (nodes now_nodes : List Kept) (old now : Option (List ℕ))
+    → lines_of rest ≡ line ∷ lines_of later
+    → Continues nodes now_nodes (λ a b. AnswersLine a line answer b)
+    → more ≡ pending ++ answer
+    → Progress script rest nodes old now pending → Progress script later now_nodes old now more
+line_answered script rest line later answer pending more nodes now_nodes old now cut step is p =
+    let next = step p.world p.holds in
+    let text : (p.written ++ pending) ++ answer ≡ p.written ++ more = append_assoc p.written pending answer ∙ ap (λ v. p.written ++ v) (sym is) in
+    record {
+      before = p.before ++ line ∷ [];
+      world = next.0;
+      written = p.written;
+      lines = p.lines ∙ ap (λ v. p.before ++ v) cut ∙ sym (append_assoc p.before (line ∷ []) (lines_of later));
+      holds = next.1;
+      run = subst (λ v. Run blank (p.before ++ line ∷ []) v next.0) text (run_more blank p.before (p.written ++ pending) p.world line answer next.0 p.run next.2);
+      appended = p.appended;
+    }
+
+-- all that waits is written
+pub flushed : (script rest pending : List ℕ) (nodes : List Kept) (old now after : Option (List ℕ)) → Appends now after pending
+    → Progress script rest nodes old now pending → Progress script rest nodes old after []
+flushed script rest pending nodes old now after more p = record {
+  before = p.before;
+  world = p.world;
+  written = p.written ++ pending;
+  lines = p.lines;
+  holds = p.holds;
+  run = subst (λ v. Run blank p.before v p.world) (sym (append-nil (p.written ++ pending))) p.run;
+  appended = Appends-append old now after p.written pending p.appended more;
+}
+
+-- a front of what waits is written
+pub front_written : (script rest pending : List ℕ) (nodes : List Kept) (old now after : Option (List ℕ)) → AppendsFront now after pending
+    → Progress script rest nodes old now pending → (written : List ℕ) × AnswersFront script written × Appends old after written
+front_written script rest pending nodes old now after front p =
+    let lines : p.before ≡ take (length p.before) (lines_of script) = sym (ap (take (length p.before)) p.lines ∙ take_at p.before (lines_of rest) (length p.before) refl) in
+    let run : Run blank (take (length p.before) (lines_of script)) (p.written ++ pending) p.world = subst (λ v. Run blank v (p.written ++ pending) p.world) lines p.run in (
+      p.written ++ take front.0 pending,
+      (length p.before, length p.written + front.0, p.written ++ pending, p.world, run, sym (take-append-add p.written pending front.0)),
+      Appends-append old now after p.written (take front.0 pending) p.appended front.1,
+    )
+
+-- all lines are answered, and all answers are written
+pub answered : (script rest : List ℕ) (nodes : List Kept) (old now : Option (List ℕ)) → lines_of rest ≡ [] → Progress script rest nodes old now []
+    → (written : List ℕ) × Answers script written × Appends old now written
+answered script rest nodes old now end p =
+    let lines : p.before ≡ lines_of script = sym (p.lines ∙ ap (λ v. p.before ++ v) end ∙ append-nil p.before) in
+    let run : Run blank (lines_of script) p.written p.world = subst (λ v. Run blank v p.written p.world) lines (subst (λ v. Run blank p.before v p.world) (append-nil p.written) p.run) in
+    (p.written, (p.world, run), p.appended)
+
+-- before the first line nothing is written
+pub nothing_written : (script : List ℕ) (a : Option (List ℕ)) → (written : List ℕ) × AnswersFront script written × Appends a a written
+nothing_written script a = ([], (0, 0, [], blank, (refl, refl), refl), Appends-nothing a)
+
+-- all of it is a front
+pub all_is_front : (old new : Option (List ℕ)) (bytes : List ℕ) → Appends old new bytes → AppendsFront old new bytes
+all_is_front old new bytes all = (length bytes, subst (λ v. Appends old new v) (sym (take_all (length bytes) bytes (omega arith))) all)
+
+-- what is true whatever the fault is
+pub whatever : {T E : Type 0} (P : Type 0) (r : Result T E) → P → OnErr r P
+whatever P (Ok x) p = tt
+whatever P (Err e) p = p
+
+pub extended : {T E : Type 0} (r : Result T E) (items xs ys : List ℕ) → is_err r ≡ false → items ≡ (if is_ok r then xs ++ ys else xs) → items ≡ xs ++ ys
+extended (Ok x) items xs ys e is = is
+extended (Err x) items xs ys e is = absurd (true≢false e)
+
+pub not_extended : {T E : Type 0} (r : Result T E) (items xs ys : List ℕ) → is_err r ≡ true → items ≡ (if is_ok r then xs ++ ys else xs) → items ≡ xs
+not_extended (Ok x) items xs ys e is = absurd (true≢false (sym e))
+not_extended (Err x) items xs ys e is = is

@@ -1,0 +1,5 @@
+use Rattle.fleet_script.proofs.OneAnswer.{one}
+use Rattle.fleet_script.proofs.laws.one_answer.Goals as goal
+
+pub returns : goal.returns
+returns c = record { one = one }

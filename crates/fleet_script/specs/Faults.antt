@@ -1,0 +1,19 @@
+-- Which refusal a fault of a layer below is.
+use Rattle.load_path.specs.declared.paths.PathFault.{PathFault}
+use Rattle.load_path.specs.declared.paths.PathFault.TheVariants as path
+use Rattle.replica_store.specs.declared.replicas.EditFault.{EditFault}
+use Rattle.replica_store.specs.declared.replicas.EditFault.TheVariants as edit
+use Rattle.fleet_script.specs.declared.commands.Refusal.TheVariants.{Directory, Depth, Component, VersionsSpent, Nothing}
+use Rattle.fleet_script.specs.declared.commands.Fault.{Fault}
+use Rattle.fleet_script.specs.declared.commands.Fault.TheVariants.{Refused, Memory}
+
+abbrev pub fault_of_path : PathFault → Fault
+fault_of_path path.Directory = Refused Directory
+fault_of_path path.Depth = Refused Depth
+fault_of_path path.Component = Refused Component
+fault_of_path path.Memory = Memory
+
+abbrev pub fault_of_edit : EditFault → Fault
+fault_of_edit edit.VersionsSpent = Refused VersionsSpent
+fault_of_edit edit.Nothing = Refused Nothing
+fault_of_edit edit.Memory = Memory

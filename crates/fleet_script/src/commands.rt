@@ -1,0 +1,150 @@
+//! Commands, and why they are refused.
+ghost use Rattle.std.specs.Prelude.{◌≡◌, ℕ, List};
+
+use load_path::PathFault;
+use replica_store::EditFault;
+use std::alloc::AllocError;
+use std::marker::Model;
+
+/// Some bytes of a line.
+#[derive(Drop)]
+pub struct Word<'a> {
+    bytes: &'a [u8],
+}
+
+impl<'a> Model for Word<'a> {
+    ghost Value = { List ℕ };
+
+    ghost view = { λ w. w.bytes.now };
+}
+
+impl<'a> Word<'a> {
+    /// These bytes as a word.
+    pub fn new(bytes: &'a [u8]) -> Self
+        ensures bytes { result ≡ bytes.now }
+    {
+        Word { bytes }
+    }
+
+    /// The bytes.
+    pub fn as_slice(&self) -> &'a [u8]
+        ensures bytes { result.now ≡ self.now }
+    {
+        self.bytes
+    }
+}
+
+/// What a line asks for.
+#[derive(Drop)]
+pub enum Command<'a> {
+    /// A new node of a name, under a writer number.
+    Node {
+        name: Word<'a>,
+        writer: u32,
+    },
+    /// A file put at a path of a node.
+    Put {
+        node: Word<'a>,
+        path: Word<'a>,
+        text: Word<'a>,
+    },
+    /// What is visible at a path of a node, removed.
+    Remove {
+        node: Word<'a>,
+        path: Word<'a>,
+    },
+    /// The store of one node, joined into that of another.
+    Merge {
+        from: Word<'a>,
+        to: Word<'a>,
+    },
+    /// All that a node holds.
+    Files {
+        node: Word<'a>,
+    },
+    /// Whether two nodes hold the same.
+    Same {
+        left: Word<'a>,
+        right: Word<'a>,
+    },
+}
+
+/// Why a line is refused. The nodes are then as they were.
+#[derive(Clone, Copy, Debug, PartialEq, Eq)]
+pub enum Refusal {
+    UnknownCommand,
+    Arguments,
+    UnknownNode,
+    BadText,
+    NodeTaken,
+    WriterTaken,
+    LineTooLong,
+    Directory,
+    Depth,
+    Component,
+    FileTooLarge,
+    VersionsSpent,
+    Nothing,
+}
+
+/// Why a command was not done.
+#[derive(Debug, Drop)]
+pub enum Fault {
+    /// It is refused.
+    Refused(Refusal),
+    /// Memory was refused.
+    Memory,
+}
+
+impl From<Refusal> for Fault {
+    ghost use Rattle.std.specs.Prelude.{◌≡◌};
+    ghost use Rattle.fleet_script.specs.declared.commands.Fault.TheVariants.{Refused};
+
+    ghost from_gives = { λ refusal fault. fault ≡ Refused refusal };
+
+    fn from(refusal: Refusal) -> Fault {
+        Fault::Refused(refusal)
+    }
+}
+
+impl From<AllocError> for Fault {
+    ghost use Rattle.std.specs.Prelude.{◌≡◌};
+    ghost use Rattle.fleet_script.specs.declared.commands.Fault.TheVariants.{Memory};
+
+    ghost from_gives = { λ _ fault. fault ≡ Memory };
+
+    fn from(_refused: AllocError) -> Fault {
+        Fault::Memory
+    }
+}
+
+impl From<PathFault> for Fault {
+    ghost use Rattle.std.specs.Prelude.{◌≡◌};
+    ghost use Rattle.fleet_script.specs.Faults.{fault_of_path};
+
+    ghost from_gives = { λ refused fault. fault ≡ fault_of_path refused };
+
+    fn from(refused: PathFault) -> Fault {
+        match refused {
+            PathFault::Directory => Fault::Refused(Refusal::Directory),
+            PathFault::Depth => Fault::Refused(Refusal::Depth),
+            PathFault::Component => Fault::Refused(Refusal::Component),
+            PathFault::Memory => Fault::Memory,
+        }
+    }
+}
+
+impl From<EditFault> for Fault {
+    ghost use Rattle.std.specs.Prelude.{◌≡◌};
+    ghost use Rattle.fleet_script.specs.Faults.{fault_of_edit};
+
+    ghost from_gives = { λ refused fault. fault ≡ fault_of_edit refused };
+
+    fn from(refused: EditFault) -> Fault {
+        match refused {
+            EditFault::VersionsSpent => Fault::Refused(Refusal::VersionsSpent),
+            EditFault::Nothing => Fault::Refused(Refusal::Nothing),
+            EditFault::Memory => Fault::Memory,
+        }
+    }
+}

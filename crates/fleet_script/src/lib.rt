@@ -1,0 +1,16 @@
+//! Scripts over named nodes: from the bytes of a script to the bytes of its answers.
+//!
+//! What a script is answered by is defined apart from the code, as a relation between scripts and
+//! answers over worlds of nodes and events (`specs/Scripts.antt`); `run` is proved against it.
+#![tactic(auto)]
+
+mod answers;
+mod commands;
+mod execution;
+mod laws;
+mod parsing;
+mod running;
+mod states;
+
+pub use laws::one_answer;
+pub use running::{ShellFault, run};
