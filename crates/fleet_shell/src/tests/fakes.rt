@@ -1,0 +1,113 @@
+//! Fake readers, writers and a fake standard error.
+use std::alloc::Global;
+use std::cell::Cell;
+use std::fmt::Display;
+use std::io;
+use std::io::{Error, ErrorKind, Read, Write};
+
+/// Gives a byte a read, each behind an interrupted read if it is told so, and fails from some read on.
+#[derive(Drop)]
+pub struct Slow<'a> {
+    pub bytes: &'a [u8],
+    pub interrupts: bool,
+    pub is_interrupted: bool,
+    pub reads_left: usize,
+}
+
+impl Read for Slow<'_> {
+    fn read(&mut self, buf: &mut [u8]) -> io::Result<usize> {
+        if self.reads_left == 0 {
+            return Err(Error::from(ErrorKind::Other));
+        }
+        self.reads_left -= 1;
+        self.is_interrupted = self.interrupts && !self.is_interrupted;
+        if self.is_interrupted {
+            return Err(Error::from(ErrorKind::Interrupted));
+        }
+        match self.bytes.split_first() {
+            Some((byte, rest)) if !buf.is_empty() => {
+                buf[0] = *byte;
+                self.bytes = rest;
+                Ok(1)
+            }
+            _ => Ok(0),
+        }
+    }
+}
+
+/// Gives that many letters, as many as there is room for at each read.
+#[derive(Drop)]
+pub struct Repeated(pub usize);
+
+impl Read for Repeated {
+    fn read(&mut self, buf: &mut [u8]) -> io::Result<usize> {
+        let count = self.0.min(buf.len());
+        for b in buf[..count].iter_mut() {
+            *b = b'x';
+        }
+        self.0 -= count;
+        Ok(count)
+    }
+}
+
+/// Takes some bytes a write, and from some write on it fails or takes none.
+#[derive(Drop)]
+pub struct Narrow {
+    pub held: Vec<u8>,
+    pub width: usize,
+    pub writes_left: usize,
+    pub takes_none: bool,
+}
+
+impl Write for Narrow {
+    fn write(&mut self, buf: &[u8]) -> io::Result<usize> {
+        if self.writes_left == 0 {
+            return if self.takes_none {
+                Ok(0)
+            } else {
+                Err(Error::from(ErrorKind::Other))
+            };
+        }
+        self.writes_left -= 1;
+        let count = self.width.min(buf.len());
+        self.held.extend_from_slice(&buf[..count])?;
+        Ok(count)
+    }
+
+    fn flush(&mut self) -> io::Result<()> {
+        Ok(())
+    }
+}
+
+/// Keeps the last line of standard error.
+#[derive(Drop)]
+pub struct Noted<'a> {
+    pub line: &'a Cell<Option<String>>,
+    pub alloc: Global,
+}
+
+impl Eprint for Noted<'_> {
+    fn eprint<D: Display + Drop>(&self, value: D) -> io::Result<()> {
+        self.line.set(Some(format!(in self.alloc; "{value}")?));
+        Ok(())
+    }
+
+    fn eprintln<D: Display + Drop>(&self, value: D) -> io::Result<()> {
+        self.line.set(Some(format!(in self.alloc; "{value}\n")?));
+        Ok(())
+    }
+}
+
+/// Refuses what is said on standard error.
+#[derive(Drop)]
+pub struct Deaf;
+
+impl Eprint for Deaf {
+    fn eprint<D: Display + Drop>(&self, _value: D) -> io::Result<()> {
+        Err(Error::from(ErrorKind::Other))
+    }
+
+    fn eprintln<D: Display + Drop>(&self, _value: D) -> io::Result<()> {
+        Err(Error::from(ErrorKind::Other))
+    }
+}
