@@ -1,0 +1,102 @@
+-- Steps of the code: what it finds on its way.
+use Rattle.std.proofs.Common.{◌≡◌, ℕ, ◌+◌, ◌≤◌, ◌-◌, Bool, true, false, cond, ◌&&◌, List, [], ◌∷◌, ◌++◌, length, length-append, append_assoc, ltb, leb, Option, Some, None, is_some, refl, sym, ap, ◌∙◌, arith}
+use Rattle.unit_name.specs.declared.names.Shape.{Shape}
+use Rattle.unit_name.specs.declared.names.Shape.TheVariants.{Plain, Template, Instance}
+use Rattle.unit_name.specs.Names.{Name, IsName, prefix, suffix, shape}
+use Rattle.unit_name.specs.Forms.{instance_name, template_name, template_at, template_of, is_instance, instance_at, with_instance}
+use Rattle.unit_name.specs.NameLaws.{templates_keep_parts, instance_has_parts, template_parts, name_short}
+use Rattle.std.specs.Option.{unwrap_or, option_map, MatchOption}
+use Rattle.std.specs.List.{position, position_or_len}
+use Rattle.std.proofs.lemmas.Bool.{ltb-false, leb-true, leb-false, le-leb, lt-leb}
+use Rattle.std.proofs.lemmas.Option.{none-some, same_Some}
+use Rattle.std.proofs.lemmas.List.{append-nil}
+use Rattle.std.proofs.lemmas.List.Sums.{prefix_len-le-length}
+use Rattle.unit_name.specs.Specifiers.{expand, put_before, IsExpandFault}
+use Rattle.unit_name.specs.declared.specifiers.ExpandFault.{ExpandFault}
+use Rattle.unit_name.specs.declared.specifiers.ExpandFault.TheVariants.{BadEscape, Memory}
+
+-- the first place, or the length where there is none
+place_or_length : (t : Bool) (n len : ℕ) → ltb n len ≡ t → n ≤ len → unwrap_or (cond t (Some n) None) len ≡ n
+place_or_length true n len e h = refl
+place_or_length false n len e h = let l = ltb-false n len e in omega arith
+
+pub unwrap_or-position : (p : ℕ → Bool) (xs : List ℕ) → unwrap_or (position p xs) (length xs) ≡ position_or_len p xs
+unwrap_or-position p xs = place_or_length (ltb (position_or_len p xs) (length xs)) (position_or_len p xs) (length xs) refl (prefix_len-le-length _ xs)
+
+-- where nothing is left, all is there
+pub all_there : (o : Option (List ℕ)) (now was : List ℕ) → Some (now ++ []) ≡ option_map (λ (v : List ℕ). was ++ v) o → MatchOption o (true ≡ false) (λ bytes. (true ≡ true) × (now ≡ was ++ bytes))
+all_there None now was e = absurd (none-some _ (sym e))
+all_there (Some v) now was e = (refl, sym (append-nil now) ∙ same_Some _ _ e)
+
+-- the bytes of an instance's template
+pub record IsTemplateOf (n b : Name) : Type 0 where
+  pub name : IsName b
+  pub template : template_of n ≡ Some b
+
+pub template_bytes : (n b : Name) → IsName n → Instance ≡ shape n → b ≡ instance_name (prefix n) [] (suffix n) → IsTemplateOf n b
+template_bytes n b h s e =
+    let same : b ≡ template_name (prefix n) (suffix n) = e ∙ append_assoc (prefix n) (64 ∷ []) (46 ∷ suffix n) in
+    let template : template_of n ≡ Some b = ap (λ x. template_at x n) (sym s) ∙ ap (λ x. Some x) (sym same) in
+    record { name = (templates_keep_parts n b h template).2.name; template = template }
+
+both_some : (b c : Bool) (m : Name) → is_some (cond b (cond c (Some m) None) None) ≡ true → cond b (cond c (Some m) None) None ≡ Some m
+both_some true true m h = refl
+both_some true false m h = cc
+both_some false c m h = cc
+
+taken_at : (s : Shape) (t i : Name) → is_some (instance_at s t i) ≡ true → instance_at s t i ≡ Some (instance_name (prefix t) i (suffix t))
+taken_at Plain t i h = cc
+taken_at Template t i h = both_some (is_instance i) (leb (length (instance_name (prefix t) i (suffix t))) 255) (instance_name (prefix t) i (suffix t)) h
+taken_at Instance t i h = cc
+
+-- a template with an instance that it takes
+pub record IsTakenName (t i b : Name) : Type 0 where
+  pub name : IsName b
+  pub named : with_instance t i ≡ Some b
+
+pub taken : (t i b : Name) → IsName t → is_some (with_instance t i) ≡ true → b ≡ instance_name (prefix t) i (suffix t) → IsTakenName t i b
+taken t i b h some e =
+    let named : with_instance t i ≡ Some b = taken_at (shape t) t i some ∙ ap (λ x. Some x) (sym e) in
+    record { name = (instance_has_parts t i b h named).2.name; named = named }
+
+-- whether a template takes an instance: the name is longer by the instance
+longer : (t i : Name) → IsName t → Template ≡ shape t → length (instance_name (prefix t) i (suffix t)) ≡ length t + length i
+longer t i h s =
+    omega (arith, ap length (sym (template_parts t h (sym s))), length-append (prefix t ++ 64 ∷ i) (46 ∷ suffix t), length-append (prefix t) (64 ∷ i), length-append (prefix t) (64 ∷ 46 ∷ suffix t))
+
+within : (n m : ℕ) → m ≤ 255 → leb (m + n) 255 ≡ leb n (255 - m)
+within n m h = step (leb n (255 - m)) refl
+  where
+    step : (t : Bool) → leb n (255 - m) ≡ t → leb (m + n) 255 ≡ t
+    step true e = let l = leb-true n (255 - m) e in le-leb (m + n) 255 (omega arith)
+    step false e = let l = leb-false n (255 - m) e in lt-leb (m + n) 255 (omega arith)
+
+is_some_cond : (b c : Bool) (m : Name) → is_some (cond b (cond c (Some m) None) None) ≡ (b && c)
+is_some_cond true true m = refl
+is_some_cond true false m = refl
+is_some_cond false c m = refl
+
+pub takes_is : (t i : Name) → IsName t → Template ≡ shape t → is_some (with_instance t i) ≡ (is_instance i && leb (length i) (255 - length t))
+takes_is t i h s =
+    ap (λ x. is_some (instance_at x t i)) (sym s)
+    ∙ is_some_cond (is_instance i) (leb (length (instance_name (prefix t) i (suffix t))) 255) (instance_name (prefix t) i (suffix t))
+    ∙ ap (λ x. is_instance i && x) (ap (λ x. leb x 255) (longer t i h s) ∙ within (length i) (length t) (name_short t h))
+
+-- what is pushed moves from the rest to what is there
+pub pushed_before : (sp o : Option (List ℕ)) (now was : List ℕ) → MatchOption sp ⊥ (λ bytes. now ≡ was ++ bytes) → option_map (λ (v : List ℕ). now ++ v) o ≡ option_map (λ (v : List ℕ). was ++ v) (put_before sp o)
+pushed_before None o now was h = absurd h
+pushed_before (Some a) None now was h = refl
+pushed_before (Some a) (Some v) now was h = ap (λ x. Some x) (ap (λ x. x ++ v) h ∙ append_assoc was a v)
+
+-- where one part is malformed, all is
+pub none_before : (sp o : Option (List ℕ)) (was : List ℕ) → sp ≡ None → option_map (λ (v : List ℕ). was ++ v) (put_before sp o) ≡ None
+none_before sp o was h = ap (λ x. option_map (λ (v : List ℕ). was ++ v) (put_before x o)) h
+
+pub nil_of : (xs : List ℕ) → length xs ≡ 0 → xs ≡ []
+nil_of [] h = refl
+nil_of (x ∷ xs) h = absurd (omega arith)
+
+-- a fault of a pair is one of the value
+pub fault_of : (v : List ℕ) (n : Name) (f : ExpandFault) → (f ≡ BadEscape → expand v n ≡ None) → IsExpandFault v n f
+fault_of v n BadEscape h = h refl
+fault_of v n Memory h = tt

@@ -1,0 +1,7 @@
+use Rattle.std.proofs.Common.{◌≡◌, ◌++◌, take}
+use Rattle.std.specs.List.{flat_map}
+use Rattle.unit_name.specs.Escapes.{escaped_byte}
+use Rattle.unit_name.proofs.escapes.escape.Given as goal
+
+abbrev pub invariant-loop-byte : goal.invariant-loop-byte
+invariant-loop-byte l = l.escaped.items ≡ l.initial.escaped.items ++ flat_map escaped_byte (take l.byte-index l.rest)

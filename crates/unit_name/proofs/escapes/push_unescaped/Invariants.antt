@@ -1,0 +1,11 @@
+use Rattle.std.proofs.Common.{◌≡◌, ◌++◌, List, ℕ, length}
+use Rattle.std.specs.Option.{option_map}
+use Rattle.unit_name.specs.Escapes.{unescape}
+use Rattle.unit_name.proofs.escapes.push_unescaped.Given as goal
+
+-- what is there, before what the rest spells, is what was there before all that is spelled
+abbrev pub invariant-loop-rest : goal.invariant-loop-rest
+invariant-loop-rest l = option_map (λ (v : List ℕ). l.out.items ++ v) (unescape l.rest) ≡ option_map (λ (v : List ℕ). l.initial.out.items ++ v) (unescape l.text)
+
+abbrev pub decreases-loop-rest : goal.decreases-loop-rest
+decreases-loop-rest l = length l.rest

@@ -1,0 +1,7 @@
+use Rattle.std.proofs.Common.{◌∙◌, ap, is_some}
+use Rattle.unit_name.specs.Names.{kind}
+use Rattle.unit_name.specs.NameLaws.{made_of_name}
+use Rattle.unit_name.proofs.names.UnitName.kind.Goals as goal
+
+pub unwrap-requires : goal.unwrap-requires
+unwrap-requires c = ap is_some (c.kind_in.ensures.kind ∙ ap kind c.deref.ensures.value ∙ (made_of_name _ c.self.invariant).1)

@@ -1,0 +1,16 @@
+use Rattle.std.proofs.Common.{◌≡◌, ◌-◌, ◌∙◌, ◌&&◌, ap, sym, subst, leb, length, arith}
+use Rattle.unit_name.specs.Names.{IsName}
+use Rattle.unit_name.specs.NameLaws.{name_short}
+use Rattle.unit_name.proofs.Steps.{takes_is}
+use Rattle.unit_name.proofs.names.UnitName.takes.Goals as goal
+
+pub overflow_sub-result : goal.overflow_sub-result
+overflow_sub-result c = let short = name_short _ c.self.invariant in omega arith
+
+pub returns-then-is_instance-clause-test : goal.returns-then-is_instance-clause-test
+returns-then-is_instance-clause-test c =
+    let name = subst IsName c.self.view_is c.self.invariant in
+    let here : c.len.result ≡ length c.self.inside.bytes.items = omega arith in
+    let len = here ∙ ap length c.self.view_is in
+    let test = sym c.is_instance.ensures.test ∙ c.if-is_instance.true in
+    ap (λ n. leb (length c.args.instance.now) (255 - n)) len ∙ sym (takes_is c.args.self.now c.args.instance.now name c.in-Template.ensures.shape ∙ ap (λ b. b && leb (length c.args.instance.now) (255 - length c.args.self.now)) test)

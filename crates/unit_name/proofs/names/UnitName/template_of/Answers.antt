@@ -1,0 +1,12 @@
+use Rattle.std.proofs.Common.{◌∙◌, ap, subst, []}
+use Rattle.unit_name.specs.Names.{prefix, suffix, IsName}
+use Rattle.unit_name.specs.Forms.{instance_name}
+use Rattle.unit_name.proofs.Steps.{template_bytes}
+use Rattle.unit_name.proofs.names.UnitName.template_of.Goals as goal
+
+pub invariant_of-result : goal.invariant_of-result
+invariant_of-result c =
+    let name = subst IsName c.self.view_is c.self.invariant in
+    let suffix_is = c.suffix_of.ensures.suffix ∙ ap suffix (c.deref.ensures.value ∙ c.self.view_is) in
+    (template_bytes c.args.self.now c.in_ok-bytes-in-Instance.bytes.items name c.in-Instance.ensures.shape
+    (c.in_ok-bytes-in-Instance.ensures.bytes ∙ ap (λ p. instance_name p [] c.suffix_of.result.now) c.prefix.ensures.prefix ∙ ap (instance_name (prefix c.args.self.now) []) suffix_is)).name

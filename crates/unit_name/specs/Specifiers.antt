@@ -1,0 +1,45 @@
+-- Values with the specifiers of a unit's name.
+use Rattle.std.specs.Prelude.{◌≡◌, ℕ, ◌==◌, Bool, if◌then◌else◌, Option, Some, None, List, [], ◌∷◌, ◌++◌}
+use Rattle.unit_name.specs.declared.specifiers.ExpandFault.{ExpandFault}
+use Rattle.unit_name.specs.declared.specifiers.ExpandFault.TheVariants.{BadEscape, Memory}
+use Rattle.std.specs.List.{after_last}
+use Rattle.unit_name.specs.Names.{Name, stem, prefix, instance}
+use Rattle.unit_name.specs.Escapes.{unescape}
+
+abbrev pub is_dash : ℕ → Bool
+is_dash b = b == 45
+
+-- what stands behind the prefix's last dash, or the whole prefix
+abbrev pub last_part : Name → List ℕ
+last_part n = after_last is_dash (prefix n)
+
+-- what a percent sign and this letter stand for; none where what is to be unescaped is malformed
+unfoldable pub specifier : ℕ → Name → Option (List ℕ)
+specifier c n =
+    if c == 110 then Some n
+    else if c == 78 then Some (stem n)
+    else if c == 112 then Some (prefix n)
+    else if c == 105 then Some (instance n)
+    else if c == 106 then Some (last_part n)
+    else if c == 80 then unescape (prefix n)
+    else if c == 73 then unescape (instance n)
+    else if c == 74 then unescape (last_part n)
+    else if c == 37 then Some (37 ∷ [])
+    else Some (37 ∷ c ∷ [])
+
+-- the one before the other, if there are both
+abbrev pub put_before : Option (List ℕ) → Option (List ℕ) → Option (List ℕ)
+put_before (Some a) (Some b) = Some (a ++ b)
+put_before o p = None
+
+-- the value with each specifier replaced: a percent sign takes the next byte, every other byte stands for itself
+unfoldable pub expand : List ℕ → Name → Option (List ℕ)
+expand [] n = Some []
+expand (b ∷ c ∷ rest) n =
+    if b == 37 then put_before (specifier c n) (expand rest n) else put_before (Some (b ∷ [])) (expand (c ∷ rest) n)
+expand (b ∷ []) n = Some (b ∷ [])
+
+-- where an escape is at fault, one in the name is malformed; memory says nothing
+abbrev pub IsExpandFault : List ℕ → Name → ExpandFault → Type 0
+IsExpandFault v n BadEscape = expand v n ≡ None
+IsExpandFault v n Memory = Unit {0}

@@ -1,0 +1,18 @@
+//! The names of systemd's units: their parts, escapes and specifiers, as systemd.unit(5) has them.
+#![tactic(auto)]
+
+mod escapes;
+mod kinds;
+mod laws;
+mod names;
+mod parts;
+mod specifiers;
+
+pub use escapes::{escape, unescape};
+pub use kinds::Kind;
+pub use laws::{escape_laws, name_laws, specifier_laws, template_laws};
+pub use names::{NameFault, Shape, UnitName};
+pub use specifiers::{ExpandFault, expand};
+
+#[cfg(test)]
+mod tests;

@@ -1,0 +1,296 @@
+//! Unit names.
+ghost use Rattle.std.specs.Prelude.{◌≡◌, ◌↔◌, IsTrue, IfOk, IfErr, OnOk, OnErr, Ok, Some, IsSome, is_some};
+ghost use Rattle.std.specs.List.{list_all};
+ghost use Rattle.unit_name.specs.Names.{name_of, IsName, IsFaultOf, is_name_byte, kind, shape, prefix, instance};
+ghost use Rattle.unit_name.specs.Forms.{template_of, with_instance, instance_name, is_instance};
+
+use crate::kinds::Kind;
+use crate::parts::{bad_place, instance_of, is_name_byte, kind_in, prefix_of, stem_of, suffix_of};
+use std::alloc::{AllocError, Global};
+use std::cmp::Ordering;
+use std::marker::Model;
+use thiserror::Error;
+
+/// The most bytes that a name has.
+const LONGEST: usize = 255;
+
+/// What a name's stem has behind its first at sign (systemd.unit(5), "Description").
+#[derive(Clone, Copy, Debug, PartialEq, Eq)]
+pub enum Shape {
+    /// There is no at sign.
+    Plain,
+    /// There is nothing.
+    Template,
+    /// There is the instance.
+    Instance,
+}
+
+/// Why bytes are no name. The first that applies is answered, in this order; `Memory` comes only for bytes that are one.
+#[derive(Clone, Copy, Debug, PartialEq, Eq, Error)]
+pub enum NameFault {
+    #[error("N1 Length: a name has 1 to 255 bytes")]
+    Length,
+    #[error("N2 Kind: a name ends in a dot and a kind of unit")]
+    Kind,
+    #[error("N3 EmptyPrefix: nothing stands before the at sign or the last dot")]
+    EmptyPrefix,
+    /// The place of the first byte before the last dot that is no ASCII letter or digit, `:`, `-`, `_`, `.`, `\` or `@`.
+    #[error("N4 BadByte: byte {0} is none of a name")]
+    BadByte(usize),
+    #[error("out of memory")]
+    Memory,
+}
+
+/// A name of 1 to 255 bytes: a stem, a dot and the word of a kind (systemd.unit(5), "Description"). Names are compared by
+/// bytes, a front of a name being less. What a name tells of itself costs a walk over its bytes and no memory.
+#[derive(Debug, Drop)]
+pub struct UnitName {
+    bytes: Vec<u8>,
+}
+
+impl Model for UnitName {
+    ghost use Rattle.std.specs.Prelude.{List, ℕ};
+    ghost use Rattle.unit_name.specs.Names.{IsName};
+
+    ghost Value = { List ℕ };
+
+    ghost view = { λ n. n.bytes.items };
+
+    ghost invariant = { λ n. IsName n.bytes.items };
+}
+
+impl UnitName {
+    /// Reads a name. Of what is wrong with the bytes the first of `Length`, `Kind`, `EmptyPrefix` and `BadByte` is answered;
+    /// memory is asked for only where nothing is. An instance may have further at signs and dots.
+    pub fn parse(alloc: Global, bytes: &[u8]) -> Result<UnitName, NameFault>
+        ensures name { IfOk result (λ name. name_of bytes.now ≡ Ok name) }
+        ensures same { IfOk result (λ name. name ≡ bytes.now) }
+        ensures fault { IfErr result (IsFaultOf bytes.now) }
+    {
+        check(bytes)?;
+        match Vec::from_slice(alloc, bytes) {
+            Ok(bytes) => Ok(UnitName { bytes }),
+            Err(_) => Err(NameFault::Memory),
+        }
+    }
+
+    /// The bytes of the whole name.
+    pub fn bytes(&self) -> &[u8]
+        ensures bytes { result.now ≡ self.now }
+        ensures lawful { IsName self.now }
+    {
+        &self.bytes
+    }
+
+    /// The kind that stands behind the last dot.
+    pub fn kind(&self) -> Kind
+        ensures kind { kind self.now ≡ Some result }
+        ensures lawful { IsName self.now }
+    {
+        kind_in(&self.bytes).unwrap()
+    }
+
+    /// Whether the name is plain, a template or an instance.
+    pub fn shape(&self) -> Shape
+        ensures shape { result ≡ shape self.now }
+        ensures lawful { IsName self.now }
+    {
+        if !stem_of(&self.bytes).contains(&b'@') {
+            Shape::Plain
+        } else if self.instance().is_empty() {
+            Shape::Template
+        } else {
+            Shape::Instance
+        }
+    }
+
+    /// Whether the name is a template.
+    pub fn is_template(&self) -> bool
+        ensures template { IsTrue result ↔ (shape self.now ≡ Shape.Template) }
+        ensures lawful { IsName self.now }
+    {
+        self.shape() == Shape::Template
+    }
+
+    /// What stands before the first at sign, or before the last dot where there is none. It isn't empty.
+    pub fn prefix(&self) -> &[u8]
+        ensures prefix { result.now ≡ prefix self.now }
+        ensures lawful { IsName self.now }
+    {
+        prefix_of(&self.bytes)
+    }
+
+    /// What stands between the first at sign and the last dot: nothing where the name is plain or a template.
+    pub fn instance(&self) -> &[u8]
+        ensures instance { result.now ≡ instance self.now }
+        ensures lawful { IsName self.now }
+    {
+        instance_of(&self.bytes)
+    }
+
+    /// The template of an instance: the same name without its instance. None for other names.
+    pub fn template_of(&self) -> Result<Option<UnitName>, AllocError>
+        ensures template { IfOk result (λ template. template ≡ template_of self.now) }
+        ensures memory { OnErr result (IsSome (template_of self.now)) }
+        ensures lawful { IsName self.now }
+    {
+        match self.shape() {
+            Shape::Plain | Shape::Template => Ok(None),
+            Shape::Instance => {
+                let bytes = instance_bytes(
+                    *self.bytes.allocator(),
+                    self.prefix(),
+                    &[],
+                    suffix_of(&self.bytes),
+                )?;
+                Ok(Some(UnitName { bytes }))
+            }
+        }
+    }
+
+    /// The name of this template with an instance. None where this is no template, where the instance is empty or has a byte
+    /// that names don't have, and where the name would have more than 255 bytes.
+    pub fn with_instance(&self, instance: &[u8]) -> Result<Option<UnitName>, AllocError>
+        ensures named { IfOk result (λ named. named ≡ with_instance self.now instance.now) }
+        ensures memory { OnErr result (IsSome (with_instance self.now instance.now)) }
+        ensures lawful { IsName self.now }
+    {
+        if !self.takes(instance) {
+            return Ok(None);
+        }
+        let bytes = instance_bytes(
+            *self.bytes.allocator(),
+            self.prefix(),
+            instance,
+            suffix_of(&self.bytes),
+        )?;
+        Ok(Some(UnitName { bytes }))
+    }
+
+    // Whether this is a template that may have this instance.
+    fn takes(&self, instance: &[u8]) -> bool
+        ensures test { result ≡ is_some (with_instance self.now instance.now) }
+        ensures lawful { IsName self.now }
+    {
+        match self.shape() {
+            Shape::Plain | Shape::Instance => false,
+            Shape::Template => is_instance(instance)
+                && instance.len() <= LONGEST - self.bytes.len(),
+        }
+    }
+
+    /// The same name again.
+    pub fn try_clone(&self) -> Result<UnitName, AllocError>
+        ensures same { IfOk result (λ copy. copy ≡ self.now) }
+    {
+        Ok(UnitName {
+            bytes: Vec::from_slice(*self.bytes.allocator(), &self.bytes)?,
+        })
+    }
+}
+
+// Whether bytes are a name.
+#[tactic(auto, unfolding(crate::specs::Names::name_of))]
+fn check(bytes: &[u8]) -> Result<(), NameFault>
+    ensures name { OnOk result (name_of bytes.now ≡ Ok bytes.now) }
+    ensures fault { IfErr result (IsFaultOf bytes.now) }
+{
+    if bytes.is_empty() || bytes.len() > LONGEST {
+        return Err(NameFault::Length);
+    }
+    if kind_in(bytes).is_none() {
+        return Err(NameFault::Kind);
+    }
+    if prefix_of(bytes).is_empty() {
+        return Err(NameFault::EmptyPrefix);
+    }
+    match bad_place(stem_of(bytes)) {
+        None => Ok(()),
+        Some(place) => Err(NameFault::BadByte(place)),
+    }
+}
+
+// Whether a template may have this instance.
+fn is_instance(instance: &[u8]) -> bool
+    ensures test { result ≡ is_instance instance.now }
+{
+    !instance.is_empty() && are_name_bytes(instance)
+}
+
+fn are_name_bytes(bytes: &[u8]) -> bool
+    ensures test { result ≡ list_all is_name_byte bytes.now }
+{
+    bytes.iter().all(|byte| is_name_byte(*byte))
+}
+
+// The bytes of an instance's name.
+fn instance_bytes(
+    alloc: Global,
+    prefix: &[u8],
+    instance: &[u8],
+    suffix: &[u8],
+) -> Result<Vec<u8>, AllocError>
+    ensures bytes { IfOk result (λ bytes. bytes.items ≡ instance_name prefix.now instance.now suffix.now) }
+{
+    let mut bytes = Vec::from_slice(alloc, prefix)?;
+    bytes.push(b'@')?;
+    bytes.extend_from_slice(instance)?;
+    bytes.push(b'.')?;
+    bytes.extend_from_slice(suffix)?;
+    Ok(bytes)
+}
+
+impl PartialEq for UnitName {
+    ghost use Rattle.std.specs.Ordering.{eq_by_cmp};
+    ghost use Rattle.std.specs.Cmp.{eq_by_cmp_equiv, partial_equiv_from_equiv};
+    ghost use Rattle.std.specs.Cmp.Lexicographic.{nat_list_cmp_total};
+    ghost use Rattle.unit_name.specs.Names.{name_cmp};
+
+    ghost eq = { eq_by_cmp name_cmp };
+
+    ghost laws = { partial_equiv_from_equiv (eq_by_cmp_equiv nat_list_cmp_total) };
+
+    fn eq(&self, other: &Self) -> bool {
+        self.cmp(other).is_eq()
+    }
+}
+
+impl Eq for UnitName {
+    ghost use Rattle.std.specs.Cmp.{eq_by_cmp_equiv};
+    ghost use Rattle.std.specs.Cmp.Lexicographic.{nat_list_cmp_total};
+
+    ghost laws = { eq_by_cmp_equiv nat_list_cmp_total };
+}
+
+impl PartialOrd for UnitName {
+    ghost use Rattle.std.specs.Ordering.{as_partial_cmp};
+    ghost use Rattle.std.specs.Cmp.{partial_order_from_total};
+    ghost use Rattle.std.specs.Cmp.Lexicographic.{nat_list_cmp_total};
+    ghost use Rattle.unit_name.specs.Names.{name_cmp};
+
+    ghost partial_cmp = { as_partial_cmp name_cmp };
+
+    ghost laws = { partial_order_from_total nat_list_cmp_total };
+
+    fn partial_cmp(&self, other: &Self) -> Option<Ordering> {
+        Some(self.cmp(other))
+    }
+}
+
+impl Ord for UnitName {
+    ghost use Rattle.std.specs.Prelude.{refl};
+    ghost use Rattle.std.specs.Cmp.Lexicographic.{nat_list_cmp_total};
+    ghost use Rattle.unit_name.specs.Names.{name_cmp};
+
+    ghost cmp = { name_cmp };
+
+    ghost total = { nat_list_cmp_total };
+
+    ghost matches_partial_cmp = { λ x y. refl };
+
+    ghost matches_eq = { λ x y. refl };
+
+    fn cmp(&self, other: &Self) -> Ordering {
+        self.bytes.as_slice().cmp(&other.bytes.as_slice())
+    }
+}
