@@ -22,7 +22,7 @@ pub enum ContentFault {
     /// C1: a file of over 65,536 bytes.
     #[error("C1 FileTooLarge")]
     FileTooLarge,
-    /// C2: a target that is empty, over 4,095 bytes or has a byte outside 33 to 126.
+    /// C2: a target without bytes, with over 4,095 of them, or with one outside 33 to 126.
     #[error("C2 BadLink")]
     BadLink,
 }

@@ -21,7 +21,7 @@ pub enum PathFault {
     /// F2: over two components stand behind the directory.
     #[error("F2 Depth")]
     Depth,
-    /// F3: a component is empty, `.`, `..`, over 255 bytes or has a byte outside 33 to 126.
+    /// F3: a component is `.`, `..` or empty, has over 255 bytes, or has one outside 33 to 126.
     #[error("F3 Component")]
     Component,
     /// Memory was refused.
