@@ -1,0 +1,43 @@
+-- The theorem on whole runs.
+use Rattle.std.proofs.Common.{◌≡◌, ℕ, true, false, cond, Option, Some, None, List, [], ◌∷◌, ◌++◌, refl, sym, ◌∙◌, inl, inr}
+use Rattle.std.specs.Prelude.{slice_get, nat_lt, IfSome}
+use Rattle.edit_sums.specs.declared.entries.Edit.{Edit}
+use Rattle.edit_sums.specs.Sums.{IsAmong, IsHonest}
+use Rattle.edit_sums.specs.SumLaws.{sum_of-same_edits}
+use Rattle.world_law.specs.declared.events.Event.{Event}
+use Rattle.world_law.specs.declared.events.Event.TheVariants.{Put, Ask, Cut, Give}
+use Rattle.world_law.specs.Worlds.{Node, after, blank, puts_of, EachStoreIsItsSum, SameTookSameStore, AreSameEdits}
+use Rattle.world_law.specs.SoundLaws.{IsSound, blank_sound, after_keeps}
+
+IfSome_from : (o : Option Node) (P : Node → Type 0) → ((n : Node) → o ≡ Some n → P n) → IfSome o P
+IfSome_from None P h = tt
+IfSome_from (Some n) P h = h n refl
+
+puts_of-append_left : (n : ℕ) (xs ys : List Event) (e : Edit) → IsAmong e (puts_of n xs) → IsAmong e (puts_of n (xs ++ ys))
+puts_of-append_left n [] ys e a = absurd a
+puts_of-append_left n (Put i f ∷ xs) ys e a =
+    elim (nat_lt i n) as (λ b. IsAmong e (cond b (f ∷ puts_of n xs) (puts_of n xs)) → IsAmong e (cond b (f ∷ puts_of n (xs ++ ys)) (puts_of n (xs ++ ys)))) [
+      | true ↦ λ h. elim h [ inl same ↦ inl same | inr rest ↦ inr (puts_of-append_left n xs ys e rest) ]
+      | false ↦ λ h. puts_of-append_left n xs ys e h
+    ] a
+puts_of-append_left n (Ask i ∷ xs) ys e a = puts_of-append_left n xs ys e a
+puts_of-append_left n (Cut j b paths ∷ xs) ys e a = puts_of-append_left n xs ys e a
+puts_of-append_left n (Give p k ∷ xs) ys e a = puts_of-append_left n xs ys e a
+
+run_sound : (n : ℕ) (all events : List Event) → IsHonest (puts_of n all) → ((e : Edit) → IsAmong e (puts_of n events) → IsAmong e (puts_of n all)) → IsSound n (λ e. IsAmong e (puts_of n all)) (after events (blank n))
+run_sound n all events honest puts =
+    after_keeps n (λ e. IsAmong e (puts_of n all)) honest events (blank n) (blank_sound n (λ e. IsAmong e (puts_of n all))) puts
+
+pub each_store_is_its_sum : (n : ℕ) (events : List Event) → EachStoreIsItsSum n events
+each_store_is_its_sum n events honest k =
+    IfSome_from _ _ (λ node h. ((run_sound n events events honest (λ e a. a)).nodes k node h).is_sum)
+
+pub same_took_same_store : (n : ℕ) (before later : List Event) → SameTookSameStore n before later
+same_took_same_store n before later honest k l =
+    let early = run_sound n (before ++ later) before honest (puts_of-append_left n before later) in
+    let late = run_sound n (before ++ later) (before ++ later) honest (λ e a. a) in
+    let one_store : (a b : Node) → slice_get (after before (blank n)).nodes k ≡ Some a → slice_get (after (before ++ later) (blank n)).nodes l ≡ Some b → AreSameEdits a.took b.took → a.store ≡ b.store =
+    λ a b ha hb same. (early.nodes k a ha).is_sum ∙ sum_of-same_edits a.took b.took same.0 same.1 ∙ sym (late.nodes l b hb).is_sum
+    in
+    IfSome_from (slice_get (after before (blank n)).nodes k) (λ a. IfSome (slice_get (after (before ++ later) (blank n)).nodes l) (λ b. AreSameEdits a.took b.took → a.store ≡ b.store))
+    (λ a ha. IfSome_from (slice_get (after (before ++ later) (blank n)).nodes l) (λ b. AreSameEdits a.took b.took → a.store ≡ b.store) (λ b hb. one_store a b ha hb))

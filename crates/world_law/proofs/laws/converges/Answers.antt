@@ -1,0 +1,12 @@
+use Rattle.world_law.proofs.Theorem.{each_store_is_its_sum, same_took_same_store}
+use Rattle.world_law.proofs.TookLemmas.{holds_the_sum}
+use Rattle.world_law.proofs.laws.converges.Goals as goal
+
+pub returns-clause-sums : goal.returns-clause-sums
+returns-clause-sums c = each_store_is_its_sum
+
+pub returns-clause-same : goal.returns-clause-same
+returns-clause-same c = same_took_same_store
+
+pub returns-clause-told : goal.returns-clause-told
+returns-clause-told c = holds_the_sum

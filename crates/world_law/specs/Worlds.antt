@@ -1,0 +1,120 @@
+-- Worlds of nodes that put, ask, cut and give.
+use Rattle.std.specs.Prelude.{◌≡◌, ◌<◌, ℕ, zero, suc, if◌then◌else◌, ◌==◌, nat_lt, Option, Some, None, IfSome, List, [], ◌∷◌, ◌++◌, slice_get, replicate}
+use Rattle.std.specs.FinMap as finmap
+use Rattle.edit_sums.specs.declared.entries.Edit.{Edit}
+use Rattle.load_path.specs.Paths.{PathParts}
+use Rattle.edit_sums.specs.Sums.{EntryMap, IsAmong, IsHonest, sum_of, edits_of, join}
+use Rattle.world_law.specs.Cuts.{VersionMap, digest_of, cut, at_paths}
+use Rattle.world_law.specs.declared.events.Event.{Event}
+use Rattle.world_law.specs.declared.events.Event.TheVariants.{Put, Ask, Cut, Give}
+
+-- a node: its store, and the edits that it took
+pub record Node : Type 0 where
+  pub store : EntryMap
+  pub took : List Edit
+
+-- an ask: which node asked, and the version that it had at each path
+pub record Asked : Type 0 where
+  pub node : ℕ
+  pub versions : VersionMap
+
+-- a piece: its entries, the node whose ask it was cut for, and all edits that the cutting node had taken then at the paths of the cut
+pub record Piece : Type 0 where
+  pub entries : EntryMap
+  pub asker : ℕ
+  pub had : List Edit
+
+-- every node, every ask and every piece that there ever was
+pub record World : Type 0 where
+  pub nodes : List Node
+  pub asks : List Asked
+  pub pieces : List Piece
+
+-- the node takes a store that stands for these edits
+abbrev pub taken : EntryMap → List Edit → Node → Node
+taken s es n = record { store = join n.store s; took = n.took ++ es }
+
+-- the nodes with one of them changed, if it exists
+abbrev pub changed_at : ℕ → (Node → Node) → List Node → List Node
+changed_at i f [] = []
+changed_at zero f (n ∷ ns) = f n ∷ ns
+changed_at (suc i) f (n ∷ ns) = n ∷ changed_at i f ns
+
+abbrev pub asked_by : World → ℕ → Option Node → World
+asked_by w i None = w
+asked_by w i (Some n) = record w { asks = w.asks ++ record { node = i; versions = digest_of n.store } ∷ [] }
+
+abbrev pub cut_for : World → Option (List PathParts) → Option Node → Option Asked → World
+cut_for w paths None ask = w
+cut_for w paths (Some n) None = w
+cut_for w paths (Some n) (Some ask) =
+    record w { pieces = w.pieces ++ record { entries = cut n.store ask.versions paths; asker = ask.node; had = at_paths paths n.took } ∷ [] }
+
+-- what a node takes with a piece: its entries, and all that it was cut from if the node itself had asked
+abbrev pub edits_with : Piece → ℕ → List Edit
+edits_with p k = edits_of p.entries ++ (if p.asker == k then p.had else [])
+
+abbrev pub given_to : World → ℕ → Option Piece → World
+given_to w k None = w
+given_to w k (Some p) = record w { nodes = changed_at k (taken p.entries (edits_with p k)) w.nodes }
+
+-- what an event does. One that names what does not exist does nothing
+abbrev pub happens : World → Event → World
+happens w (Put i e) = record w { nodes = changed_at i (taken (sum_of (e ∷ [])) (e ∷ [])) w.nodes }
+happens w (Ask i) = asked_by w i (slice_get w.nodes i)
+happens w (Cut j a paths) = cut_for w paths (slice_get w.nodes j) (slice_get w.asks a)
+happens w (Give p k) = given_to w k (slice_get w.pieces p)
+
+-- the world after these events
+abbrev pub after : List Event → World → World
+after [] w = w
+after (e ∷ es) w = after es (happens w e)
+
+-- so many nodes, with nothing in them
+abbrev pub blank : ℕ → World
+blank n = record { nodes = replicate n (record { store = finmap.empty; took = [] }); asks = []; pieces = [] }
+
+-- the edits that are put in a world of so many nodes
+abbrev pub puts_of : ℕ → List Event → List Edit
+puts_of n [] = []
+puts_of n (Put i e ∷ es) = if nat_lt i n then e ∷ puts_of n es else puts_of n es
+puts_of n (Ask i ∷ es) = puts_of n es
+puts_of n (Cut j a paths ∷ es) = puts_of n es
+puts_of n (Give p k ∷ es) = puts_of n es
+
+-- each node's store is the sum of what it took
+abbrev pub EachStoreIsItsSum : ℕ → List Event → Type 0
+EachStoreIsItsSum n events =
+    IsHonest (puts_of n events) → (k : ℕ) → IfSome (slice_get (after events (blank n)).nodes k) (λ node. node.store ≡ sum_of node.took)
+
+-- the same edits, in any order and number
+abbrev pub AreSameEdits : List Edit → List Edit → Type 0
+AreSameEdits xs ys = ((e : Edit) → IsAmong e xs → IsAmong e ys) × ((e : Edit) → IsAmong e ys → IsAmong e xs)
+
+-- two nodes, also at two moments, that took the same edits hold the same store
+abbrev pub SameTookSameStore : ℕ → List Event → List Event → Type 0
+SameTookSameStore n before later =
+    IsHonest (puts_of n (before ++ later)) →
+    (k l : ℕ) →
+    IfSome (slice_get (after before (blank n)).nodes k) (λ a. IfSome (slice_get (after (before ++ later) (blank n)).nodes l) (λ b.
+    AreSameEdits a.took b.took → a.store ≡ b.store))
+
+-- what a node took, or nothing where there is no such node
+abbrev pub took_by : Option Node → List Edit
+took_by None = []
+took_by (Some n) = n.took
+
+abbrev pub took : World → ℕ → List Edit
+took w k = took_by (slice_get w.nodes k)
+
+-- all these events name nodes below n alone
+abbrev pub AreWithin : ℕ → List Event → Type 0
+AreWithin n [] = Unit {0}
+AreWithin n (Put i e ∷ es) = (i < n) × AreWithin n es
+AreWithin n (Ask i ∷ es) = (i < n) × AreWithin n es
+AreWithin n (Cut j a paths ∷ es) = (j < n) × AreWithin n es
+AreWithin n (Give p k ∷ es) = (k < n) × AreWithin n es
+
+-- the world with one node more, with nothing in it
+abbrev pub with_new_node : World → World
+with_new_node w = record w { nodes = w.nodes ++ record { store = finmap.empty; took = [] } ∷ [] }

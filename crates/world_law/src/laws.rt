@@ -1,0 +1,23 @@
+//! Laws of worlds, for all lists of events.
+ghost use Rattle.std.specs.Prelude.{◌≡◌, ◌++◌, ℕ, None, List};
+ghost use Rattle.edit_sums.specs.Sums.{EntryMap, IsHonest, edits_of, join};
+ghost use Rattle.world_law.specs.declared.events.Event.{Event};
+ghost use Rattle.world_law.specs.Cuts.{cut, digest_of};
+ghost use Rattle.world_law.specs.Worlds.{EachStoreIsItsSum, SameTookSameStore};
+ghost use Rattle.world_law.specs.Took.{HoldsTheSum};
+
+/// Whatever happens, each node's store is the sum of what it took, and nodes that took the same
+/// hold the same, at any two moments: if the edits that are put are honest, which is to say that no
+/// version stands for two of them.
+pub fn converges()
+    ensures sums { (nodes : ℕ) (events : List Event) → EachStoreIsItsSum nodes events }
+
+    // The same, with what a node took told from the events alone.
+    ensures told { (nodes : ℕ) (events : List Event) → HoldsTheSum nodes events }
+    ensures same { (nodes : ℕ) (before later : List Event) → SameTookSameStore nodes before later }
+{}
+
+/// Where no version stands for two edits, a whole answer to one's own ask has all that one lacks.
+pub fn whole_answers()
+    ensures whole { (s t : EntryMap) → IsHonest (edits_of s ++ edits_of t) → join s (cut t (digest_of s) None) ≡ join s t }
+{}

@@ -1,0 +1,13 @@
+//! Worlds of nodes that put edits, ask, cut what was asked for, and are given what was cut: what
+//! happens in them, which edits each node took, and the law that each node's store is their sum.
+//!
+//! A world is told by its list of events alone (`specs/Worlds.antt`). Pieces of stores may be
+//! delayed, reordered, lost or repeated: any piece may be given to any node at any later time,
+//! again or never.
+#![tactic(auto)]
+
+mod events;
+mod laws;
+
+pub use events::{Event, Paths};
+pub use laws::{converges, whole_answers};
