@@ -2,6 +2,8 @@
 ghost use Rattle.std.specs.Prelude.{◌≡◌, ◌↔◌, IsTrue, IfOk, OnOk, OnErr, IfErr, filter};
 ghost use Rattle.std.specs.Option.{option_copied};
 ghost use Rattle.std.specs.FinMap as finmap;
+ghost use Rattle.std.specs.FinMap.{is_sorted};
+ghost use Rattle.load_path.specs.Paths.{path_cmp};
 ghost use Rattle.edit_sums.specs.Sums.{edit_of, high_of, join, sum_of, visible_at, with_edit, changed_paths, IsStoreBelow};
 ghost use Rattle.replica_store.specs.Folders.{is_in};
 
@@ -72,6 +74,28 @@ impl Store {
                 }
             }
         }
+    }
+
+    /// The store of these entries, whose paths rise. One pass, without memory.
+    pub fn from_entries(entries: Vec<(Path, Entry)>) -> Store
+        requires sorted { IsTrue (is_sorted path_cmp entries.items) }
+        ensures entries { finmap.entries result ≡ entries.items }
+    {
+        let high = greatest(&entries);
+        Store { entries, high }
+    }
+
+    /// All paths and entries in path order, given out. O(1), without memory.
+    pub fn into_entries(self) -> Vec<(Path, Entry)>
+        ensures entries { result.items ≡ finmap.entries self }
+    {
+        let Store { entries, high: _ } = self;
+        entries
+    }
+
+    /// The allocator that the store takes its memory from.
+    pub fn allocator(&self) -> Global {
+        *self.entries.allocator()
     }
 
     /// What is held at a path, a removal too. O(log n), without memory.
