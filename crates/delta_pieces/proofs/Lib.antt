@@ -1,0 +1,4 @@
+pub mod Orders
+pub mod Views
+pub mod Passes
+pub mod Gathers

@@ -1,0 +1,100 @@
+-- A pass over entries and versions together.
+use Rattle.std.specs.Prelude.{slice_get, filter}
+use Rattle.std.proofs.lemmas.List.{append-nil}
+use Rattle.std.proofs.lemmas.List.Elements.{filter_more}
+use Rattle.sorted_pairs.specs.Places.{IsNotBelow}
+use Rattle.std.proofs.Common.{◌≡◌, ◌≢◌, ℕ, suc, ◌+◌, ◌<◌, ◌++◌, take, drop, get_or, drop-cons, add-one, Bool, true, false, cond, Some, None, List, [], ◌∷◌, length, IsTrue, refl, sym, ap, ◌∙◌}
+use Rattle.std.specs.declared.cmp.Ordering.{Ordering}
+use Rattle.std.specs.declared.cmp.Ordering.TheVariants.{Less, Equal, Greater}
+use Rattle.std.specs.Ordering.{is_eq, eq_by_cmp, ordering_reverse}
+use Rattle.std.specs.Cmp.{tied_itself}
+use Rattle.std.specs.FinMap.Entries.{find, is_sorted, below_all}
+use Rattle.join_law.specs.declared.versions.Version.{Version}
+use Rattle.load_path.specs.Paths.{PathParts, path_cmp}
+use Rattle.load_path.specs.PathLaws.{path_cmp_total}
+use Rattle.edit_sums.specs.declared.entries.Entry.{Entry}
+use Rattle.edit_sums.specs.GreatestLaws.{tied}
+use Rattle.sorted_pairs.specs.PlaceLaws.{both_first, both_second, is_less, find_before}
+
+-- what is left of the versions tells the same as all of them, at the path of each of these entries
+abbrev pub TellsTheSame : (left versions : List (PathParts × Version)) → List (PathParts × Entry) → Type 0
+TellsTheSame left versions [] = Unit {0}
+TellsTheSame left versions (e ∷ es) = (find path_cmp e.0 left ≡ find path_cmp e.0 versions) × TellsTheSame left versions es
+
+pub tells_all : (versions : List (PathParts × Version)) (es : List (PathParts × Entry)) → TellsTheSame versions versions es
+tells_all versions [] = tt
+tells_all versions (e ∷ es) = (refl, tells_all versions es)
+
+-- a pair below a path says nothing of paths that are not
+pub find_past : (k q : PathParts) (next : PathParts × Version) (further : List (PathParts × Version)) → path_cmp next.0 k ≡ Less → path_cmp q k ≢ Less → find path_cmp q (next ∷ further) ≡ find path_cmp q further
+find_past k q next further below not_below = by (eq_by_cmp path_cmp q next.0) refl
+  where
+    by : (b : Bool) → eq_by_cmp path_cmp q next.0 ≡ b → find path_cmp q (next ∷ further) ≡ find path_cmp q further
+    by true e = absurd (not_below (ap (λ (r : PathParts). path_cmp r k) (tied q next.0 e) ∙ below))
+    by false e = ap (λ b. cond b (Some next.1) (find path_cmp q further)) e
+
+greater : (x y : PathParts) → path_cmp x y ≡ Less → path_cmp y x ≢ Less
+greater x y h e =
+    let f : path_cmp y x ≡ Greater = path_cmp_total.antisymm y x ∙ ap ordering_reverse h in
+    cc
+
+itself : (x : PathParts) → path_cmp x x ≢ Less
+itself x e = let f : path_cmp x x ≡ Equal = tied_itself path_cmp_total x in cc
+
+-- versions below an entry's path are not needed from there on
+pub tells_from : (e : PathParts × Entry) (es : List (PathParts × Entry)) (left further versions : List (PathParts × Version)) → IsTrue (is_sorted path_cmp (e ∷ es)) →
+    ((q : PathParts) → path_cmp q e.0 ≢ Less → find path_cmp q further ≡ find path_cmp q left) →
+    TellsTheSame left versions (e ∷ es) → TellsTheSame further versions (e ∷ es)
+tells_from e es left further versions s held t = (held e.0 (itself e.0) ∙ t.0, behind es (both_first _ _ s) t.1)
+  where
+    behind : (fs : List (PathParts × Entry)) → IsTrue (below_all path_cmp e.0 fs) → TellsTheSame left versions fs → TellsTheSame further versions fs
+    behind [] b u = tt
+    behind (f ∷ fs) b u = (held f.0 (greater e.0 f.0 (is_less _ (both_first _ _ b))) ∙ u.0, behind fs (both_second _ _ b) u.1)
+
+-- ---- one entry more
+
+module _ (p : PathParts × Entry → Bool) (es : List (PathParts × Entry)) (i : ℕ) (e : PathParts × Entry) (h : i < length es) (is : e ≡ get_or es i e) where
+  more : filter p (take (i + 1) es) ≡ filter p (take i es) ++ cond (p e) (e ∷ []) []
+  more = filter_more p es i e h ∙ ap (λ (x : PathParts × Entry). filter p (take i es) ++ cond (p x) (x ∷ []) []) (sym is)
+
+  pub with_next : p e ≡ true → filter p (take i es) ++ e ∷ [] ≡ filter p (take (i + 1) es)
+  with_next t = sym (more ∙ ap (λ b. filter p (take i es) ++ cond b (e ∷ []) []) t)
+
+  pub without_next : p e ≡ false → filter p (take i es) ≡ filter p (take (i + 1) es)
+  without_next t = sym (more ∙ ap (λ b. filter p (take i es) ++ cond b (e ∷ []) []) t ∙ append-nil (filter p (take i es)))
+
+  pub next_of : drop i es ≡ e ∷ drop (i + 1) es
+  next_of = rw (add-one) (drop-cons es i e h ∙ ap (λ (x : PathParts × Entry). x ∷ drop (suc i) es) (sym is))
+
+-- ---- the first of the versions, where none is below a path
+
+is_equal : (r : Ordering) → is_eq r ≡ true → r ≡ Equal
+is_equal Less h = cc (h)
+is_equal Equal h = refl
+is_equal Greater h = cc (h)
+
+is_greater : (r : Ordering) → r ≢ Less → is_eq r ≡ false → r ≡ Greater
+is_greater Less n h = absurd (n refl)
+is_greater Equal n h = cc (h)
+is_greater Greater n h = refl
+
+turned : (x k : PathParts) (r : Ordering) → path_cmp x k ≡ r → path_cmp k x ≡ ordering_reverse r
+turned x k r h = path_cmp_total.antisymm k x ∙ ap ordering_reverse h
+
+module _ (k : PathParts) where
+  -- it stands at the path
+  pub find_first : (es : List (PathParts × Version)) (d : PathParts × Version) → Some d ≡ slice_get es 0 → is_eq (path_cmp d.0 k) ≡ true → find path_cmp k es ≡ Some d.1
+  find_first [] d is h = cc
+  find_first (e ∷ es) d is h =
+      let one : d ≡ e = cc in
+      let tied : path_cmp e.0 k ≡ Equal = ap (λ (p : PathParts × Version). path_cmp p.0 k) (sym one) ∙ is_equal _ h in
+      ap (λ r. cond (is_eq r) (Some e.1) (find path_cmp k es)) (turned e.0 k Equal tied) ∙ ap (λ (p : PathParts × Version). Some p.1) (sym one)
+
+  -- it stands behind the path
+  pub find_before_first : (es : List (PathParts × Version)) (d : PathParts × Version) → Some d ≡ slice_get es 0 → IsTrue (is_sorted path_cmp es) → IsNotBelow path_cmp k es → is_eq (path_cmp d.0 k) ≡ false → find path_cmp k es ≡ None
+  find_before_first [] d is s n h = refl
+  find_before_first (e ∷ es) d is s n h =
+      let one : d ≡ e = cc in
+      let other : is_eq (path_cmp e.0 k) ≡ false = ap (λ (p : PathParts × Version). is_eq (path_cmp p.0 k)) (sym one) ∙ h in
+      let less : path_cmp k e.0 ≡ Less = turned e.0 k Greater (is_greater _ n other) in
+      ap (λ r. cond (is_eq r) (Some e.1) (find path_cmp k es)) less ∙ find_before path_cmp k path_cmp_total e.0 less es (both_first _ _ s)

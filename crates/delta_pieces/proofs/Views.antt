@@ -1,0 +1,57 @@
+-- Digests and pieces, seen as maps.
+use Rattle.std.proofs.lemmas.List.{map-append, take-append-drop}
+use Rattle.std.proofs.Common.{◌≡◌, ℕ, ◌++◌, take, drop, Bool, true, false, cond, None, List, [], ◌∷◌, IsTrue, length, map, refl, sym, ap, ◌∙◌}
+use Rattle.std.specs.Prelude.{filter}
+use Rattle.std.specs.FinMap as finmap
+use Rattle.std.specs.FinMap.{find, is_sorted, same_map}
+use Rattle.join_law.specs.declared.versions.Version.{Version}
+use Rattle.load_path.specs.Paths.{PathParts, path_cmp}
+use Rattle.load_path.specs.PathLaws.{path_cmp_total, path_cmp-IsAntisymmetric}
+use Rattle.edit_sums.specs.declared.entries.Entry.{Entry}
+use Rattle.edit_sums.specs.declared.entries.Edit.{Edit}
+use Rattle.edit_sums.specs.Sums.{EntryMap, edit_of, sum_of, join}
+use Rattle.edit_sums.specs.SumLaws.{sum_of-edits_of}
+use Rattle.world_law.specs.Cuts.{VersionMap, digest_of, is_newer, is_wanted, cut}
+use Rattle.delta_pieces.proofs.Orders.{to_T}
+
+-- the map of sorted versions
+abbrev pub versions_map : List (PathParts × Version) → VersionMap
+versions_map ps = finmap.from_sorted ps
+
+pub get-versions : (ps : List (PathParts × Version)) (q : PathParts) → IsTrue (is_sorted path_cmp ps) → finmap.get (versions_map ps) q ≡ find path_cmp q ps
+get-versions ps q s = finmap.get-from_sorted path_cmp ps q (to_T _ s)
+
+pub entries-versions : (ps : List (PathParts × Version)) → IsTrue (is_sorted path_cmp ps) → finmap.entries (versions_map ps) ≡ ps
+entries-versions ps s = finmap.entries-from_sorted path_cmp ps (to_T _ s)
+
+pub no_versions : versions_map [] ≡ finmap.empty
+no_versions = finmap.empty_of_len _ (finmap.len-entries _ ∙ ap length (finmap.entries-from_sorted path_cmp [] tt))
+
+-- the versions of what is held are its digest
+pub versions_are_digest : (d : VersionMap) (s : EntryMap) → finmap.entries d ≡ map (λ p. (p.0, p.1.version)) (finmap.entries s) → d ≡ digest_of s
+versions_are_digest d s is =
+    same_map path_cmp_total path_cmp-IsAntisymmetric d (digest_of s) (λ q.
+    finmap.get-entries d q ∙ ap (find path_cmp q) is ∙ sym (finmap.get-from_entries path_cmp_total (map (λ p. (p.0, p.1.version)) (finmap.entries s)) q))
+
+-- edits that pass a test are those of the entries that pass it
+filter_edits : (p : Edit → Bool) (es : List (PathParts × Entry)) → map edit_of (filter (λ e. p (edit_of e)) es) ≡ filter p (map edit_of es)
+filter_edits p [] = refl
+filter_edits p (e ∷ es) =
+    elim (p (edit_of e)) as (λ b. map edit_of (cond b (e ∷ filter (λ x. p (edit_of x)) es) (filter (λ x. p (edit_of x)) es)) ≡ cond b (edit_of e ∷ filter p (map edit_of es)) (filter p (map edit_of es))) [
+      | true ↦ ap (λ (l : List Edit). edit_of e ∷ l) (filter_edits p es)
+      | false ↦ filter_edits p es
+    ]
+
+-- the entries that are newer are what is cut
+pub newer_is_cut : (piece s : EntryMap) (d : VersionMap) → finmap.entries piece ≡ filter (λ p. is_newer p.1.version (find path_cmp p.0 (finmap.entries d))) (finmap.entries s) → piece ≡ cut s d None
+newer_is_cut piece s d is =
+    sym (sum_of-edits_of piece) ∙
+    ap (λ es. sum_of (map edit_of es)) (is ∙ λ i. filter (λ (p : PathParts × Entry). is_newer p.1.version (sym (finmap.get-entries d p.0) i)) (finmap.entries s)) ∙
+    ap sum_of (filter_edits (is_wanted d None) (finmap.entries s))
+
+-- the first entries and the others, joined, are all of them
+pub parts_are_whole : (n : ℕ) (first second s : EntryMap) → finmap.entries first ≡ take n (finmap.entries s) → finmap.entries second ≡ drop n (finmap.entries s) → join first second ≡ s
+parts_are_whole n first second s f g =
+    (λ i. sum_of (map edit_of (f i) ++ map edit_of (g i))) ∙
+    ap sum_of (sym (map-append edit_of (take n (finmap.entries s)) (drop n (finmap.entries s))) ∙ ap (map edit_of) (take-append-drop n (finmap.entries s))) ∙
+    sum_of-edits_of s

@@ -1,0 +1,18 @@
+use Rattle.std.proofs.Common.{◌≡◌, ap, ◌∙◌, map}
+use Rattle.std.specs.FinMap as finmap
+use Rattle.edit_sums.specs.declared.entries.Entry.{Entry}
+use Rattle.delta_pieces.proofs.Orders.{entries_rise, map_rises}
+use Rattle.delta_pieces.proofs.Views.{versions_are_digest}
+use Rattle.delta_pieces.proofs.asks.digest.Goals as goal
+
+pub from_versions-requires : goal.from_versions-requires
+from_versions-requires c = record {
+  sorted = rw (c.in_ok-versions.ensures.versions, c.entries.ensures.entries) (map_rises (λ (x : Entry). x.version) (finmap.entries c.store.result.now) ∙ entries_rise c.store.result.now);
+}
+
+pub returns : goal.returns
+returns c =
+    let held : finmap.entries c.from_versions.result ≡ map (λ p. (p.0, p.1.version)) (finmap.entries c.args.replica.now.store) =
+    c.from_versions.ensures.versions ∙ c.in_ok-versions.ensures.versions ∙ ap (map (λ p. (p.0, p.1.version))) (c.entries.ensures.entries ∙ ap finmap.entries c.store.ensures.store)
+    in
+    record { digest = versions_are_digest _ _ held }

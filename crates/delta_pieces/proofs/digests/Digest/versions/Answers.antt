@@ -1,0 +1,7 @@
+use Rattle.std.proofs.Common.{ap, sym, ◌∙◌}
+use Rattle.std.specs.FinMap as finmap
+use Rattle.delta_pieces.proofs.Views.{entries-versions}
+use Rattle.delta_pieces.proofs.digests.Digest.versions.Goals as goal
+
+pub returns : goal.returns
+returns c = record { versions = c.deref.ensures.value ∙ sym (entries-versions _ c.self.invariant) ∙ ap finmap.entries c.self.view_is }

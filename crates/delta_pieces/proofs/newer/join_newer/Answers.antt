@@ -1,0 +1,23 @@
+use Rattle.std.proofs.Common.{◌≡◌, subst, sym, ap, ◌∙◌}
+use Rattle.std.specs.Prelude.{OnOk}
+use Rattle.edit_sums.specs.Sums.{EntryMap, edit_of, with_edit}
+use Rattle.world_law.specs.Cuts.{is_newer}
+use Rattle.delta_pieces.proofs.Gathers.{join_absent, join_older, join_newer}
+use Rattle.delta_pieces.proofs.newer.join_newer.Goals as goal
+
+pub returns-in_default : goal.returns-in_default
+returns-in_default c = record { ok = join_absent _ _ _ _ (sym c.in_default.ensures.held) }
+
+pub returns-then-not-is_newer : goal.returns-then-not-is_newer
+returns-then-not-is_newer c =
+    let older = ap (is_newer c.in-Some.entry.now.version) (sym c.get-2.ensures.version) ∙ sym c.is_newer.ensures.newer ∙ c.if-not-is_newer.true in
+    record { ok = join_older _ _ _ _ c.in-Some.entry.now (sym c.in-Some.ensures.held) older }
+
+pub returns : goal.returns
+returns c =
+    let newer = ap (is_newer c.in-Some.entry.now.version) (sym c.get-2.ensures.version) ∙ sym c.is_newer.ensures.newer ∙ c.if-not-is_newer.false in
+    let joined = join_newer _ _ c.args.path.now c.args.newer.now c.in-Some.entry.now (sym c.in-Some.ensures.held) newer in
+    let same : with_edit c.args.newer.now (edit_of (c.in_ok-try_clone.field-0, c.in_ok-version.field-0)) ≡ with_edit c.args.newer.now (edit_of (c.args.path.now, c.in-Some.entry.now)) =
+    λ i. with_edit c.args.newer.now (edit_of (c.in_ok-try_clone.ensures.copy i, c.in_ok-version.ensures.copy i))
+    in
+    record { ok = subst (λ (m : EntryMap). OnOk c.join_edit.result (c.join_edit.new.self ≡ m)) (same ∙ joined) c.join_edit.ensures.ok }

@@ -1,0 +1,11 @@
+use Rattle.std.proofs.Common.{Some, ap, ◌∙◌}
+use Rattle.world_law.specs.Cuts.{cut, only_at}
+use Rattle.delta_pieces.proofs.Gathers.{only_is_cut}
+use Rattle.delta_pieces.proofs.pieces.Piece.only.Goals as goal
+
+pub returns : goal.returns
+returns c = record {
+  only =
+      c.in_ok-store.ensures.cut ∙ ap (λ ask. cut c.self.inside.store ask (Some c.args.paths.now)) c.new-nothing.ensures.empty
+      ∙ only_is_cut c.args.paths.now c.self.inside.store ∙ ap (only_at c.args.paths.now) c.self.view_is;
+}

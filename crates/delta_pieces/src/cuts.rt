@@ -1,0 +1,43 @@
+//! What is cut for a digest.
+ghost use Rattle.std.specs.Prelude.{◌≡◌, ◌++◌, Some, None, IfOk};
+ghost use Rattle.edit_sums.specs.Sums.{EntryMap, IsHonest, edits_of, join};
+ghost use Rattle.world_law.specs.Cuts.{cut, digest_of};
+
+use crate::digests::Digest;
+use crate::newer::{newer_at, newer_entries};
+use crate::pieces::Piece;
+use load_path::Path;
+use replica_store::{Replica, Store};
+use std::alloc::{AllocError, Global};
+
+/// Copies of what a replica holds whose version is greater than the digest's, or whose path the
+/// digest lacks. Where no version stands for two edits, whoever asked with its own digest lacks
+/// nothing of the replica once it has taken them.
+///
+/// One pass over the entries and the versions together; only what is carried is copied. It fails
+/// for want of memory alone.
+pub fn delta_for(alloc: Global, replica: &Replica, asked: &Digest) -> Result<Piece, AllocError>
+    ensures cut { IfOk result (λ piece. piece ≡ cut replica.now.store asked.now None) }
+    ensures whole { IfOk result (λ piece. (s : EntryMap) → asked.now ≡ digest_of s →
+        IsHonest (edits_of s ++ edits_of replica.now.store) → join s piece ≡ join s replica.now.store) }
+{
+    let newer = newer_entries(alloc, replica.store().entries(), asked.versions())?;
+    Ok(Piece::from_store(Store::from_entries(newer)))
+}
+
+/// The same at these paths alone, which are read as a set.
+///
+/// For each path a search in the store and one in the digest, and at most one shift of what was
+/// found before, none where the paths rise; only what is carried is copied. It fails for want of
+/// memory alone.
+pub fn delta_at(
+    alloc: Global,
+    replica: &Replica,
+    asked: &Digest,
+    paths: &[Path],
+) -> Result<Piece, AllocError>
+    ensures cut { IfOk result (λ piece. piece ≡ cut replica.now.store asked.now (Some paths.now)) }
+{
+    let newer = newer_at(alloc, replica.store(), asked, paths)?;
+    Ok(Piece::from_store(newer))
+}

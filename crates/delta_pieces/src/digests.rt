@@ -1,0 +1,94 @@
+//! Digests.
+ghost use Rattle.std.specs.Prelude.{◌≡◌, IsTrue, IfOk};
+ghost use Rattle.std.specs.FinMap as finmap;
+ghost use Rattle.std.specs.FinMap.{is_sorted};
+ghost use Rattle.load_path.specs.Paths.{path_cmp};
+
+use join_law::{Key, Version};
+use load_path::Path;
+use sorted_pairs::seek;
+use std::alloc::{AllocError, Global};
+use std::marker::Model;
+
+/// What a replica asks with: the version of each entry that it holds, by path.
+///
+/// It has no contents, so it is small beside the store that it tells of.
+#[derive(Debug, Drop)]
+pub struct Digest {
+    // In path order.
+    versions: Vec<(Path, Version)>,
+}
+
+impl Model for Digest {
+    ghost use Rattle.std.specs.Prelude.{IsTrue};
+    ghost use Rattle.std.specs.FinMap as finmap;
+    ghost use Rattle.std.specs.FinMap.{is_sorted};
+    ghost use Rattle.join_law.specs.contracts.versions.Version as version;
+    ghost use Rattle.load_path.specs.Paths.{path_cmp};
+    ghost use Rattle.load_path.specs.PathLaws.{coded_path};
+    ghost use Rattle.world_law.specs.Cuts.{VersionMap};
+
+    ghost Value = { VersionMap };
+
+    ghost coded = { finmap.code coded_path (version.the_row).coded };
+
+    ghost view = { λ d. finmap.from_sorted d.versions.items };
+
+    ghost invariant = { λ d. IsTrue (is_sorted path_cmp d.versions.items) };
+}
+
+impl Digest {
+    // A digest of nothing. It takes no memory.
+    pub(crate) fn new(alloc: Global) -> Digest
+        ensures empty { result ≡ finmap.empty }
+    {
+        Digest {
+            versions: Vec::new(alloc),
+        }
+    }
+
+    // The digest of these versions, whose paths rise. It takes no memory.
+    pub(crate) fn from_versions(versions: Vec<(Path, Version)>) -> Digest
+        requires sorted { IsTrue (is_sorted path_cmp versions.items) }
+        ensures versions { finmap.entries result ≡ versions.items }
+    {
+        Digest { versions }
+    }
+
+    /// The version at a path. O(log n), without memory.
+    pub fn get(&self, path: &Path) -> Option<Version>
+        ensures version { result ≡ finmap.get self.now path.now }
+    {
+        match seek(&self.versions, path) {
+            Ok(at) => Some(self.versions[at].1),
+            Err(_) => None,
+        }
+    }
+
+    /// All paths and versions in path order, without memory.
+    pub fn versions(&self) -> &[(Path, Version)]
+        ensures versions { result.now ≡ finmap.entries self.now }
+    {
+        &self.versions
+    }
+
+    /// An equal digest. Linear; it fails for want of memory alone.
+    pub fn try_clone(&self) -> Result<Digest, AllocError>
+        ensures copy { IfOk result (λ copy. copy ≡ self.now) }
+    {
+        Ok(Digest {
+            versions: copy_of(*self.versions.allocator(), &self.versions)?,
+        })
+    }
+}
+
+// A copy of the versions.
+fn copy_of(alloc: Global, versions: &[(Path, Version)]) -> Result<Vec<(Path, Version)>, AllocError>
+    ensures copy { IfOk result (λ copy. copy.items ≡ versions.now) }
+{
+    let mut copy = Vec::with_capacity(alloc, versions.len())?;
+    for (path, version) in versions {
+        copy.push((path.try_clone()?, *version))?;
+    }
+    Ok(copy)
+}

@@ -1,0 +1,24 @@
+//! What replicas send each other: digests, which tell the version at each path, and pieces, which
+//! carry entries.
+//!
+//! A piece that is cut for a digest carries the entries whose version is greater than the digest's,
+//! or whose path the digest lacks. Both are plain values: a digest may be old, and a piece may be
+//! split, late, lost or taken twice, since taking it joins it, as stores are joined (Shapiro,
+//! Preguica, Baquero, Zawirski, "Conflict-free Replicated Data Types", 2011).
+#![tactic(auto)]
+
+mod asks;
+mod cuts;
+mod digests;
+mod newer;
+mod pieces;
+mod takes;
+#[cfg(test)]
+mod tests;
+
+pub use asks::digest;
+pub use cuts::{delta_at, delta_for};
+pub use digests::Digest;
+pub use join_law::Rest;
+pub use pieces::Piece;
+pub use takes::{TakeFault, take};

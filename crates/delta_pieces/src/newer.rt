@@ -1,0 +1,116 @@
+//! What is newer than what was asked with.
+ghost use Rattle.std.specs.Prelude.{◌≡◌, ◌≢◌, [], ◌∷◌, Some, IsTrue, IfOk, OnOk, filter};
+ghost use Rattle.std.specs.declared.cmp.Ordering.TheVariants.{Less};
+ghost use Rattle.std.specs.FinMap.{is_sorted, find};
+ghost use Rattle.load_path.specs.Paths.{PathParts, path_cmp};
+ghost use Rattle.edit_sums.specs.Sums.{join};
+ghost use Rattle.sorted_pairs.specs.Places.{IsNotBelow};
+ghost use Rattle.world_law.specs.Cuts.{cut, is_newer};
+
+use crate::digests::Digest;
+use edit_sums::{Edit, Entry};
+use join_law::{Key, Version};
+use load_path::Path;
+use replica_store::Store;
+use std::alloc::{AllocError, Global};
+
+// Copies of the entries that are newer. One pass over entries and versions together.
+pub fn newer_entries(
+    alloc: Global,
+    entries: &[(Path, Entry)],
+    versions: &[(Path, Version)],
+) -> Result<Vec<(Path, Entry)>, AllocError>
+    requires sorted { IsTrue (is_sorted path_cmp entries.now) }
+    requires versions_sorted { IsTrue (is_sorted path_cmp versions.now) }
+    ensures newer { IfOk result (λ newer. newer.items ≡ filter (λ p. is_newer p.1.version (find path_cmp p.0 versions.now)) entries.now) }
+{
+    let mut newer = Vec::new(alloc);
+    let mut left = versions;
+    for (path, entry) in entries {
+        left = from_path(left, path);
+        if is_newer(entry.version, version_at(left, path)) {
+            newer.push((path.try_clone()?, entry.try_clone()?))?;
+        }
+    }
+    Ok(newer)
+}
+
+// The versions whose paths are not below the given one. Linear in those that are.
+fn from_path<'a>(versions: &'a [(Path, Version)], path: &Path) -> &'a [(Path, Version)]
+    requires sorted { IsTrue (is_sorted path_cmp versions.now) }
+    ensures sorted { IsTrue (is_sorted path_cmp result.now) }
+    ensures next { IsNotBelow path_cmp path.now result.now }
+    ensures held { (q : PathParts) → path_cmp q path.now ≢ Less → find path_cmp q result.now ≡ find path_cmp q versions.now }
+{
+    let mut left = versions;
+    while let Some((next, further)) = left.split_first() {
+        if !next.0.cmp(path).is_lt() {
+            return left;
+        }
+        left = further;
+    }
+    left
+}
+
+// The version at a path that no other path is below.
+fn version_at(versions: &[(Path, Version)], path: &Path) -> Option<Version>
+    requires sorted { IsTrue (is_sorted path_cmp versions.now) }
+    requires next { IsNotBelow path_cmp path.now versions.now }
+    ensures version { result ≡ find path_cmp path.now versions.now }
+{
+    let next = versions.first()?;
+    if next.0.cmp(path).is_eq() {
+        Some(next.1)
+    } else {
+        None
+    }
+}
+
+// Whether a version is greater than the one asked with, or none was.
+fn is_newer(version: Version, asked: Option<Version>) -> bool
+    ensures newer { result ≡ is_newer version asked }
+{
+    match asked {
+        None => true,
+        Some(asked) => version.cmp(&asked).is_gt(),
+    }
+}
+
+// What is newer at these paths: for each path a search, and at most one shift of what was found.
+pub fn newer_at(
+    alloc: Global,
+    store: &Store,
+    asked: &Digest,
+    paths: &[Path],
+) -> Result<Store, AllocError>
+    ensures cut { IfOk result (λ newer. newer ≡ cut store.now asked.now (Some paths.now)) }
+{
+    let mut newer = Store::new(alloc);
+    for path in paths {
+        join_newer(&mut newer, store, asked, path)?;
+    }
+    Ok(newer)
+}
+
+// Joins what is newer at a path.
+fn join_newer(
+    newer: &mut Store,
+    store: &Store,
+    asked: &Digest,
+    path: &Path,
+) -> Result<(), AllocError>
+    ensures ok { OnOk result (newer.new ≡ join newer.old (cut store.now asked.now (Some (path.now ∷ [])))) }
+{
+    let Some(entry) = store.get(path) else {
+        return Ok(());
+    };
+    if !is_newer(entry.version, asked.get(path)) {
+        return Ok(());
+    }
+    let Entry { version, content } = entry.try_clone()?;
+    newer.join_edit(Edit {
+        path: path.try_clone()?,
+        version,
+        content,
+    })
+}

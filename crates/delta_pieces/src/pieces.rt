@@ -1,0 +1,124 @@
+//! Pieces.
+ghost use Rattle.std.specs.Prelude.{◌≡◌, ◌↔◌, [], length, take, drop, IsTrue, IfOk, IfErr};
+ghost use Rattle.std.specs.FinMap as finmap;
+ghost use Rattle.edit_sums.specs.Sums.{join, sum_of};
+ghost use Rattle.world_law.specs.Cuts.{only_at};
+
+use crate::digests::Digest;
+use crate::newer::newer_at;
+use edit_sums::Edit;
+use join_law::Rest;
+use load_path::Path;
+use replica_store::Store;
+use std::alloc::{AllocError, Global};
+use std::marker::Model;
+
+/// Entries by path, to be sent and taken. Removals are among them.
+#[derive(Debug, Drop)]
+pub struct Piece {
+    store: Store,
+}
+
+impl Model for Piece {
+    ghost use Rattle.std.specs.FinMap as finmap;
+    ghost use Rattle.load_path.specs.PathLaws.{coded_path};
+    ghost use Rattle.edit_sums.specs.contracts.entries.Entry as entry;
+    ghost use Rattle.edit_sums.specs.Sums.{EntryMap};
+
+    ghost Value = { EntryMap };
+
+    ghost coded = { finmap.code coded_path (entry.the_row).coded };
+
+    ghost view = { λ p. p.store };
+}
+
+impl Piece {
+    /// The sum of some edits, as a piece. O(n log n). It fails for want of memory alone.
+    pub fn from_edits(alloc: Global, edits: &[Edit]) -> Result<Piece, AllocError>
+        ensures sum { IfOk result (λ piece. piece ≡ sum_of edits.now) }
+    {
+        Ok(Piece {
+            store: Store::from_edits(alloc, edits)?,
+        })
+    }
+
+    // The piece of this store. It takes no memory.
+    pub(crate) fn from_store(store: Store) -> Piece
+        ensures store { result ≡ store }
+    {
+        Piece { store }
+    }
+
+    // What it carries, given out.
+    pub(crate) fn into_store(self) -> Store
+        ensures store { result ≡ self }
+    {
+        let Piece { store } = self;
+        store
+    }
+
+    /// What it carries, lent.
+    pub fn store(&self) -> &Store
+        ensures store { result.now ≡ self.now }
+    {
+        &self.store
+    }
+
+    /// How many paths it carries. O(1), without memory.
+    pub fn len(&self) -> usize
+        ensures len { result ≡ length (finmap.entries self.now) }
+    {
+        self.store.entries().len()
+    }
+
+    /// Whether it carries nothing. O(1), without memory.
+    pub fn is_empty(&self) -> bool
+        ensures empty { IsTrue result ↔ (finmap.entries self.now ≡ []) }
+    {
+        self.store.entries().is_empty()
+    }
+
+    /// Copies of what it carries at these paths, which are read as a set. For each path a search,
+    /// and at most one shift of what was found before, none where the paths rise. It fails for want
+    /// of memory alone.
+    pub fn only(&self, paths: &[Path]) -> Result<Piece, AllocError>
+        ensures only { IfOk result (λ piece. piece ≡ only_at paths.now self.now) }
+    {
+        let alloc = self.store.allocator();
+        let nothing = Digest::new(alloc);
+        let store = newer_at(alloc, &self.store, &nothing, paths)?;
+        Ok(Piece { store })
+    }
+
+    /// Its first `at` entries in path order, and the others. Where it has no more than `at`, the
+    /// second part is empty. One pass; no entry is copied.
+    ///
+    /// Where memory is refused, the piece comes back.
+    pub fn split(self, at: usize) -> Result<(Piece, Piece), Rest<Piece>>
+        ensures first { IfOk result (λ parts. finmap.entries parts.0 ≡ take at (finmap.entries self)) }
+        ensures second { IfOk result (λ parts. finmap.entries parts.1 ≡ drop at (finmap.entries self)) }
+        ensures joined { IfOk result (λ parts. join parts.0 parts.1 ≡ self) }
+        ensures refused { IfErr result (λ fault. fault.rest ≡ self) }
+    {
+        let mut front = self.store.into_entries();
+        let at = at.min(front.len());
+        match front.split_off(at) {
+            Ok(back) => Ok((
+                Piece::from_store(Store::from_entries(front)),
+                Piece::from_store(Store::from_entries(back)),
+            )),
+            Err(_) => Err(Rest {
+                rest: Piece::from_store(Store::from_entries(front)),
+            }),
+        }
+    }
+
+    /// An equal piece. Linear; it fails for want of memory alone.
+    pub fn try_clone(&self) -> Result<Piece, AllocError>
+        ensures copy { IfOk result (λ copy. copy ≡ self.now) }
+    {
+        Ok(Piece {
+            store: self.store.try_clone()?,
+        })
+    }
+}
