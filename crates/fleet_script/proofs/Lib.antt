@@ -1,5 +1,9 @@
+pub mod Lawful
 pub mod Nodes
+pub mod Pieces
 pub mod Steps
+pub mod Between
 pub mod Lines
 pub mod Runs
 pub mod OneAnswer
+pub mod Reach

@@ -6,20 +6,23 @@ use Rattle.load_path.specs.Paths.{PathParts, path_of}
 use Rattle.load_path.specs.declared.paths.PathFault.{PathFault}
 use Rattle.load_path.specs.declared.paths.PathFault.TheVariants as path
 use Rattle.edit_sums.specs.declared.contents.Content.{Content}
-use Rattle.edit_sums.specs.declared.contents.Content.TheVariants.{Gone, File}
-use Rattle.edit_sums.specs.Limits.{is_file}
+use Rattle.edit_sums.specs.declared.contents.Content.TheVariants as content
+use Rattle.edit_sums.specs.Limits.{is_file, is_target}
 use Rattle.edit_sums.specs.Sums.{high_of, visible_at, changed_paths}
 use Rattle.script_words.specs.Lines.{lines_of, is_passed_over}
 use Rattle.script_words.specs.TextLaws.{spells_one}
 use Rattle.fleet_script.specs.declared.commands.Command.{Command}
-use Rattle.fleet_script.specs.declared.commands.Command.TheVariants.{Node, Put, Remove, Merge, Files, Same}
+use Rattle.fleet_script.specs.declared.commands.Command.TheVariants.{Node, Put, Link, Remove, Merge, Part, Send, Sweep, Files, Same}
 use Rattle.fleet_script.specs.declared.commands.Refusal.{Refusal}
-use Rattle.fleet_script.specs.declared.commands.Refusal.TheVariants.{LineTooLong, UnknownNode, BadText, NodeTaken, WriterTaken, Directory, Depth, Component, FileTooLarge, VersionsSpent, Nothing}
+use Rattle.fleet_script.specs.declared.commands.Refusal.TheVariants.{LineTooLong, UnknownNode, UnknownPiece, BadText, NodeTaken, WriterTaken, Directory, Depth, Component, FileTooLarge, BadLink, VersionsSpent, Nothing}
 use Rattle.fleet_script.specs.Commands.{command_of}
-use Rattle.fleet_script.specs.Does.{Does, Gives, Refuses, AtNode, AtPath, RefusesPath, WithText, WithFile, Writes}
+use Rattle.fleet_script.specs.Does.{Does, Gives, Refuses, AtNode, AtPiece, AtPath, AtPaths, RefusesPath, WithText, WithFile, WithTarget, Writes, if_any, paths_of}
 use Rattle.fleet_script.specs.Scripts.{Run, AnswersLine, AnswersCommand, Answers, Says}
-use Rattle.fleet_script.specs.Texts.{Outcome, ok_line, changed_line, files_text, error_line, outcome_text}
-use Rattle.fleet_script.specs.Worlds.{World, blank, put, merge, held, happened, with_node, node_named, has_writer, next_edit}
+use Rattle.fleet_script.specs.Texts.{Outcome, ok_line, changed_line, entries_line, files_text, error_line, outcome_text}
+use Rattle.std.specs.FinMap as finmap
+use Rattle.world_law.specs.declared.events.Event.TheVariants as event
+use Rattle.world_law.specs.Cuts.{cut, digest_of}
+use Rattle.fleet_script.specs.Worlds.{World, blank, held, happened, with_node, node_named, has_writer, next_edit, merged, parted, piece_named, swept}
 
 -- two outcomes, and two worlds after them, are the same
 abbrev IsSame : Outcome → World → Outcome → World → Type 0
@@ -47,14 +50,20 @@ module _ (old : World) (a b : Outcome) (x y : World) where
   node_same : (name : List ℕ) (P Q : ℕ → Type 0) → AtNode old a x name P → AtNode old b y name Q → ((k : ℕ) → P k → Q k → IsSame a x b y) → IsSame a x b y
   node_same name P Q p q f = option_both (node_named old.nodes name) _ _ P Q (IsSame a x b y) p q (refuses_same UnknownNode) f
 
+  path_refused_same : (fault : PathFault) → RefusesPath old a x fault → RefusesPath old b y fault → IsSame a x b y
+  path_refused_same path.Directory p q = refuses_same Directory p q
+  path_refused_same path.Depth p q = refuses_same Depth p q
+  path_refused_same path.Component p q = refuses_same Component p q
+  path_refused_same path.Memory p q = absurd p
+
   path_same : (text : List ℕ) (P Q : PathParts → Type 0) → AtPath old a x text P → AtPath old b y text Q → ((at : PathParts) → P at → Q at → IsSame a x b y) → IsSame a x b y
-  path_same text P Q p q f = result_both (path_of text) P Q (RefusesPath old a x) (RefusesPath old b y) (IsSame a x b y) p q f refused
-    where
-      refused : (fault : PathFault) → RefusesPath old a x fault → RefusesPath old b y fault → IsSame a x b y
-      refused path.Directory p q = refuses_same Directory p q
-      refused path.Depth p q = refuses_same Depth p q
-      refused path.Component p q = refuses_same Component p q
-      refused path.Memory p q = absurd p
+  path_same text P Q p q f = result_both (path_of text) P Q (RefusesPath old a x) (RefusesPath old b y) (IsSame a x b y) p q f path_refused_same
+
+  paths_same : (texts : List (List ℕ)) (P Q : List PathParts → Type 0) → AtPaths old a x texts P → AtPaths old b y texts Q → ((paths : List PathParts) → P paths → Q paths → IsSame a x b y) → IsSame a x b y
+  paths_same texts P Q p q f = result_both (paths_of texts) P Q (RefusesPath old a x) (RefusesPath old b y) (IsSame a x b y) p q f path_refused_same
+
+  piece_same : (name : List ℕ) (P Q : ℕ → Type 0) → AtPiece old a x name P → AtPiece old b y name Q → ((p : ℕ) → P p → Q p → IsSame a x b y) → IsSame a x b y
+  piece_same name P Q p q f = option_both (piece_named old.pieces name) _ _ P Q (IsSame a x b y) p q (refuses_same UnknownPiece) f
 
   text_same : (text : List ℕ) (P Q : List ℕ → Type 0) → WithText old a x text P → WithText old b y text Q → ((bytes : List ℕ) → P bytes → Q bytes → IsSame a x b y) → IsSame a x b y
   text_same text P Q (inl p) (inl q) f = f q.0 (subst P (spells_one text p.0 q.0 p.1 q.1) p.2) q.2
@@ -65,10 +74,13 @@ module _ (old : World) (a b : Outcome) (x y : World) where
   writes_same : (k : ℕ) (at : PathParts) (content : Content) → Writes old a x k at content → Writes old b y k at content → IsSame a x b y
   writes_same k at content p q =
       let edit = next_edit old k at content in
-      bool_both (high_of (held old k) == 18446744073709551615) _ _ _ _ (IsSame a x b y) p q (refuses_same VersionsSpent) (gives_same (ok_line edit.version) (happened old (put k edit)))
+      bool_both (high_of (held old k) == 18446744073709551615) _ _ _ _ (IsSame a x b y) p q (refuses_same VersionsSpent) (gives_same (ok_line edit.version) (happened old (event.Put k edit)))
 
   file_same : (k : ℕ) (at : PathParts) (bytes : List ℕ) → WithFile old a x bytes (Writes old a x k at) → WithFile old b y bytes (Writes old b y k at) → IsSame a x b y
-  file_same k at bytes p q = bool_both (is_file bytes) _ _ _ _ (IsSame a x b y) p q (writes_same k at (File bytes)) (refuses_same FileTooLarge)
+  file_same k at bytes p q = bool_both (is_file bytes) _ _ _ _ (IsSame a x b y) p q (writes_same k at (content.File bytes)) (refuses_same FileTooLarge)
+
+  target_same : (k : ℕ) (at : PathParts) (target : List ℕ) → WithTarget old a x target (Writes old a x k at) → WithTarget old b y target (Writes old b y k at) → IsSame a x b y
+  target_same k at target p q = bool_both (is_target target) _ _ _ _ (IsSame a x b y) p q (writes_same k at (content.Link target)) (refuses_same BadLink)
 
   compared_same : (j k : ℕ) → (((held old j ≡ held old k) × Gives (codes "same\n") old a x) ⊎ ((held old j ≡ held old k → ⊥) × Gives (codes "differ\n") old a x))
       → (((held old j ≡ held old k) × Gives (codes "same\n") old b y) ⊎ ((held old j ≡ held old k → ⊥) × Gives (codes "differ\n") old b y)) → IsSame a x b y
@@ -86,10 +98,18 @@ module _ (old : World) (a b : Outcome) (x y : World) where
       node_same node _ _ p q (λ k p q. path_same path _ _ p q (λ at p q. text_same text _ _ p q (file_same k at)))
   does_same (Remove node path) p q =
       node_same node _ _ p q (λ k p q. path_same path _ _ p q (λ at p q.
-      option_both (visible_at (held old k) at) _ _ _ _ (IsSame a x b y) p q (refuses_same Nothing) (λ shown. writes_same k at Gone)))
+      option_both (visible_at (held old k) at) _ _ _ _ (IsSame a x b y) p q (refuses_same Nothing) (λ shown. writes_same k at content.Gone)))
+  does_same (Link node path target) p q = node_same node _ _ p q (λ k p q. path_same path _ _ p q (λ at p q. target_same k at target p q))
   does_same (Merge from to) p q =
       node_same from _ _ p q (λ j p q. node_same to _ _ p q (λ k.
-      gives_same (changed_line (changed_paths (held old k) (held (happened old (merge j k)) k))) (happened old (merge j k))))
+      gives_same (changed_line (changed_paths (held old k) (held (merged old j k) k))) (merged old j k)))
+  does_same (Part piece from to texts) p q =
+      node_same from _ _ p q (λ j p q. node_same to _ _ p q (λ k p q. paths_same texts _ _ p q (λ paths.
+      gives_same (entries_line (length (finmap.entries (cut (held old j) (digest_of (held old k)) (if_any paths))))) (parted old piece j k (if_any paths)))))
+  does_same (Send piece node) p q =
+      piece_same piece _ _ p q (λ number p q. node_same node _ _ p q (λ k.
+      gives_same (changed_line (changed_paths (held old k) (held (happened old (event.Give number k)) k))) (happened old (event.Give number k))))
+  does_same Sweep p q = gives_same (codes "ok\n") (swept old) p q
   does_same (Files node) p q = node_same node _ _ p q (λ k. gives_same (files_text (held old k)) old)
   does_same (Same left right) p q = node_same left _ _ p q (λ j p q. node_same right _ _ p q (λ k. compared_same j k))
 

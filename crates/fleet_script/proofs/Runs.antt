@@ -8,10 +8,10 @@ use Rattle.std.proofs.lemmas.List.{append-nil, take_at, take_all}
 use Rattle.script_words.specs.Lines.{lines_of}
 use Rattle.script_pipes.specs.KnownBytes.{AppendsFront}
 use Rattle.script_pipes.specs.KnownBytesLaws.{Appends-append, Appends-nothing}
-use Rattle.fleet_script.specs.declared.states.Kept.{Kept}
 use Rattle.fleet_script.specs.Worlds.{World, blank}
 use Rattle.fleet_script.specs.Scripts.{Run, AnswersLine, Answers, AnswersFront}
-use Rattle.fleet_script.specs.Holds.{Holds, Continues}
+use Rattle.fleet_script.specs.Holds.{Holds, Keeps, Continues}
+use Rattle.fleet_script.proofs.Lawful.{lawful_blank}
 
 -- one line more
 run_more : (old : World) (lines : List (List ℕ)) (written : List ℕ) (mid : World) (line answer : List ℕ) (new : World)
@@ -29,30 +29,35 @@ run_more old (first ∷ lines) written mid line answer new r s = (
 )
 
 -- what is true between two lines: some answers were written, and others wait
-pub record Progress (script rest : List ℕ) (nodes : List Kept) (old now : Option (List ℕ)) (pending : List ℕ) : Type 0 where
+pub record Progress (script rest : List ℕ) (keeps : Keeps) (old now : Option (List ℕ)) (pending : List ℕ) : Type 0 where
   pub before : List (List ℕ)
   pub world : World
   pub written : List ℕ
   pub lines : lines_of script ≡ before ++ lines_of rest
-  pub holds : Holds nodes world
+  pub holds : Holds keeps world
   pub run : Run blank before (written ++ pending) world
   pub appended : Appends old now written
 
-pub begins : (script pending : List ℕ) (nodes : List Kept) (a : Option (List ℕ)) → nodes ≡ [] → pending ≡ [] → Progress script script nodes a a pending
-begins script pending nodes a none nothing = subst (λ ns. Progress script script ns a a pending) (sym none) (subst (λ v. Progress script script [] a a v) (sym nothing) first)
+abbrev pub no_keeps : Keeps
+no_keeps = record { nodes = []; pieces = [] }
+
+pub begins : (script pending : List ℕ) (keeps : Keeps) (a : Option (List ℕ)) → keeps.nodes ≡ [] → keeps.pieces ≡ [] → pending ≡ [] → Progress script script keeps a a pending
+begins script pending keeps a no_nodes no_pieces nothing =
+    let none : no_keeps ≡ keeps = λ i. record { nodes = sym no_nodes i; pieces = sym no_pieces i } in
+    subst (λ ks. Progress script script ks a a pending) none (subst (λ v. Progress script script no_keeps a a v) (sym nothing) first)
   where
-    first : Progress script script [] a a []
-    first = record { before = []; world = blank; written = []; lines = refl; holds = record { members = refl; stores = λ k kept e. cc (e); fresh = λ k le. refl }; run = (refl, refl); appended = Appends-nothing a }
+    first : Progress script script no_keeps a a []
+    first = record { before = []; world = blank; written = []; lines = refl; holds = record { members = refl; stores = λ k node e. cc (e); pieces = λ name. tt; lawful = lawful_blank }; run = (refl, refl); appended = Appends-nothing a }
 
-pub moved : (script rest pending more : List ℕ) (nodes : List Kept) (old now after : Option (List ℕ)) → now ≡ after → pending ≡ more → Progress script rest nodes old now pending → Progress script rest nodes old after more
-moved script rest pending more nodes old now after e is p = subst (λ v. Progress script rest nodes old v more) e (subst (λ v. Progress script rest nodes old now v) is p)
+pub moved : (script rest pending more : List ℕ) (keeps : Keeps) (old now after : Option (List ℕ)) → now ≡ after → pending ≡ more → Progress script rest keeps old now pending → Progress script rest keeps old after more
+moved script rest pending more keeps old now after e is p = subst (λ v. Progress script rest keeps old v more) e (subst (λ v. Progress script rest keeps old now v) is p)
 
-pub line_answered : (script rest line later answer pending more : List ℕ) (nodes now_nodes : List Kept) (old now : Option (List ℕ))
+pub line_answered : (script rest line later answer pending more : List ℕ) (keeps now_keeps : Keeps) (old now : Option (List ℕ))
     → lines_of rest ≡ line ∷ lines_of later
-    → Continues nodes now_nodes (λ a b. AnswersLine a line answer b)
+    → Continues keeps now_keeps (λ a b. AnswersLine a line answer b)
     → more ≡ pending ++ answer
-    → Progress script rest nodes old now pending → Progress script later now_nodes old now more
-line_answered script rest line later answer pending more nodes now_nodes old now cut step is p =
+    → Progress script rest keeps old now pending → Progress script later now_keeps old now more
+line_answered script rest line later answer pending more keeps now_keeps old now cut step is p =
     let next = step p.world p.holds in
     let text : (p.written ++ pending) ++ answer ≡ p.written ++ more = append_assoc p.written pending answer ∙ ap (λ v. p.written ++ v) (sym is) in
     record {
@@ -66,9 +71,9 @@ line_answered script rest line later answer pending more nodes now_nodes old now
     }
 
 -- all that waits is written
-pub flushed : (script rest pending : List ℕ) (nodes : List Kept) (old now after : Option (List ℕ)) → Appends now after pending
-    → Progress script rest nodes old now pending → Progress script rest nodes old after []
-flushed script rest pending nodes old now after more p = record {
+pub flushed : (script rest pending : List ℕ) (keeps : Keeps) (old now after : Option (List ℕ)) → Appends now after pending
+    → Progress script rest keeps old now pending → Progress script rest keeps old after []
+flushed script rest pending keeps old now after more p = record {
   before = p.before;
   world = p.world;
   written = p.written ++ pending;
@@ -79,9 +84,9 @@ flushed script rest pending nodes old now after more p = record {
 }
 
 -- a front of what waits is written
-pub front_written : (script rest pending : List ℕ) (nodes : List Kept) (old now after : Option (List ℕ)) → AppendsFront now after pending
-    → Progress script rest nodes old now pending → (written : List ℕ) × AnswersFront script written × Appends old after written
-front_written script rest pending nodes old now after front p =
+pub front_written : (script rest pending : List ℕ) (keeps : Keeps) (old now after : Option (List ℕ)) → AppendsFront now after pending
+    → Progress script rest keeps old now pending → (written : List ℕ) × AnswersFront script written × Appends old after written
+front_written script rest pending keeps old now after front p =
     let lines : p.before ≡ take (length p.before) (lines_of script) = sym (ap (take (length p.before)) p.lines ∙ take_at p.before (lines_of rest) (length p.before) refl) in
     let run : Run blank (take (length p.before) (lines_of script)) (p.written ++ pending) p.world = subst (λ v. Run blank v (p.written ++ pending) p.world) lines p.run in (
       p.written ++ take front.0 pending,
@@ -90,9 +95,9 @@ front_written script rest pending nodes old now after front p =
     )
 
 -- all lines are answered, and all answers are written
-pub answered : (script rest : List ℕ) (nodes : List Kept) (old now : Option (List ℕ)) → lines_of rest ≡ [] → Progress script rest nodes old now []
+pub answered : (script rest : List ℕ) (keeps : Keeps) (old now : Option (List ℕ)) → lines_of rest ≡ [] → Progress script rest keeps old now []
     → (written : List ℕ) × Answers script written × Appends old now written
-answered script rest nodes old now end p =
+answered script rest keeps old now end p =
     let lines : p.before ≡ lines_of script = sym (p.lines ∙ ap (λ v. p.before ++ v) end ∙ append-nil p.before) in
     let run : Run blank (lines_of script) p.written p.world = subst (λ v. Run blank v p.written p.world) lines (subst (λ v. Run blank p.before v p.world) (append-nil p.written) p.run) in
     (p.written, (p.world, run), p.appended)

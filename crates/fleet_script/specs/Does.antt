@@ -1,19 +1,22 @@
 -- What each command does: which outcome it may have in a world, and which world it leaves.
-use Rattle.std.specs.Prelude.{◌≡◌, ◌≢◌, ◌⊎◌, ℕ, ◌==◌, codes, List, Ok, Err, MatchOption, MatchResult, MatchBool}
+use Rattle.std.specs.Prelude.{◌≡◌, ◌≢◌, ◌⊎◌, ℕ, ◌==◌, codes, List, [], ◌∷◌, length, Option, Some, None, Result, Ok, Err, MatchOption, MatchResult, MatchBool}
+use Rattle.std.specs.FinMap as finmap
 use Rattle.load_path.specs.Paths.{PathParts, path_of}
 use Rattle.load_path.specs.declared.paths.PathFault.{PathFault}
 use Rattle.load_path.specs.declared.paths.PathFault.TheVariants as path
 use Rattle.edit_sums.specs.declared.contents.Content.{Content}
-use Rattle.edit_sums.specs.declared.contents.Content.TheVariants.{Gone, File}
-use Rattle.edit_sums.specs.Limits.{is_file}
+use Rattle.edit_sums.specs.declared.contents.Content.TheVariants.{Gone, Link, File}
+use Rattle.edit_sums.specs.Limits.{is_file, is_target}
 use Rattle.edit_sums.specs.Sums.{high_of, visible_at, changed_paths}
+use Rattle.world_law.specs.declared.events.Event.TheVariants as event
+use Rattle.world_law.specs.Cuts.{cut, digest_of}
 use Rattle.script_words.specs.Text.{Spells, IsBadText}
 use Rattle.fleet_script.specs.declared.commands.Command.{Command}
-use Rattle.fleet_script.specs.declared.commands.Command.TheVariants.{Node, Put, Remove, Merge, Files, Same}
+use Rattle.fleet_script.specs.declared.commands.Command.TheVariants as command
 use Rattle.fleet_script.specs.declared.commands.Refusal.{Refusal}
-use Rattle.fleet_script.specs.declared.commands.Refusal.TheVariants.{UnknownNode, BadText, NodeTaken, WriterTaken, Directory, Depth, Component, FileTooLarge, VersionsSpent, Nothing}
-use Rattle.fleet_script.specs.Texts.{Outcome, ok_line, changed_line, files_text}
-use Rattle.fleet_script.specs.Worlds.{World, put, merge, held, happened, with_node, node_named, has_writer, next_edit}
+use Rattle.fleet_script.specs.declared.commands.Refusal.TheVariants.{UnknownNode, BadText, UnknownPiece, NodeTaken, WriterTaken, Directory, Depth, Component, FileTooLarge, BadLink, VersionsSpent, Nothing}
+use Rattle.fleet_script.specs.Texts.{Outcome, ok_line, changed_line, entries_line, files_text}
+use Rattle.fleet_script.specs.Worlds.{World, held, happened, with_node, node_named, has_writer, next_edit, parted, piece_named, merged, swept}
 
 -- the answer is these words, and the new world is that one
 pub record Gives (words : List ℕ) (world : World) (outcome : Outcome) (new : World) : Type 0 where
@@ -24,6 +27,21 @@ pub record Gives (words : List ℕ) (world : World) (outcome : Outcome) (new : W
 pub record Refuses (old : World) (refusal : Refusal) (outcome : Outcome) (new : World) : Type 0 where
   pub outcome_is : outcome ≡ Err refusal
   pub world_is : new ≡ old
+
+abbrev path_then : Result PathParts PathFault → Result (List PathParts) PathFault → Result (List PathParts) PathFault
+path_then (Err fault) paths = Err fault
+path_then (Ok path) (Err fault) = Err fault
+path_then (Ok path) (Ok paths) = Ok (path ∷ paths)
+
+-- the paths that some texts write, or the first thing wrong with the first that writes none
+abbrev pub paths_of : List (List ℕ) → Result (List PathParts) PathFault
+paths_of [] = Ok []
+paths_of (text ∷ texts) = path_then (path_of text) (paths_of texts)
+
+-- these paths, or all where none are given
+abbrev pub if_any : List PathParts → Option (List PathParts)
+if_any [] = None
+if_any (path ∷ paths) = Some (path ∷ paths)
 
 module _ (old : World) (outcome : Outcome) (new : World) where
   -- what holds of the node of a name, if there is one
@@ -37,9 +55,17 @@ module _ (old : World) (outcome : Outcome) (new : World) where
   RefusesPath path.Component = Refuses old Component outcome new
   RefusesPath path.Memory = ⊥
 
+  -- what holds of the number of the piece of a name, if there is one
+  abbrev pub AtPiece : List ℕ → (ℕ → Type 0) → Type 0
+  AtPiece name P = MatchOption (piece_named old.pieces name) (Refuses old UnknownPiece outcome new) P
+
   -- what holds of the path that a text writes, if it writes one
   abbrev pub AtPath : List ℕ → (PathParts → Type 0) → Type 0
   AtPath text P = MatchResult (path_of text) P RefusesPath
+
+  -- what holds of the paths that some texts write, if each writes one
+  abbrev pub AtPaths : List (List ℕ) → (List PathParts → Type 0) → Type 0
+  AtPaths texts P = MatchResult (paths_of texts) P RefusesPath
 
   -- what holds of the bytes that a text spells, if it spells some
   abbrev pub WithText : List ℕ → (List ℕ → Type 0) → Type 0
@@ -49,11 +75,15 @@ module _ (old : World) (outcome : Outcome) (new : World) where
   abbrev pub WithFile : List ℕ → (Content → Type 0) → Type 0
   WithFile bytes P = MatchBool (is_file bytes) (P (File bytes)) (Refuses old FileTooLarge outcome new)
 
+  -- what holds of the link to this target, if it may be one
+  abbrev pub WithTarget : List ℕ → (Content → Type 0) → Type 0
+  WithTarget target P = MatchBool (is_target target) (P (Link target)) (Refuses old BadLink outcome new)
+
   -- the node puts its next edit, unless the greatest counter is held already
   abbrev pub Writes : ℕ → PathParts → Content → Type 0
   Writes k path content =
       let edit = next_edit old k path content in
-      MatchBool (high_of (held old k) == 18446744073709551615) (Refuses old VersionsSpent outcome new) (Gives (ok_line edit.version) (happened old (put k edit)) outcome new)
+      MatchBool (high_of (held old k) == 18446744073709551615) (Refuses old VersionsSpent outcome new) (Gives (ok_line edit.version) (happened old (event.Put k edit)) outcome new)
 
   -- a new node; no two nodes have one name or one writer number
   abbrev pub Names : List ℕ → ℕ → Type 0
@@ -66,15 +96,35 @@ module _ (old : World) (outcome : Outcome) (new : World) where
   abbrev pub Puts : List ℕ → List ℕ → List ℕ → Type 0
   Puts node path text = AtNode node (λ k. AtPath path (λ at. WithText text (λ bytes. WithFile bytes (Writes k at))))
 
+  -- a link is put at a path
+  abbrev pub Links : List ℕ → List ℕ → List ℕ → Type 0
+  Links node path target = AtNode node (λ k. AtPath path (λ at. WithTarget target (Writes k at)))
+
   -- what is visible at a path is removed
   abbrev pub Removes : List ℕ → List ℕ → Type 0
   Removes node path = AtNode node (λ k. AtPath path (λ at. MatchOption (visible_at (held old k) at) (Refuses old Nothing outcome new) (λ shown. Writes k at Gone)))
 
-  -- one node takes all that another has taken, and the paths that this changes are counted
+  -- one node is given all that it lacks of another, and the paths that this changes are counted
   abbrev pub Merges : List ℕ → List ℕ → Type 0
   Merges from to = AtNode from (λ j. AtNode to (λ k.
-      let next = happened old (merge j k) in
+      let next = merged old j k in
       Gives (changed_line (changed_paths (held old k) (held next k))) next outcome new))
+
+  -- one node cuts for the ask of another, at these paths or at all; what is cut is kept under a name, and its entries are counted
+  abbrev pub Parts : List ℕ → List ℕ → List ℕ → List (List ℕ) → Type 0
+  Parts piece from to texts = AtNode from (λ j. AtNode to (λ k. AtPaths texts (λ paths.
+      let entries = cut (held old j) (digest_of (held old k)) (if_any paths) in
+      Gives (entries_line (length (finmap.entries entries))) (parted old piece j k (if_any paths)) outcome new)))
+
+  -- a piece is given to a node, and the paths that this changes are counted
+  abbrev pub Sends : List ℕ → List ℕ → Type 0
+  Sends piece node = AtPiece piece (λ p. AtNode node (λ k.
+      let next = happened old (event.Give p k) in
+      Gives (changed_line (changed_paths (held old k) (held next k))) next outcome new))
+
+  -- every node is merged into the first, and then the first into every node
+  abbrev pub Sweeps : Type 0
+  Sweeps = Gives (codes "ok\n") (swept old) outcome new
 
   -- all that a node holds is told
   abbrev pub Tells : List ℕ → Type 0
@@ -87,9 +137,13 @@ module _ (old : World) (outcome : Outcome) (new : World) where
 
 -- From the old world a command may have this outcome, and leave the new world.
 abbrev pub Does : World → Command → Outcome → World → Type 0
-Does old (Node name writer) outcome new = Names old outcome new name writer
-Does old (Put node path text) outcome new = Puts old outcome new node path text
-Does old (Remove node path) outcome new = Removes old outcome new node path
-Does old (Merge from to) outcome new = Merges old outcome new from to
-Does old (Files node) outcome new = Tells old outcome new node
-Does old (Same left right) outcome new = Compares old outcome new left right
+Does old (command.Node name writer) outcome new = Names old outcome new name writer
+Does old (command.Put node path text) outcome new = Puts old outcome new node path text
+Does old (command.Link node path target) outcome new = Links old outcome new node path target
+Does old (command.Remove node path) outcome new = Removes old outcome new node path
+Does old (command.Merge from to) outcome new = Merges old outcome new from to
+Does old (command.Part piece from to paths) outcome new = Parts old outcome new piece from to paths
+Does old (command.Send piece node) outcome new = Sends old outcome new piece node
+Does old command.Sweep outcome new = Sweeps old outcome new
+Does old (command.Files node) outcome new = Tells old outcome new node
+Does old (command.Same left right) outcome new = Compares old outcome new left right

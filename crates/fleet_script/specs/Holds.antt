@@ -1,12 +1,17 @@
--- What the shell keeps of a world: of each node its replica of now.
-use Rattle.std.specs.Prelude.{◌≡◌, ℕ, ◌≤◌, Bool, ⊤, List, [], map, length, slice_get, slice_index_or, slice_set, Some, Result, Ok, Err}
+-- What the shell keeps of a world: of each node its replica of now, and the pieces of now by name.
+use Rattle.std.specs.Prelude.{◌≡◌, ℕ, ◌<◌, ◌≤◌, Bool, ⊤, if◌then◌else◌, List, [], ◌∷◌, map, length, slice_get, slice_index_or, slice_set, Option, Some, None, Result, Ok, Err}
 use Rattle.std.specs.Str.{bytes_eq}
+use Rattle.edit_sums.specs.declared.entries.Edit.{Edit}
+use Rattle.edit_sums.specs.Sums.{EntryMap, IsAmong, IsHonest, join, high_of}
+use Rattle.world_law.specs.Worlds as worlds
+use Rattle.world_law.specs.Worlds.{puts_of, AreWithin}
 use Rattle.fleet_script.specs.declared.commands.Fault.{Fault}
 use Rattle.fleet_script.specs.declared.commands.Fault.TheVariants.{Refused, Memory}
 use Rattle.fleet_script.specs.declared.states.Kept.{Kept}
-use Rattle.edit_sums.specs.Sums.{join}
+use Rattle.fleet_script.specs.declared.states.Named.{Named}
+use Rattle.fleet_script.specs.declared.states.Shell.{Shell}
 use Rattle.fleet_script.specs.Texts.{Outcome}
-use Rattle.fleet_script.specs.Worlds.{World, Member, took, held}
+use Rattle.fleet_script.specs.Worlds.{World, Member, state, held, writer_at, piece_named}
 
 abbrev pub member_of : Kept → Member
 member_of kept = record { name = kept.name; writer = kept.replica.writer }
@@ -14,14 +19,65 @@ member_of kept = record { name = kept.name; writer = kept.replica.writer }
 abbrev pub is_named : List ℕ → Kept → Bool
 is_named name kept = bytes_eq kept.name name
 
--- the nodes are those of the world, each holds the sum of what it took, and no event was at another
-pub record Holds (nodes : List Kept) (world : World) : Type 0 where
-  pub members : map member_of nodes ≡ world.nodes
-  pub stores : (k : ℕ) (kept : Kept) → slice_get nodes k ≡ Some kept → kept.replica.store ≡ held world k
-  pub fresh : (k : ℕ) → length nodes ≤ k → took world.events k ≡ []
+-- ---- worlds of scripts
 
--- Whatever world the old nodes hold, the new ones hold one to which it may go.
-abbrev pub Continues : List Kept → List Kept → (World → World → Type 0) → Type 0
+-- the edits that were put
+abbrev pub puts : World → List Edit
+puts world = puts_of (length world.nodes) world.events
+
+-- some node put the edit: it has the node's writer number, and the node holds no less a counter
+pub record IsOwn (world : World) (e : Edit) : Type 0 where
+  pub node : ℕ
+  pub within : node < length world.nodes
+  pub writer : e.version.writer ≡ writer_at world.nodes node
+  pub counter : e.version.counter ≤ high_of (held world node)
+
+-- no two nodes have one writer number, each edit is some node's own, and so no version stands for two edits
+pub record IsLawful (world : World) : Type 0 where
+  pub within : AreWithin (length world.nodes) world.events
+  pub apart : (j k : ℕ) → j < length world.nodes → k < length world.nodes → writer_at world.nodes j ≡ writer_at world.nodes k → j ≡ k
+  pub own : (e : Edit) → IsAmong e (puts world) → IsOwn world e
+  pub honest : IsHonest (puts world)
+
+-- ---- what is kept
+
+pub record Keeps : Type 0 where
+  pub nodes : List Kept
+  pub pieces : List Named
+
+abbrev pub kept_in : Shell → Keeps
+kept_in shell = record { nodes = shell.nodes.items; pieces = shell.pieces.items }
+
+abbrev pub is_called : List ℕ → Named → Bool
+is_called name named = bytes_eq named.name name
+
+-- what is kept under a name
+abbrev pub piece_kept : List Named → List ℕ → Option EntryMap
+piece_kept [] name = None
+piece_kept (named ∷ pieces) name = if is_called name named then Some named.piece else piece_kept pieces name
+
+-- these are the entries of the piece of this number
+pub record IsPiece (world : World) (number : ℕ) (entries : EntryMap) : Type 0 where
+  pub piece : worlds.Piece
+  pub there : slice_get (state world).pieces number ≡ Some piece
+  pub entries_are : piece.entries ≡ entries
+
+-- what is kept under a name is the latest piece of that name
+abbrev pub IsNamed : World → Option EntryMap → Option ℕ → Type 0
+IsNamed world None None = Unit {0}
+IsNamed world None (Some number) = ⊥
+IsNamed world (Some entries) None = ⊥
+IsNamed world (Some entries) (Some number) = IsPiece world number entries
+
+-- the nodes are those of the world, each holds the sum of what it took, and the pieces are those of the world
+pub record Holds (kept : Keeps) (world : World) : Type 0 where
+  pub members : map member_of kept.nodes ≡ world.nodes
+  pub stores : (k : ℕ) (node : Kept) → slice_get kept.nodes k ≡ Some node → node.replica.store ≡ held world k
+  pub pieces : (name : List ℕ) → IsNamed world (piece_kept kept.pieces name) (piece_named world.pieces name)
+  pub lawful : IsLawful world
+
+-- Whatever world the old shell holds, the new one holds one to which it may go.
+abbrev pub Continues : Keeps → Keeps → (World → World → Type 0) → Type 0
 Continues old new step = (world : World) → Holds old world → (next : World) × Holds new next × step world next
 
 -- what is said of the outcome, unless memory was refused

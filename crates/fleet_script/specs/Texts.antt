@@ -10,7 +10,7 @@ use Rattle.edit_sums.specs.declared.contents.Content.TheVariants.{Gone, Link, Fi
 use Rattle.edit_sums.specs.declared.entries.Entry.{Entry}
 use Rattle.edit_sums.specs.Sums.{EntryMap}
 use Rattle.fleet_script.specs.declared.commands.Refusal.{Refusal}
-use Rattle.fleet_script.specs.declared.commands.Refusal.TheVariants.{UnknownCommand, Arguments, UnknownNode, BadText, NodeTaken, WriterTaken, LineTooLong, Directory, Depth, Component, FileTooLarge, VersionsSpent, Nothing}
+use Rattle.fleet_script.specs.declared.commands.Refusal.TheVariants.{UnknownCommand, Arguments, UnknownNode, BadText, UnknownPiece, NodeTaken, WriterTaken, LineTooLong, Directory, Depth, Component, FileTooLarge, BadLink, VersionsSpent, Nothing}
 
 -- the counter, a dot, the writer
 abbrev pub version_text : Version → List ℕ
@@ -21,6 +21,9 @@ ok_line v = codes "ok " ++ version_text v ++ codes "\n"
 
 abbrev pub changed_line : ℕ → List ℕ
 changed_line n = codes "changed " ++ decimal n ++ codes "\n"
+
+abbrev pub entries_line : ℕ → List ℕ
+entries_line n = codes "entries " ++ decimal n ++ codes "\n"
 
 abbrev pub content_text : Content → List ℕ
 content_text Gone = codes "gone"
@@ -41,6 +44,7 @@ refusal_text UnknownCommand = codes "X1 UnknownCommand"
 refusal_text Arguments = codes "X2 Arguments"
 refusal_text UnknownNode = codes "X3 UnknownNode"
 refusal_text BadText = codes "X4 BadText"
+refusal_text UnknownPiece = codes "X5 UnknownPiece"
 refusal_text NodeTaken = codes "X6 NodeTaken"
 refusal_text WriterTaken = codes "X7 WriterTaken"
 refusal_text LineTooLong = codes "X8 LineTooLong"
@@ -48,6 +52,7 @@ refusal_text Directory = codes "F1 Directory"
 refusal_text Depth = codes "F2 Depth"
 refusal_text Component = codes "F3 Component"
 refusal_text FileTooLarge = codes "C1 FileTooLarge"
+refusal_text BadLink = codes "C2 BadLink"
 refusal_text VersionsSpent = codes "E1 VersionsSpent"
 refusal_text Nothing = codes "E2 Nothing"
 

@@ -1,5 +1,5 @@
--- The world behind a script: its nodes, and the events so far.
-use Rattle.std.specs.Prelude.{ℕ, ◌+◌, ◌==◌, Bool, if◌then◌else◌, List, [], ◌∷◌, ◌++◌, position, slice_get, Option, unwrap_or}
+-- The world behind a script: its nodes, the events so far, and the pieces that were named.
+use Rattle.std.specs.Prelude.{ℕ, zero, suc, ◌+◌, ◌-◌, ◌==◌, Bool, if◌then◌else◌, List, [], ◌∷◌, ◌++◌, length, map, position, slice_get, Option, Some, None, unwrap_or}
 use Rattle.std.specs.Option.{option_map}
 use Rattle.std.specs.List.{list_any}
 use Rattle.std.specs.Str.{bytes_eq}
@@ -7,34 +7,33 @@ use Rattle.load_path.specs.Paths.{PathParts}
 use Rattle.edit_sums.specs.declared.contents.Content.{Content}
 use Rattle.edit_sums.specs.declared.entries.Edit.{Edit}
 use Rattle.edit_sums.specs.Sums.{EntryMap, sum_of, high_of}
+use Rattle.world_law.specs.declared.events.Event.{Event}
+use Rattle.world_law.specs.declared.events.Event.TheVariants.{Ask, Cut, Give}
+use Rattle.world_law.specs.Worlds as worlds
+use Rattle.world_law.specs.Worlds.{took}
+use Rattle.world_law.specs.Took.{world_of}
 
 -- a node: its name, and the number under which it writes
 pub record Member : Type 0 where
   pub name : List ℕ
   pub writer : ℕ
 
--- what happens: a node puts an edit, or takes all that another has taken
-pub data Event : Type 0 where
-  put : (node : ℕ) (edit : Edit) → Event
-  merge : (from to : ℕ) → Event
-
--- the nodes in the order of their making, and what happened, the latest first
+-- the nodes in the order of their making; what happened, the latest first; and the pieces by name with their numbers, the latest first
 pub record World : Type 0 where
   pub nodes : List Member
   pub events : List Event
+  pub pieces : List (List ℕ × ℕ)
 
 abbrev pub blank : World
-blank = record { nodes = []; events = [] }
+blank = record { nodes = []; events = []; pieces = [] }
 
--- the edits that a node has taken
-abbrev pub took : List Event → ℕ → List Edit
-took [] k = []
-took (put node edit ∷ events) k = if node == k then took events k ++ edit ∷ [] else took events k
-took (merge from to ∷ events) k = if to == k then took events k ++ took events from else took events k
+-- all that the events have come to: what each node took, and each ask and piece that there ever was
+abbrev pub state : World → worlds.World
+state world = world_of (length world.nodes) world.events
 
 -- what a node holds: the sum of what it took
 abbrev pub held : World → ℕ → EntryMap
-held world k = sum_of (took world.events k)
+held world k = sum_of (took (state world) k)
 
 -- one event more
 abbrev pub happened : World → Event → World
@@ -58,3 +57,43 @@ writer_at nodes k = unwrap_or (option_map (λ member. member.writer) (slice_get 
 -- a node's next edit: its version is above all that the node holds
 abbrev pub next_edit : World → ℕ → PathParts → Content → Edit
 next_edit world k path content = record { path = path; version = record { counter = high_of (held world k) + 1; writer = writer_at world.nodes k }; content = content }
+
+-- the numbers of the next ask and of the next piece
+abbrev pub next_ask : World → ℕ
+next_ask world = length (state world).asks
+
+abbrev pub next_piece : World → ℕ
+next_piece world = length (state world).pieces
+
+-- one node asks, and another cuts for that ask
+abbrev pub answered : World → (from to : ℕ) → Option (List PathParts) → World
+answered world from to paths = happened (happened world (Ask to)) (Cut from (next_ask world) paths)
+
+-- what was cut then is kept under a name
+abbrev pub parted : World → List ℕ → (from to : ℕ) → Option (List PathParts) → World
+parted world name from to paths = record (answered world from to paths) { pieces = (name, next_piece world) ∷ world.pieces }
+
+-- the number of the latest piece of a name
+abbrev pub piece_named : List (List ℕ × ℕ) → List ℕ → Option ℕ
+piece_named [] name = None
+piece_named (piece ∷ pieces) name = if bytes_eq piece.0 name then Some piece.1 else piece_named pieces name
+
+-- one node is given all that it lacks of another
+abbrev pub merged : World → (from to : ℕ) → World
+merged world from to = happened (answered world from to None) (Give (next_piece world) to)
+
+-- merges one after another, each from one node into another
+abbrev pub merged_all : World → List (ℕ × ℕ) → World
+merged_all world [] = world
+merged_all world (pair ∷ pairs) = merged_all (merged world pair.0 pair.1) pairs
+
+-- the numbers from a first one on, so many
+abbrev pub numbers_from : ℕ → ℕ → List ℕ
+numbers_from first zero = []
+numbers_from first (suc count) = first ∷ numbers_from (suc first) count
+
+-- every node is merged into the first, and then the first into every node
+abbrev pub swept : World → World
+swept world =
+    let others = numbers_from 1 (length world.nodes - 1) in
+    merged_all world (map (λ k. (k, 0)) others ++ map (λ k. (0, k)) others)

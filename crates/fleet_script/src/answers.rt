@@ -1,7 +1,7 @@
 //! How answers are written.
 ghost use Rattle.std.specs.Prelude.{◌≡◌, ◌++◌, IfOk, OnOk, codes};
 ghost use Rattle.std.specs.List.{flat_map};
-ghost use Rattle.fleet_script.specs.Texts.{refusal_text, error_line, ok_line, changed_line, entry_line, files_text, content_text, version_text};
+ghost use Rattle.fleet_script.specs.Texts.{refusal_text, error_line, ok_line, changed_line, entries_line, entry_line, files_text, content_text, version_text};
 
 use crate::commands::Refusal;
 use edit_sums::{Content, Entry};
@@ -19,6 +19,7 @@ fn name_of(refusal: Refusal) -> &'static [u8]
         Refusal::Arguments => b"X2 Arguments",
         Refusal::UnknownNode => b"X3 UnknownNode",
         Refusal::BadText => b"X4 BadText",
+        Refusal::UnknownPiece => b"X5 UnknownPiece",
         Refusal::NodeTaken => b"X6 NodeTaken",
         Refusal::WriterTaken => b"X7 WriterTaken",
         Refusal::LineTooLong => b"X8 LineTooLong",
@@ -26,6 +27,7 @@ fn name_of(refusal: Refusal) -> &'static [u8]
         Refusal::Depth => b"F2 Depth",
         Refusal::Component => b"F3 Component",
         Refusal::FileTooLarge => b"C1 FileTooLarge",
+        Refusal::BadLink => b"C2 BadLink",
         Refusal::VersionsSpent => b"E1 VersionsSpent",
         Refusal::Nothing => b"E2 Nothing",
     }
@@ -55,6 +57,13 @@ pub fn merge_done(alloc: Global, changed: u64) -> Result<Vec<u8>, AllocError>
     ensures line { IfOk result (λ line. line.items ≡ changed_line changed) }
 {
     Ok(format!(in alloc; "changed {changed}\n")?.into_bytes())
+}
+
+/// The line of a piece that was cut.
+pub fn part_done(alloc: Global, entries: usize) -> Result<Vec<u8>, AllocError>
+    ensures line { IfOk result (λ line. line.items ≡ entries_line entries) }
+{
+    Ok(format!(in alloc; "entries {entries}\n")?.into_bytes())
 }
 
 // Appends a content's words.

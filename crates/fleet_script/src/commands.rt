@@ -3,6 +3,7 @@ ghost use Rattle.std.specs.Prelude.{◌≡◌, ℕ, List};
 
 use load_path::PathFault;
 use replica_store::EditFault;
+use script_words::cut_word;
 use std::alloc::AllocError;
 use std::marker::Model;
 
@@ -34,6 +35,42 @@ impl<'a> Word<'a> {
     }
 }
 
+/// The words that are left of a line.
+#[derive(Drop)]
+pub struct Words<'a> {
+    rest: &'a [u8],
+}
+
+impl<'a> Model for Words<'a> {
+    ghost use Rattle.std.specs.Prelude.{ℕ, List};
+    ghost use Rattle.script_words.specs.Words.{words_of};
+
+    ghost Value = { List (List ℕ) };
+
+    ghost view = { λ w. words_of w.rest.now };
+}
+
+impl<'a> Words<'a> {
+    ghost use Rattle.std.specs.Prelude.{◌≡◌, [], ◌∷◌, MatchOption};
+    ghost use Rattle.script_words.specs.Words.{words_of};
+
+    /// The words of these bytes.
+    pub fn new(rest: &'a [u8]) -> Self
+        ensures words { result ≡ words_of rest.now }
+    {
+        Words { rest }
+    }
+
+    /// Takes the first of them, if there is one.
+    pub fn take_first(&mut self) -> Option<&'a [u8]>
+        ensures first { MatchOption result ((self.old ≡ []) × (self.new ≡ [])) (λ word. self.old ≡ word.now ∷ self.new) }
+    {
+        let (word, rest) = cut_word(self.rest)?;
+        self.rest = rest;
+        Some(word)
+    }
+}
+
 /// What a line asks for.
 #[derive(Drop)]
 pub enum Command<'a> {
@@ -48,16 +85,36 @@ pub enum Command<'a> {
         path: Word<'a>,
         text: Word<'a>,
     },
+    /// A link put at a path of a node.
+    Link {
+        node: Word<'a>,
+        path: Word<'a>,
+        target: Word<'a>,
+    },
     /// What is visible at a path of a node, removed.
     Remove {
         node: Word<'a>,
         path: Word<'a>,
     },
-    /// The store of one node, joined into that of another.
+    /// One node is given all that it lacks of another.
     Merge {
         from: Word<'a>,
         to: Word<'a>,
     },
+    /// What one node cuts for the ask of another, at these paths or at all, kept under a name.
+    Part {
+        piece: Word<'a>,
+        from: Word<'a>,
+        to: Word<'a>,
+        paths: Words<'a>,
+    },
+    /// A piece, given to a node.
+    Send {
+        piece: Word<'a>,
+        node: Word<'a>,
+    },
+    /// Every node is merged into the first, and then the first into every node.
+    Sweep,
     /// All that a node holds.
     Files {
         node: Word<'a>,
@@ -76,6 +133,7 @@ pub enum Refusal {
     Arguments,
     UnknownNode,
     BadText,
+    UnknownPiece,
     NodeTaken,
     WriterTaken,
     LineTooLong,
@@ -83,6 +141,7 @@ pub enum Refusal {
     Depth,
     Component,
     FileTooLarge,
+    BadLink,
     VersionsSpent,
     Nothing,
 }

@@ -1,14 +1,12 @@
 //! Commands are done here.
-ghost use Rattle.std.specs.Prelude.{◌≡◌, ◌<◌, ◌==◌, [], position, length, vec_len, IfOk, IfSome, OnOk, MatchResult, slice_index_or};
+ghost use Rattle.std.specs.Prelude.{◌≡◌, ◌<◌, ◌==◌, [], position, length, vec_len, IfOk, IfSome, MatchResult};
 ghost use Rattle.std.specs.List.{list_any};
-ghost use Rattle.edit_sums.specs.Sums.{changed_paths};
-ghost use Rattle.fleet_script.specs.declared.states.Kept.{Kept};
 ghost use Rattle.fleet_script.specs.Commands.{command_of};
 ghost use Rattle.fleet_script.specs.Does.{Does, Refuses, Writes};
-ghost use Rattle.fleet_script.specs.Holds.{Continues, IsJoinedAt, IsSaid, is_named};
+ghost use Rattle.fleet_script.specs.Holds.{Continues, IsSaid, is_named, kept_in};
 ghost use Rattle.fleet_script.specs.Scripts.{AnswersLine};
 
-use crate::answers::{files_of, merge_done, put_done, refused};
+use crate::answers::{files_of, put_done, refused};
 use crate::commands::{Command, Fault, Refusal};
 use crate::parsing::parse;
 use crate::states::{Kept, Shell};
@@ -17,13 +15,12 @@ use load_path::{Bytes, Path};
 use replica_store::Replica;
 use script_words::{is_passed_over, unescape};
 use std::alloc::{AllocError, Global};
-use std::mem;
 
 /// The most bytes of a line of a script, its line end not counted.
 pub const LINE_LIMIT: usize = 300_000;
 
 // The number of the node of a name.
-fn find(nodes: &[Kept], name: &[u8]) -> Option<usize>
+pub fn find(nodes: &[Kept], name: &[u8]) -> Option<usize>
     ensures found { result ≡ position (is_named name.now) nodes.now }
     ensures within { IfSome result (λ at. at < length nodes.now) }
 {
@@ -38,17 +35,19 @@ fn is_taken(nodes: &[Kept], writer: u32) -> bool
 }
 
 impl Shell {
-    /// A shell without nodes.
+    /// A shell without nodes and pieces.
     pub fn new(alloc: Global) -> Self
-        ensures none { result.nodes.items ≡ [] }
+        ensures no_nodes { result.nodes.items ≡ [] }
+        ensures no_pieces { result.pieces.items ≡ [] }
     {
         Shell {
             nodes: Vec::new(alloc),
+            pieces: Vec::new(alloc),
         }
     }
 
     fn node(&mut self, alloc: Global, name: &[u8], writer: u32) -> Result<Vec<u8>, Fault>
-        ensures done { IsSaid (λ text. text.items) result (λ outcome. Continues self.old.nodes.items self.new.nodes.items
+        ensures done { IsSaid (λ text. text.items) result (λ outcome. Continues (kept_in self.old) (kept_in self.new)
             (λ old new. Does old (Command.Node name.now writer) outcome new)) }
     {
         if find(&self.nodes, name).is_some() {
@@ -75,7 +74,7 @@ impl Shell {
         path: &[u8],
         text: &[u8],
     ) -> Result<Vec<u8>, Fault>
-        ensures done { IsSaid (λ text. text.items) result (λ outcome. Continues self.old.nodes.items self.new.nodes.items
+        ensures done { IsSaid (λ text. text.items) result (λ outcome. Continues (kept_in self.old) (kept_in self.new)
             (λ old new. Does old (Command.Put node.now path.now text.now) outcome new)) }
     {
         let Some(at) = find(&self.nodes, node) else {
@@ -95,8 +94,32 @@ impl Shell {
         self.write(alloc, at, path, content)
     }
 
+    fn link(
+        &mut self,
+        alloc: Global,
+        node: &[u8],
+        path: &[u8],
+        target: &[u8],
+    ) -> Result<Vec<u8>, Fault>
+        ensures done { IsSaid (λ text. text.items) result (λ outcome. Continues (kept_in self.old) (kept_in self.new)
+            (λ old new. Does old (Command.Link node.now path.now target.now) outcome new)) }
+    {
+        let Some(at) = find(&self.nodes, node) else {
+            return Err(Fault::Refused(Refusal::UnknownNode));
+        };
+        let path = match Path::parse(alloc, path) {
+            Ok(path) => path,
+            Err(fault) => return Err(Fault::from(fault)),
+        };
+        let content = match Content::link(Vec::from_slice(alloc, target)?) {
+            Ok(content) => content,
+            Err(_) => return Err(Fault::Refused(Refusal::BadLink)),
+        };
+        self.write(alloc, at, path, content)
+    }
+
     fn remove(&mut self, alloc: Global, node: &[u8], path: &[u8]) -> Result<Vec<u8>, Fault>
-        ensures done { IsSaid (λ text. text.items) result (λ outcome. Continues self.old.nodes.items self.new.nodes.items
+        ensures done { IsSaid (λ text. text.items) result (λ outcome. Continues (kept_in self.old) (kept_in self.new)
             (λ old new. Does old (Command.Remove node.now path.now) outcome new)) }
     {
         let Some(at) = find(&self.nodes, node) else {
@@ -114,22 +137,8 @@ impl Shell {
         Ok(put_done(alloc, version)?)
     }
 
-    fn merge(&mut self, alloc: Global, from: &[u8], to: &[u8]) -> Result<Vec<u8>, Fault>
-        ensures done { IsSaid (λ text. text.items) result (λ outcome. Continues self.old.nodes.items self.new.nodes.items
-            (λ old new. Does old (Command.Merge from.now to.now) outcome new)) }
-    {
-        let Some(from) = find(&self.nodes, from) else {
-            return Err(Fault::Refused(Refusal::UnknownNode));
-        };
-        let Some(to) = find(&self.nodes, to) else {
-            return Err(Fault::Refused(Refusal::UnknownNode));
-        };
-        let changed = self.merge_nodes(alloc, from, to)?;
-        Ok(merge_done(alloc, changed)?)
-    }
-
     fn files(&mut self, alloc: Global, node: &[u8]) -> Result<Vec<u8>, Fault>
-        ensures done { IsSaid (λ text. text.items) result (λ outcome. Continues self.old.nodes.items self.new.nodes.items
+        ensures done { IsSaid (λ text. text.items) result (λ outcome. Continues (kept_in self.old) (kept_in self.new)
             (λ old new. Does old (Command.Files node.now) outcome new)) }
     {
         let Some(at) = find(&self.nodes, node) else {
@@ -140,7 +149,7 @@ impl Shell {
     }
 
     fn same(&mut self, alloc: Global, left: &[u8], right: &[u8]) -> Result<Vec<u8>, Fault>
-        ensures done { IsSaid (λ text. text.items) result (λ outcome. Continues self.old.nodes.items self.new.nodes.items
+        ensures done { IsSaid (λ text. text.items) result (λ outcome. Continues (kept_in self.old) (kept_in self.new)
             (λ old new. Does old (Command.Same left.now right.now) outcome new)) }
     {
         let Some(left) = find(&self.nodes, left) else {
@@ -167,7 +176,7 @@ impl Shell {
         content: Content,
     ) -> Result<Vec<u8>, Fault>
         requires within { at < vec_len self.old.nodes }
-        ensures done { IsSaid (λ text. text.items) result (λ outcome. Continues self.old.nodes.items self.new.nodes.items
+        ensures done { IsSaid (λ text. text.items) result (λ outcome. Continues (kept_in self.old) (kept_in self.new)
             (λ old new. Writes old outcome new at path content)) }
     {
         let kept = &mut self.nodes[at];
@@ -180,24 +189,9 @@ impl Shell {
 }
 
 impl Shell {
-    // Joins the store of one node into that of another, and answers how many paths changed.
-    fn merge_nodes(&mut self, alloc: Global, from: usize, to: usize) -> Result<u64, AllocError>
-        requires from_within { from < vec_len self.old.nodes }
-        requires to_within { to < vec_len self.old.nodes }
-        ensures joined { OnOk result (IsJoinedAt self.old.nodes.items from to self.new.nodes.items) }
-        ensures changed { IfOk result (λ changed. (d : Kept) → changed ≡ changed_paths
-            (slice_index_or self.old.nodes.items to d).replica.store (slice_index_or self.new.nodes.items to d).replica.store) }
-    {
-        // Taken out, so that both can be borrowed at once.
-        let mut taken = mem::replace(&mut self.nodes[to].replica, Replica::new(alloc, 0));
-        let outcome = taken.merge(self.nodes[from].replica.store());
-        self.nodes[to].replica = taken;
-        outcome
-    }
-
     // Does what a line asks for.
     fn execute(&mut self, alloc: Global, line: &[u8]) -> Result<Vec<u8>, Fault>
-        ensures done { IsSaid (λ text. text.items) result (λ outcome. Continues self.old.nodes.items self.new.nodes.items
+        ensures done { IsSaid (λ text. text.items) result (λ outcome. Continues (kept_in self.old) (kept_in self.new)
             (λ old new. MatchResult (command_of line.now) (λ command. Does old command outcome new) (λ refusal. Refuses old refusal outcome new))) }
     {
         match parse(line)? {
@@ -208,8 +202,28 @@ impl Shell {
                 path.as_slice(),
                 text.as_slice(),
             ),
+            Command::Link { node, path, target } => self.link(
+                alloc,
+                node.as_slice(),
+                path.as_slice(),
+                target.as_slice(),
+            ),
             Command::Remove { node, path } => self.remove(alloc, node.as_slice(), path.as_slice()),
             Command::Merge { from, to } => self.merge(alloc, from.as_slice(), to.as_slice()),
+            Command::Part {
+                piece,
+                from,
+                to,
+                paths,
+            } => self.part(
+                alloc,
+                piece.as_slice(),
+                from.as_slice(),
+                to.as_slice(),
+                paths,
+            ),
+            Command::Send { piece, node } => self.send(alloc, piece.as_slice(), node.as_slice()),
+            Command::Sweep => self.sweep(alloc),
             Command::Files { node } => self.files(alloc, node.as_slice()),
             Command::Same { left, right } => self.same(alloc, left.as_slice(), right.as_slice()),
         }
@@ -217,7 +231,7 @@ impl Shell {
 
     /// The answer to a line.
     pub fn answer_line(&mut self, alloc: Global, line: &[u8]) -> Result<Vec<u8>, AllocError>
-        ensures answered { IfOk result (λ answer. Continues self.old.nodes.items self.new.nodes.items
+        ensures answered { IfOk result (λ answer. Continues (kept_in self.old) (kept_in self.new)
             (λ old new. AnswersLine old line.now answer.items new)) }
     {
         if line.len() > LINE_LIMIT {

@@ -1,8 +1,21 @@
-//! Laws on the meaning of scripts.
-ghost use Rattle.std.specs.Prelude.{◌≡◌, ℕ, List};
-ghost use Rattle.fleet_script.specs.Scripts.{Answers};
+//! Laws of scripts and of the worlds that they come to.
+ghost use Rattle.std.specs.Prelude.{◌≡◌, ℕ, List, slice_get};
+ghost use Rattle.edit_sums.specs.Sums.{IsHonest};
+ghost use Rattle.world_law.specs.Worlds as worlds;
+ghost use Rattle.fleet_script.specs.Scripts.{Answers, Run};
+ghost use Rattle.fleet_script.specs.Worlds.{World, blank, held, state};
+ghost use Rattle.fleet_script.specs.Holds.{puts};
 
-/// A script has one list of answers at most.
+/// A script has one list of answers at most, so whatever `run` writes for it is the same.
 pub fn one_answer()
     ensures one { (script first second : List ℕ) → Answers script first → Answers script second → first ≡ second }
+{}
+
+/// In no world that a script comes to does a version stand for two edits, since no two nodes have
+/// one writer number. So each node's store, joined of all that it was given, is the sum of what it
+/// took.
+pub fn scripts_are_honest()
+    ensures honest { (lines : List (List ℕ)) (written : List ℕ) (world : World) → Run blank lines written world → IsHonest (puts world) }
+    ensures sums { (lines : List (List ℕ)) (written : List ℕ) (world : World) → Run blank lines written world
+        → (k : ℕ) (node : worlds.Node) → slice_get (state world).nodes k ≡ Some node → node.store ≡ held world k }
 {}

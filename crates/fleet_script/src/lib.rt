@@ -6,11 +6,12 @@
 
 mod answers;
 mod commands;
+mod exchanges;
 mod execution;
 mod laws;
 mod parsing;
 mod running;
 mod states;
 
-pub use laws::one_answer;
+pub use laws::{one_answer, scripts_are_honest};
 pub use running::{ShellFault, run};

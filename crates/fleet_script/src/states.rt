@@ -1,4 +1,5 @@
 //! What the shell keeps.
+use delta_pieces::Piece;
 use load_path::Bytes;
 use replica_store::Replica;
 
@@ -9,8 +10,16 @@ pub struct Kept {
     pub replica: Replica,
 }
 
-/// The nodes, in the order of their making.
+/// A piece that was cut, and its name.
+#[derive(Drop)]
+pub struct Named {
+    pub name: Bytes,
+    pub piece: Piece,
+}
+
+/// The nodes, in the order of their making, and the pieces, no two of one name.
 #[derive(Drop)]
 pub struct Shell {
     pub nodes: Vec<Kept>,
+    pub pieces: Vec<Named>,
 }

@@ -7,6 +7,7 @@ mod fakes;
 mod faults;
 mod limits;
 mod lines;
+mod pieces;
 mod refusals;
 mod rows;
 mod statuses;

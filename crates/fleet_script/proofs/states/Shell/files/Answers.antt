@@ -5,10 +5,10 @@ use Rattle.fleet_script.proofs.Steps.{files_unknown, files_told}
 use Rattle.fleet_script.proofs.states.Shell.files.Goals as goal
 
 pub returns-in_default : goal.returns-in_default
-returns-in_default c = record { done = files_unknown c.args.self.now.nodes.items c.args.node.now (sym (rw c.deref.ensures.value at c.in_default.ensures.found)) }
+returns-in_default c = record { done = files_unknown c.args.self.now.pieces.items c.args.self.now.nodes.items c.args.node.now (sym (rw c.deref.ensures.value at c.in_default.ensures.found)) }
 
 pub returns : goal.returns
 returns c =
     let nodes = c.args.self.now.nodes.items in
     let within : c.in-Some.at < length nodes = rw c.deref.ensures.value at c.in-Some.ensures.within in
-    record { done = files_told nodes c.args.node.now c.in-Some.at c.index-kept.result.now _ (sym (rw c.deref.ensures.value at c.in-Some.ensures.found)) (slice_get_at nodes c.in-Some.at c.index-kept.result.now within c.index-kept.ensures) (c.in_ok-files_of.ensures.lines ∙ ap files_text c.store.ensures.store) }
+    record { done = files_told c.args.self.now.pieces.items nodes c.args.node.now c.in-Some.at c.index-kept.result.now _ (sym (rw c.deref.ensures.value at c.in-Some.ensures.found)) (slice_get_at nodes c.in-Some.at c.index-kept.result.now within c.index-kept.ensures) (c.in_ok-files_of.ensures.lines ∙ ap files_text c.store.ensures.store) }

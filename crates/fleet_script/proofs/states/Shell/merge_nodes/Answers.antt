@@ -1,5 +1,5 @@
 use Rattle.std.proofs.Common.{◌<◌, length, arith, ap, ◌∙◌}
-use Rattle.fleet_script.proofs.Steps.{merged_at}
+use Rattle.fleet_script.proofs.Between.{merged_at}
 use Rattle.fleet_script.proofs.states.Shell.merge_nodes.Goals as goal
 
 pub returns-clause-joined : goal.returns-clause-joined

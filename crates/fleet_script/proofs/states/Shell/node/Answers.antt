@@ -13,14 +13,14 @@ none_of (Some i) e = cc (e)
 pub returns-then-is_some : goal.returns-then-is_some
 returns-then-is_some c =
     let found = some_of _ c.if-is_some.ensures in
-    record { done = node_taken c.args.self.now.nodes.items c.args.name.now c.args.writer found.0 (sym (rw c.deref.ensures.value at c.find.ensures.found) ∙ found.1) }
+    record { done = node_taken c.args.self.now.pieces.items c.args.self.now.nodes.items c.args.name.now c.args.writer found.0 (sym (rw c.deref.ensures.value at c.find.ensures.found) ∙ found.1) }
 
 pub returns-then-is_taken : goal.returns-then-is_taken
 returns-then-is_taken c =
     let none = none_of _ c.if-is_some.ensures in
-    record { done = writer_taken c.args.self.now.nodes.items c.args.name.now c.args.writer (sym (rw c.deref.ensures.value at c.find.ensures.found) ∙ none) (sym (rw c.deref-2.ensures.value at c.if-is_taken.ensures.taken)) }
+    record { done = writer_taken c.args.self.now.pieces.items c.args.self.now.nodes.items c.args.name.now c.args.writer (sym (rw c.deref.ensures.value at c.find.ensures.found) ∙ none) (sym (rw c.deref-2.ensures.value at c.if-is_taken.ensures.taken)) }
 
 pub returns-in-Ok : goal.returns-in-Ok
 returns-in-Ok c =
     let none = none_of _ c.if-is_some.ensures in
-    record { done = rw c.in-Ok.ensures.items (node_made c.args.self.now.nodes.items _ c.args.name.now _ c.args.writer (sym (rw c.deref.ensures.value at c.find.ensures.found) ∙ none) (sym (rw c.deref-2.ensures.value at c.if-is_taken.ensures.taken)) c.in_ok-text.ensures.items c.in_ok-from_slice.ensures.copy (ap (λ r. r.writer) c.new.ensures.empty) (ap (λ r. r.store) c.new.ensures.empty)) }
+    record { done = rw c.in-Ok.ensures.items (node_made c.args.self.now.pieces.items c.args.self.now.nodes.items _ c.args.name.now _ c.args.writer (sym (rw c.deref.ensures.value at c.find.ensures.found) ∙ none) (sym (rw c.deref-2.ensures.value at c.if-is_taken.ensures.taken)) c.in_ok-text.ensures.items c.in_ok-from_slice.ensures.copy (ap (λ r. r.writer) c.new.ensures.empty) (ap (λ r. r.store) c.new.ensures.empty)) }

@@ -1,0 +1,26 @@
+use Rattle.std.proofs.Common.{◌≡◌, ◌<◌, ◌≤◌, ◌-◌, length, Vec, Global, refl, ap, arith}
+use Rattle.fleet_script.specs.declared.states.Named.{Named}
+use Rattle.fleet_script.specs.Holds.{kept_in}
+use Rattle.fleet_script.proofs.Between.{merges_go, merge_step, none_merged, all_merged, any_node}
+use Rattle.fleet_script.proofs.states.Shell.gather.Goals as goal
+
+pub loop-k-init : goal.loop-k-init
+loop-k-init c = (omega arith, refl, none_merged (λ k. (k, 0)) (kept_in c.args.self.now))
+
+pub loop-k-preserved : goal.loop-k-preserved
+loop-k-preserved c =
+    let least : 1 ≤ c.loop-k.k = c.loop-k.auto.k in
+    let count = c.loop-k.invariant.1 in
+    let k_within : c.loop-k.k < length c.loop-k.self.nodes.items = omega (arith, c.loop-k-test.true, c.len-k-end.ensures, c.args.self.now.nodes.ok, count) in
+    let first_within : 0 < length c.loop-k.self.nodes.items = omega arith in
+    let now_count : length c.merge_nodes.new.self.nodes.items ≡ length c.loop-k.self.nodes.items = omega (arith, c.in_ok-merge_nodes.ensures.count, c.merge_nodes.new.self.nodes.ok, c.loop-k.self.nodes.ok) in (
+      omega (arith, c.loop-k-test.true),
+      omega arith,
+      merges_go (λ k. (k, 0)) c.loop-k.k (kept_in c.args.self.now) (kept_in c.loop-k.self) (kept_in c.merge_nodes.new.self) least c.loop-k.invariant.2
+          (merge_step c.loop-k.self.pieces.items c.merge_nodes.new.self.pieces.items c.loop-k.self.nodes.items c.merge_nodes.new.self.nodes.items c.loop-k.k 0 any_node k_within first_within c.in_ok-merge_nodes.ensures.joined (ap (λ (v : Vec Named Global). v.items) c.in_ok-merge_nodes.ensures.pieces)),
+    )
+
+pub returns : goal.returns
+returns c =
+    let last : c.loop-k.k - 1 ≡ length c.args.self.now.nodes.items - 1 = omega (arith, c.loop-k.invariant.0, c.loop-k-test.false, c.len-k-end.ensures, c.args.self.now.nodes.ok) in
+    record { merged = all_merged (λ k. (k, 0)) (c.loop-k.k - 1) c.args.self.now.pieces.items c.args.self.now.nodes.items (kept_in c.loop-k.self) last c.loop-k.invariant.2 }
