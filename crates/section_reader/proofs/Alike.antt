@@ -1,0 +1,296 @@
+-- Lines that differ by comments, blank lines and numbers alone say the same.
+use Rattle.std.proofs.Common.{◌≡◌, ◌+◌, ◌-◌, ℕ, Bool, true, false, cond, Option, Some, None, List, [], ◌∷◌, ◌++◌, map, filter, length, refl, sym, ap, ◌∙◌, ◌⊎◌, ⊎_elim, append_assoc, length-append, arith}
+use Rattle.std.specs.List.{flat_map}
+use Rattle.std.proofs.lemmas.List.{map-append, take_at}
+use Rattle.section_reader.specs.declared.assignments.Assignment.{Assignment}
+use Rattle.section_reader.specs.declared.assignments.Note.{Note}
+use Rattle.section_reader.specs.declared.assignments.NoteKind.TheVariants.{OutsideSection, NoEquals, BadHeader}
+use Rattle.section_reader.specs.declared.parts.LineForm.{LineForm}
+use Rattle.section_reader.specs.declared.parts.LineForm.TheVariants.{Blank, Comment, Continued, Whole}
+use Rattle.section_reader.specs.Lines.{Line, numbered}
+use Rattle.section_reader.specs.Parts.{form, spaced, trimmed, has_bytes, header_name, is_bracketed, pair_of}
+use Rattle.section_reader.specs.Logical.{going_on, joined, joined_lines, lines_behind, trimmed_line, has_text, logical_of, logical_lines}
+use Rattle.section_reader.specs.LogicalLaws.{going_on-blank, going_on-comment, going_on-continued, going_on-whole, joined_lines-blank, joined_lines-comment, joined_lines-continued, joined_lines-whole, lines_behind-blank, lines_behind-comment, lines_behind-continued, lines_behind-whole}
+use Rattle.section_reader.specs.Sections.{note, assigned, unassigned, up_to_bracket, section_items, assignments_in, section_notes, notes_behind, notes_in, assignments_of, notes_of}
+use Rattle.section_reader.specs.FileLaws.{said, kind_of, file_of, ArePlainLines, SameButNumbers, CommentsChangeNumbersAlone, BlankLinesChangeNumbersAlone, FirstBlankLineChangesNumbersAlone, ContinuedLinesAreJoined, physical_lines-file}
+
+abbrev text_of : Line → List ℕ
+text_of line = line.text
+
+-- the same texts, but for comments and for blank lines behind lines that aren't continued
+data Alike : List Line → List Line → Type 0 where
+  none : Alike [] []
+  one : (x y : Line) (xs ys : List Line) → x.text ≡ y.text → Alike xs ys → Alike (x ∷ xs) (y ∷ ys)
+  comment : (x : Line) (xs ys : List Line) → form x.text ≡ Comment → Alike xs ys → Alike (x ∷ xs) ys
+  blank : (x b y : Line) (xs ys : List Line) → x.text ≡ y.text → (form x.text ≡ Whole) ⊎ (form x.text ≡ Blank) → form b.text ≡ Blank → Alike xs ys → Alike (x ∷ b ∷ xs) (y ∷ ys)
+  cut : (x b y : Line) (xs ys : List Line) → form x.text ≡ Continued → form b.text ≡ Whole → form y.text ≡ Whole → spaced x.text ++ b.text ≡ y.text → Alike xs ys → Alike (x ∷ b ∷ xs) (y ∷ ys)
+
+-- such lines are joined alike, and go on alike
+record SaysSame (xs ys : List Line) : Type 0 where
+  more : going_on xs ≡ going_on ys
+  here : map text_of (joined_lines xs) ≡ map text_of (joined_lines ys)
+  behind : map text_of (lines_behind xs) ≡ map text_of (lines_behind ys)
+
+texts : List Line → List (List ℕ)
+texts lines = map text_of lines
+
+both_sides : {A : Type 0} (a b c d : A) → a ≡ b → b ≡ c → d ≡ c → a ≡ d
+both_sides a b c d p q r = p ∙ q ∙ sym r
+
+same_cons : (x y : List ℕ) (xs ys : List (List ℕ)) → x ≡ y → xs ≡ ys → x ∷ xs ≡ y ∷ ys
+same_cons x y xs ys p q = ap (λ v. v ∷ xs) p ∙ ap (λ v. y ∷ v) q
+
+one_says : (f : LineForm) (x y : Line) (xs ys : List Line) → form x.text ≡ f → form y.text ≡ f → x.text ≡ y.text → SaysSame xs ys → SaysSame (x ∷ xs) (y ∷ ys)
+one_says Blank x y xs ys p q same says = record {
+  more = both_sides _ _ _ _ (going_on-blank x xs p) refl (going_on-blank y ys q);
+  here = both_sides _ _ _ _ (ap (map text_of) (joined_lines-blank x xs p)) says.here (ap (map text_of) (joined_lines-blank y ys q));
+  behind = both_sides _ _ _ _ (ap (map text_of) (lines_behind-blank x xs p)) says.here (ap (map text_of) (lines_behind-blank y ys q));
+}
+one_says Comment x y xs ys p q same says = record {
+  more = both_sides _ _ _ _ (going_on-comment x xs p) says.more (going_on-comment y ys q);
+  here = both_sides _ _ _ _ (ap (map text_of) (joined_lines-comment x xs p)) says.here (ap (map text_of) (joined_lines-comment y ys q));
+  behind = both_sides _ _ _ _ (ap (map text_of) (lines_behind-comment x xs p)) says.behind (ap (map text_of) (lines_behind-comment y ys q));
+}
+one_says Continued x y xs ys p q same says =
+    let text = ap (λ t. spaced t ++ going_on xs) same ∙ ap (λ v. spaced y.text ++ v) says.more in
+    record {
+      more = both_sides _ _ _ _ (going_on-continued x xs p) text (going_on-continued y ys q);
+      here = both_sides _ _ _ _ (ap (map text_of) (joined_lines-continued x xs p)) (same_cons _ _ _ _ text says.behind) (ap (map text_of) (joined_lines-continued y ys q));
+      behind = both_sides _ _ _ _ (ap (map text_of) (lines_behind-continued x xs p)) says.behind (ap (map text_of) (lines_behind-continued y ys q));
+    }
+one_says Whole x y xs ys p q same says = record {
+  more = both_sides _ _ _ _ (going_on-whole x xs p) same (going_on-whole y ys q);
+  here = both_sides _ _ _ _ (ap (map text_of) (joined_lines-whole x xs p)) (same_cons _ _ _ _ same says.here) (ap (map text_of) (joined_lines-whole y ys q));
+  behind = both_sides _ _ _ _ (ap (map text_of) (lines_behind-whole x xs p)) says.here (ap (map text_of) (lines_behind-whole y ys q));
+}
+
+comment_says : (x : Line) (xs ys : List Line) → form x.text ≡ Comment → SaysSame xs ys → SaysSame (x ∷ xs) ys
+comment_says x xs ys p says = record {
+  more = going_on-comment x xs p ∙ says.more;
+  here = ap (map text_of) (joined_lines-comment x xs p) ∙ says.here;
+  behind = ap (map text_of) (lines_behind-comment x xs p) ∙ says.behind;
+}
+
+blank_says : (x b y : Line) (xs ys : List Line) → x.text ≡ y.text → (form x.text ≡ Whole) ⊎ (form x.text ≡ Blank) → form b.text ≡ Blank → SaysSame xs ys → SaysSame (x ∷ b ∷ xs) (y ∷ ys)
+blank_says x b y xs ys same is q says =
+    let passed = ap (map text_of) (joined_lines-blank b xs q) ∙ says.here in
+    ⊎_elim
+    (λ (p : form x.text ≡ Whole). let r : form y.text ≡ Whole = sym (ap form same) ∙ p in record {
+      more = both_sides _ _ _ _ (going_on-whole x (b ∷ xs) p) same (going_on-whole y ys r);
+      here = both_sides _ _ _ _ (ap (map text_of) (joined_lines-whole x (b ∷ xs) p)) (same_cons _ _ _ _ same passed) (ap (map text_of) (joined_lines-whole y ys r));
+      behind = both_sides _ _ _ _ (ap (map text_of) (lines_behind-whole x (b ∷ xs) p)) passed (ap (map text_of) (lines_behind-whole y ys r));
+    })
+    (λ (p : form x.text ≡ Blank). let r : form y.text ≡ Blank = sym (ap form same) ∙ p in record {
+      more = both_sides _ _ _ _ (going_on-blank x (b ∷ xs) p) refl (going_on-blank y ys r);
+      here = both_sides _ _ _ _ (ap (map text_of) (joined_lines-blank x (b ∷ xs) p)) passed (ap (map text_of) (joined_lines-blank y ys r));
+      behind = both_sides _ _ _ _ (ap (map text_of) (lines_behind-blank x (b ∷ xs) p)) passed (ap (map text_of) (lines_behind-blank y ys r));
+    })
+    is
+
+cut_says : (x b y : Line) (xs ys : List Line) → form x.text ≡ Continued → form b.text ≡ Whole → form y.text ≡ Whole → spaced x.text ++ b.text ≡ y.text → SaysSame xs ys → SaysSame (x ∷ b ∷ xs) (y ∷ ys)
+cut_says x b y xs ys p q r same says =
+    let text = ap (λ v. spaced x.text ++ v) (going_on-whole b xs q) ∙ same in
+    let after = ap (map text_of) (lines_behind-whole b xs q) ∙ says.here in
+    record {
+      more = both_sides _ _ _ _ (going_on-continued x (b ∷ xs) p) text (going_on-whole y ys r);
+      here = both_sides _ _ _ _ (ap (map text_of) (joined_lines-continued x (b ∷ xs) p)) (same_cons _ _ _ _ text after) (ap (map text_of) (joined_lines-whole y ys r));
+      behind = both_sides _ _ _ _ (ap (map text_of) (lines_behind-continued x (b ∷ xs) p)) after (ap (map text_of) (lines_behind-whole y ys r));
+    }
+
+alike_says : {xs ys : List Line} → Alike xs ys → SaysSame xs ys
+alike_says none = record { more = refl; here = refl; behind = refl }
+alike_says (one x y xs ys same alike) = one_says (form x.text) x y xs ys refl (sym (ap form same)) same (alike_says alike)
+alike_says (comment x xs ys is alike) = comment_says x xs ys is (alike_says alike)
+alike_says (blank x b y xs ys same is q alike) = blank_says x b y xs ys same is q (alike_says alike)
+alike_says (cut x b y xs ys p q r same alike) = cut_says x b y xs ys p q r same (alike_says alike)
+
+-- logical lines
+
+kept_text : (keep : Bool) (line : Line) (rest : List Line) → map text_of (cond keep (line ∷ rest) rest) ≡ cond keep (line.text ∷ map text_of rest) (map text_of rest)
+kept_text true line rest = refl
+kept_text false line rest = refl
+
+logical_texts : (lines : List Line) → map text_of (filter has_text (map trimmed_line lines)) ≡ filter has_bytes (map trimmed (map text_of lines))
+logical_texts [] = refl
+logical_texts (line ∷ lines) =
+    kept_text (has_bytes (trimmed line.text)) (trimmed_line line) (filter has_text (map trimmed_line lines))
+    ∙ ap (λ v. cond (has_bytes (trimmed line.text)) (trimmed line.text ∷ v) v) (logical_texts lines)
+
+logical_same : (xs ys : List Line) → map text_of (joined_lines xs) ≡ map text_of (joined_lines ys) → map text_of (logical_of xs) ≡ map text_of (logical_of ys)
+unfolding logical_of
+logical_same xs ys same = logical_texts (joined_lines xs) ∙ ap (λ v. filter has_bytes (map trimmed v)) same ∙ sym (logical_texts (joined_lines ys))
+
+-- assignments and notes
+
+block_same : (xs ys : List Line) → map text_of xs ≡ map text_of ys → map text_of (up_to_bracket xs) ≡ map text_of (up_to_bracket ys)
+unfolding up_to_bracket
+block_same [] [] same = refl
+block_same [] (y ∷ ys) same = absurd (cc)
+block_same (x ∷ xs) [] same = absurd (cc)
+block_same (x ∷ xs) (y ∷ ys) same =
+    let head : x.text ≡ y.text = cc in
+    let tail : map text_of xs ≡ map text_of ys = cc in
+    shut (is_bracketed x.text) (is_bracketed y.text) (ap is_bracketed head) (same_cons _ _ _ _ head (block_same xs ys tail))
+  where
+    shut : (b c : Bool) → b ≡ c → map text_of (x ∷ up_to_bracket xs) ≡ map text_of (y ∷ up_to_bracket ys)
+        → map text_of (cond b [] (x ∷ up_to_bracket xs)) ≡ map text_of (cond c [] (y ∷ up_to_bracket ys))
+    shut true true e rest = refl
+    shut true false e rest = absurd (cc)
+    shut false true e rest = absurd (cc)
+    shut false false e rest = rest
+
+said_here : (pair : Option (List ℕ × List ℕ)) (section : List ℕ) (k n : ℕ)
+    → map said (elim pair as (λ _. List Assignment) [ None ↦ [] | Some p ↦ record { section = section; key = p.0; value = p.1; line = k } ∷ [] ])
+    ≡ map said (elim pair as (λ _. List Assignment) [ None ↦ [] | Some p ↦ record { section = section; key = p.0; value = p.1; line = n } ∷ [] ])
+said_here None section k n = refl
+said_here (Some p) section k n = refl
+
+assigned_same : (section : List ℕ) (x y : Line) → x.text ≡ y.text → map said (assigned section x) ≡ map said (assigned section y)
+unfolding assigned
+assigned_same section x y same =
+    said_here (pair_of x.text) section x.number y.number ∙ ap (λ t. map said (assigned section (record { number = y.number; text = t }))) same
+
+section_same : (section : List ℕ) (xs ys : List Line) → map text_of xs ≡ map text_of ys → map said (flat_map (assigned section) xs) ≡ map said (flat_map (assigned section) ys)
+section_same section [] [] same = refl
+section_same section [] (y ∷ ys) same = absurd (cc)
+section_same section (x ∷ xs) [] same = absurd (cc)
+section_same section (x ∷ xs) (y ∷ ys) same =
+    let head : x.text ≡ y.text = cc in
+    let tail : map text_of xs ≡ map text_of ys = cc in
+    both_sides _ _ _ _
+    (map-append said (assigned section x) (flat_map (assigned section) xs))
+    (ap (λ v. v ++ map said (flat_map (assigned section) xs)) (assigned_same section x y head) ∙ ap (λ v. map said (assigned section y) ++ v) (section_same section xs ys tail))
+    (map-append said (assigned section y) (flat_map (assigned section) ys))
+
+named_same : (name : Option (List ℕ)) (us vs : List Line) → map text_of us ≡ map text_of vs
+    → map said (elim name as (λ _. List Assignment) [ None ↦ [] | Some n ↦ flat_map (assigned n) us ]) ≡ map said (elim name as (λ _. List Assignment) [ None ↦ [] | Some n ↦ flat_map (assigned n) vs ])
+named_same None us vs same = refl
+named_same (Some n) us vs same = section_same n us vs same
+
+items_same : (xs ys : List Line) → map text_of xs ≡ map text_of ys → map said (assignments_in xs) ≡ map said (assignments_in ys)
+unfolding assignments_in
+items_same [] [] same = refl
+items_same [] (y ∷ ys) same = absurd (cc)
+items_same (x ∷ xs) [] same = absurd (cc)
+items_same (x ∷ xs) (y ∷ ys) same =
+    let head : x.text ≡ y.text = cc in
+    let tail : map text_of xs ≡ map text_of ys = cc in
+    let section = named_same (header_name x.text) (up_to_bracket xs) (up_to_bracket ys) (block_same xs ys tail) ∙ ap (λ t. map said (section_items (record { number = y.number; text = t }) ys)) head in
+    both_sides _ _ _ _
+    (map-append said (section_items x xs) (assignments_in xs))
+    (ap (λ v. v ++ map said (assignments_in xs)) section ∙ ap (λ v. map said (section_items y ys) ++ v) (items_same xs ys tail))
+    (map-append said (section_items y ys) (assignments_in ys))
+
+missing_here : (pair : Option (List ℕ × List ℕ)) (x y : Line)
+    → map kind_of (elim pair as (λ _. List Note) [ None ↦ note NoEquals x ∷ [] | Some p ↦ [] ]) ≡ map kind_of (elim pair as (λ _. List Note) [ None ↦ note NoEquals y ∷ [] | Some p ↦ [] ])
+missing_here None x y = refl
+missing_here (Some p) x y = refl
+
+unassigned_same : (x y : Line) → x.text ≡ y.text → map kind_of (unassigned x) ≡ map kind_of (unassigned y)
+unfolding unassigned
+unassigned_same x y same = missing_here (pair_of x.text) x y ∙ ap (λ t. map kind_of (unassigned (record { number = y.number; text = t }))) same
+
+missing_same : (xs ys : List Line) → map text_of xs ≡ map text_of ys → map kind_of (flat_map unassigned xs) ≡ map kind_of (flat_map unassigned ys)
+missing_same [] [] same = refl
+missing_same [] (y ∷ ys) same = absurd (cc)
+missing_same (x ∷ xs) [] same = absurd (cc)
+missing_same (x ∷ xs) (y ∷ ys) same =
+    let head : x.text ≡ y.text = cc in
+    let tail : map text_of xs ≡ map text_of ys = cc in
+    both_sides _ _ _ _
+    (map-append kind_of (unassigned x) (flat_map unassigned xs))
+    (ap (λ v. v ++ map kind_of (flat_map unassigned xs)) (unassigned_same x y head) ∙ ap (λ v. map kind_of (unassigned y) ++ v) (missing_same xs ys tail))
+    (map-append kind_of (unassigned y) (flat_map unassigned ys))
+
+outside_same : (xs ys : List Line) → map text_of xs ≡ map text_of ys → map kind_of (map (note OutsideSection) xs) ≡ map kind_of (map (note OutsideSection) ys)
+outside_same [] [] same = refl
+outside_same [] (y ∷ ys) same = absurd (cc)
+outside_same (x ∷ xs) [] same = absurd (cc)
+outside_same (x ∷ xs) (y ∷ ys) same =
+    let tail : map text_of xs ≡ map text_of ys = cc in
+    ap (λ v. OutsideSection ∷ v) (outside_same xs ys tail)
+
+header_same : (bracketed : Bool) (name : Option (List ℕ)) (x y : Line) (us vs : List Line) → map text_of us ≡ map text_of vs
+    → map kind_of (cond bracketed (elim name as (λ _. List Note) [ None ↦ note BadHeader x ∷ [] | Some n ↦ flat_map unassigned us ]) [])
+    ≡ map kind_of (cond bracketed (elim name as (λ _. List Note) [ None ↦ note BadHeader y ∷ [] | Some n ↦ flat_map unassigned vs ]) [])
+header_same true None x y us vs same = refl
+header_same true (Some n) x y us vs same = missing_same us vs same
+header_same false name x y us vs same = refl
+
+notes_behind_same : (xs ys : List Line) → map text_of xs ≡ map text_of ys → map kind_of (notes_behind xs) ≡ map kind_of (notes_behind ys)
+unfolding notes_behind
+notes_behind_same [] [] same = refl
+notes_behind_same [] (y ∷ ys) same = absurd (cc)
+notes_behind_same (x ∷ xs) [] same = absurd (cc)
+notes_behind_same (x ∷ xs) (y ∷ ys) same =
+    let head : x.text ≡ y.text = cc in
+    let tail : map text_of xs ≡ map text_of ys = cc in
+    let own = λ (line : Line) (rest : List Line). cond (is_bracketed line.text) (section_notes line rest) [] in
+    let section = header_same (is_bracketed x.text) (header_name x.text) x y (up_to_bracket xs) (up_to_bracket ys) (block_same xs ys tail) ∙ ap (λ t. map kind_of (own (record { number = y.number; text = t }) ys)) head in
+    both_sides _ _ _ _
+    (map-append kind_of (own x xs) (notes_behind xs))
+    (ap (λ v. v ++ map kind_of (notes_behind xs)) section ∙ ap (λ v. map kind_of (own y ys) ++ v) (notes_behind_same xs ys tail))
+    (map-append kind_of (own y ys) (notes_behind ys))
+
+notes_same : (xs ys : List Line) → map text_of xs ≡ map text_of ys → map kind_of (notes_in xs) ≡ map kind_of (notes_in ys)
+unfolding notes_in
+notes_same xs ys same =
+    both_sides _ _ _ _
+    (map-append kind_of (map (note OutsideSection) (up_to_bracket xs)) (notes_behind xs))
+    (ap (λ v. v ++ map kind_of (notes_behind xs)) (outside_same (up_to_bracket xs) (up_to_bracket ys) (block_same xs ys same))
+    ∙ ap (λ v. map kind_of (map (note OutsideSection) (up_to_bracket ys)) ++ v) (notes_behind_same xs ys same))
+    (map-append kind_of (map (note OutsideSection) (up_to_bracket ys)) (notes_behind ys))
+
+-- files
+
+alike_numbered : (n m : ℕ) (ts : List (List ℕ)) → Alike (numbered n ts) (numbered m ts)
+unfolding numbered
+alike_numbered n m [] = none
+alike_numbered n m (t ∷ ts) = one _ _ _ _ refl (alike_numbered (n + 1) (m + 1) ts)
+
+alike_comment : (n m : ℕ) (front back : List (List ℕ)) (c : List ℕ) → form c ≡ Comment → Alike (numbered n (front ++ c ∷ back)) (numbered m (front ++ back))
+unfolding numbered
+alike_comment n m [] back c is = comment _ _ _ is (alike_numbered (n + 1) m back)
+alike_comment n m (t ∷ front) back c is = one _ _ _ _ refl (alike_comment (n + 1) (m + 1) front back c is)
+
+alike_blank : (n m : ℕ) (front back : List (List ℕ)) (l b : List ℕ) → (form l ≡ Whole) ⊎ (form l ≡ Blank) → form b ≡ Blank
+    → Alike (numbered n (front ++ l ∷ b ∷ back)) (numbered m (front ++ l ∷ back))
+unfolding numbered
+alike_blank n m [] back l b is blank_is = blank _ _ _ _ _ refl is blank_is (alike_numbered (n + 1 + 1) (m + 1) back)
+alike_blank n m (t ∷ front) back l b is blank_is = one _ _ _ _ refl (alike_blank (n + 1) (m + 1) front back l b is blank_is)
+
+-- the backslash makes way for a space
+spaced-cut : (start end : List ℕ) → spaced (start ++ 92 ∷ []) ++ end ≡ start ++ 32 ∷ end
+spaced-cut start end =
+    let at : length start ≡ length (start ++ 92 ∷ []) - 1 = omega (arith, length-append start (92 ∷ [])) in
+    ap (λ v. (v ++ 32 ∷ []) ++ end) (take_at start (92 ∷ []) (length (start ++ 92 ∷ []) - 1) at) ∙ append_assoc start (32 ∷ []) end
+
+alike_cut : (n m : ℕ) (front back : List (List ℕ)) (start end : List ℕ) → form (start ++ 92 ∷ []) ≡ Continued → form end ≡ Whole → form (start ++ 32 ∷ end) ≡ Whole
+    → Alike (numbered n (front ++ (start ++ 92 ∷ []) ∷ end ∷ back)) (numbered m (front ++ (start ++ 32 ∷ end) ∷ back))
+unfolding numbered
+alike_cut n m [] back start end p q r = cut _ _ _ _ _ p q r (spaced-cut start end) (alike_numbered (n + 1 + 1) (m + 1) back)
+alike_cut n m (t ∷ front) back start end p q r = one _ _ _ _ refl (alike_cut (n + 1) (m + 1) front back start end p q r)
+
+joined_same : (xs ys : List (List ℕ)) → ArePlainLines xs → ArePlainLines ys → map text_of (joined_lines (numbered 1 xs)) ≡ map text_of (joined_lines (numbered 1 ys))
+    → SameButNumbers (file_of xs) (file_of ys)
+unfolding assignments_of notes_of logical_lines
+joined_same xs ys p q same =
+    let logical = both_sides _ _ _ _
+    (ap (λ v. map text_of (logical_of v)) (physical_lines-file xs p))
+    (logical_same (numbered 1 xs) (numbered 1 ys) same)
+    (ap (λ v. map text_of (logical_of v)) (physical_lines-file ys q)) in
+    (items_same _ _ logical, notes_same _ _ logical)
+
+pub comments_change_numbers_alone : CommentsChangeNumbersAlone
+comments_change_numbers_alone front back c is p q = joined_same _ _ p q (alike_says (alike_comment 1 1 front back c is)).here
+
+pub blank_lines_change_numbers_alone : BlankLinesChangeNumbersAlone
+blank_lines_change_numbers_alone front back l b is blank_is p q = joined_same _ _ p q (alike_says (alike_blank 1 1 front back l b is blank_is)).here
+
+pub first_blank_line_changes_numbers_alone : FirstBlankLineChangesNumbersAlone
+unfolding numbered
+first_blank_line_changes_numbers_alone back b is p q =
+    joined_same (b ∷ back) back p q (ap (map text_of) (joined_lines-blank (record { number = 1; text = b }) (numbered 2 back) is) ∙ (alike_says (alike_numbered 2 1 back)).here)
+
+pub continued_lines_are_joined : ContinuedLinesAreJoined
+continued_lines_are_joined front back start end is whole joined p q = joined_same _ _ p q (alike_says (alike_cut 1 1 front back start end is whole joined)).here

@@ -1,0 +1,54 @@
+-- Comments, blank lines and the byte order mark.
+use Rattle.std.proofs.Common.{◌≡◌, ◌+◌, ◌&&◌, ◌||◌, ℕ, suc, Bool, true, false, eqb, List, [], ◌∷◌, ◌++◌, drop, refl, sym, ap, ◌∙◌, ⊎_elim, arith}
+use Rattle.std.specs.List.{prefix_len, list_all}
+use Rattle.std.specs.Str.Lines.{lines}
+use Rattle.std.proofs.lemmas.Bool.{cond-true, cond-false, and_parts}
+use Rattle.section_reader.specs.declared.parts.LineForm.TheVariants.{Comment}
+use Rattle.section_reader.specs.Lines.{numbered, without_mark, physical_lines}
+use Rattle.section_reader.specs.Parts.{form, is_white, is_blank, is_comment, trim_start}
+use Rattle.section_reader.specs.Logical.{logical_of, logical_lines}
+use Rattle.section_reader.specs.Sections.{assignments_in, notes_in, assignments_of, notes_of}
+use Rattle.section_reader.specs.FileLaws.{CommentsAreMarked, WhitespaceIsBlank, MarksChangeNothing}
+use Rattle.section_reader.proofs.PartLemmas.{and_nothing}
+use Rattle.section_reader.proofs.OneLine.{trim_start-bare}
+
+one_more : (n : ℕ) → 1 + n ≡ suc n
+one_more n = omega arith
+
+trim_start-white : (w : ℕ) (line : List ℕ) → is_white w ≡ true → trim_start (w ∷ line) ≡ trim_start line
+trim_start-white w line is = ap (λ k. drop k (w ∷ line)) (cond-true _ _ _ is ∙ one_more (prefix_len is_white line))
+
+trim_start-whites : (white line : List ℕ) → list_all is_white white ≡ true → trim_start (white ++ line) ≡ trim_start line
+trim_start-whites [] line all = refl
+trim_start-whites (w ∷ white) line all =
+    let parts = and_parts (is_white w) (list_all is_white white) all in
+    trim_start-white w (white ++ line) parts.0 ∙ trim_start-whites white line parts.1
+
+is_mark : ℕ → Bool
+is_mark b = (eqb 35 b && true) || (eqb 59 b && true)
+
+blank-marked : (white rest : List ℕ) (b : ℕ) → is_white b ≡ false → is_blank (white ++ b ∷ rest) ≡ false
+blank-marked [] rest b other = ap (λ v. v && is_blank rest) other
+blank-marked (w ∷ white) rest b other = and_nothing (is_white w) (is_blank (white ++ b ∷ rest)) (blank-marked white rest b other)
+
+marked : (white rest : List ℕ) (b : ℕ) → list_all is_white white ≡ true → is_white b ≡ false → is_mark b ≡ true → form (white ++ b ∷ rest) ≡ Comment
+unfolding form is_mark
+marked white rest b all other is =
+    let text = trim_start-whites white (b ∷ rest) all ∙ trim_start-bare (b ∷ rest) other in
+    let comment : is_comment (white ++ b ∷ rest) ≡ true = rw text is in
+    cond-false _ _ _ (blank-marked white rest b other) ∙ cond-true _ _ _ comment
+
+pub comments_are_marked : CommentsAreMarked
+unfolding is_mark
+comments_are_marked white rest b all is =
+    ⊎_elim (λ e. rw e (marked white rest 35 all refl refl)) (λ e. rw e (marked white rest 59 all refl refl)) is
+
+pub whitespace_is_blank : WhitespaceIsBlank
+unfolding form
+whitespace_is_blank white all = cond-true _ _ _ all
+
+pub marks_change_nothing : MarksChangeNothing
+unfolding assignments_of notes_of logical_lines physical_lines
+marks_change_nothing bytes none =
+    let same : without_mark bytes ≡ bytes = cond-false _ _ _ none in
+    (ap (λ v. assignments_in (logical_of (numbered 1 (lines v)))) (sym same), ap (λ v. notes_in (logical_of (numbered 1 (lines v)))) (sym same))

@@ -1,0 +1,8 @@
+pub mod Alike
+pub mod Comments
+pub mod CutLemmas
+pub mod JoinLemmas
+pub mod OneLine
+pub mod PartLemmas
+pub mod PlaceLemmas
+pub mod ReadBack

@@ -1,0 +1,219 @@
+-- A line at a time of what lines still give to a reader.
+use Rattle.std.proofs.Common.{◌≡◌, ◌<◌, ◌&&◌, ℕ, true, false, ltb, length, Option, Some, None, Result, Ok, Err, List, [], ◌∷◌, ◌++◌, refl, sym, ap, ◌∙◌, append_assoc, append-nil, arith}
+use Rattle.std.specs.Prelude.{nat_eq, codes}
+use Rattle.std.specs.List.{flat_map, ends_with}
+use Rattle.std.specs.Result.{OnOk}
+use Rattle.std.proofs.lemmas.Bool.{cond-true, cond-false, lt-ltb, le-ltb}
+use Rattle.section_reader.specs.declared.assignments.Assignment.{Assignment}
+use Rattle.section_reader.specs.declared.assignments.Note.{Note}
+use Rattle.section_reader.specs.declared.assignments.NoteKind.TheVariants.{OutsideSection, NoEquals, BadHeader}
+use Rattle.section_reader.specs.declared.places.Place.{Place}
+use Rattle.section_reader.specs.declared.places.Place.TheVariants.{Outside, Inside, PassedOver}
+use Rattle.section_reader.specs.Lines.{Line}
+use Rattle.section_reader.specs.Parts.{is_bracketed, header_name, pair_of}
+use Rattle.section_reader.specs.Sections.{note, up_to_bracket, assigned, unassigned, assignments_in, notes_behind, notes_in}
+use Rattle.section_reader.specs.Logical.{kept}
+use Rattle.section_reader.specs.Places.{items_at, notes_at, place_behind, header_notes, items_from, notes_from}
+
+-- lists and assignments
+
+pub nothing_more : {A : Type 0} (xs ys : List A) → ys ≡ [] → xs ≡ xs ++ ys
+nothing_more xs ys none = sym (ap (λ v. xs ++ v) none ∙ append-nil xs)
+
+pub one_more : {A : Type 0} (was is one more : List A) → is ≡ was ++ one → more ≡ one → is ≡ was ++ more
+one_more was is one more step same = step ∙ ap (λ v. was ++ v) (sym same)
+
+abbrev pub assignment : List ℕ → List ℕ → List ℕ → ℕ → Assignment
+assignment section key value line = record { section = section; key = key; value = value; line = line }
+
+pub same_assignment : (s section k key v value : List ℕ) (line : ℕ) → s ≡ section → k ≡ key → v ≡ value
+    → assignment s k v line ≡ record { section = section; key = key; value = value; line = line }
+same_assignment s section k key v value line es ek ev =
+    ap (λ x. assignment x k v line) es ∙ ap (λ x. assignment section x v line) ek ∙ ap (λ x. assignment section key x line) ev
+
+-- headers
+
+pub header_notes-good : (line : Line) (name : List ℕ) → header_name line.text ≡ Some name → header_notes line ≡ []
+unfolding header_notes
+header_notes-good line name is = rw (is, header_notes) refl
+
+pub header_notes-bad : (line : Line) → header_name line.text ≡ None → header_notes line ≡ note BadHeader line ∷ []
+unfolding header_notes
+header_notes-bad line is = rw (is, header_notes) refl
+
+pub place_behind-good : (text name : List ℕ) → header_name text ≡ Some name → place_behind text ≡ Inside name
+unfolding place_behind
+place_behind-good text name is = rw (is, place_behind) refl
+
+pub place_behind-bad : (text : List ℕ) → header_name text ≡ None → place_behind text ≡ PassedOver
+unfolding place_behind
+place_behind-bad text is = rw (is, place_behind) refl
+
+-- other lines
+
+pub items-outside : (line : Line) → items_at Outside (line ∷ []) ≡ []
+unfolding items_at
+items-outside line = refl
+
+pub notes-outside : (line : Line) → notes_at Outside (line ∷ []) ≡ note OutsideSection line ∷ []
+unfolding notes_at
+notes-outside line = refl
+
+pub items-passed_over : (line : Line) → items_at PassedOver (line ∷ []) ≡ []
+unfolding items_at
+items-passed_over line = refl
+
+pub notes-passed_over : (line : Line) → notes_at PassedOver (line ∷ []) ≡ []
+unfolding notes_at
+notes-passed_over line = refl
+
+pub items-unassigned : (section : List ℕ) (line : Line) → pair_of line.text ≡ None → items_at (Inside section) (line ∷ []) ≡ []
+unfolding items_at assigned
+items-unassigned section line is = append-nil (assigned section line) ∙ rw (is, assigned) refl
+
+pub notes-unassigned : (section : List ℕ) (line : Line) → pair_of line.text ≡ None → notes_at (Inside section) (line ∷ []) ≡ note NoEquals line ∷ []
+unfolding notes_at unassigned
+notes-unassigned section line is = append-nil (unassigned line) ∙ rw (is, unassigned) refl
+
+pub items-assigned : (section : List ℕ) (line : Line) (key value : List ℕ) → pair_of line.text ≡ Some (key, value)
+    → items_at (Inside section) (line ∷ []) ≡ record { section = section; key = key; value = value; line = line.number } ∷ []
+unfolding items_at assigned
+items-assigned section line key value is = append-nil (assigned section line) ∙ rw (is, assigned) refl
+
+pub notes-assigned : (section : List ℕ) (line : Line) (key value : List ℕ) → pair_of line.text ≡ Some (key, value) → notes_at (Inside section) (line ∷ []) ≡ []
+unfolding notes_at unassigned
+notes-assigned section line key value is = append-nil (unassigned line) ∙ rw (is, unassigned) refl
+
+-- what is left behind a line
+
+items_at-nil : (place : Place) → items_at place [] ≡ []
+unfolding items_at
+items_at-nil Outside = refl
+items_at-nil (Inside section) = refl
+items_at-nil PassedOver = refl
+
+notes_at-nil : (place : Place) → notes_at place [] ≡ []
+unfolding notes_at
+notes_at-nil Outside = refl
+notes_at-nil (Inside section) = refl
+notes_at-nil PassedOver = refl
+
+items_at-cons : (place : Place) (line : Line) (lines : List Line) → items_at place (line ∷ lines) ≡ items_at place (line ∷ []) ++ items_at place lines
+unfolding items_at
+items_at-cons Outside line lines = refl
+items_at-cons (Inside section) line lines = sym (ap (λ v. v ++ flat_map (assigned section) lines) (append-nil (assigned section line)))
+items_at-cons PassedOver line lines = refl
+
+notes_at-cons : (place : Place) (line : Line) (lines : List Line) → notes_at place (line ∷ lines) ≡ notes_at place (line ∷ []) ++ notes_at place lines
+unfolding notes_at
+notes_at-cons Outside line lines = refl
+notes_at-cons (Inside section) line lines = sym (ap (λ v. v ++ flat_map unassigned lines) (append-nil (unassigned line)))
+notes_at-cons PassedOver line lines = refl
+
+up_to_bracket-header : (line : Line) (rest : List Line) → is_bracketed line.text ≡ true → up_to_bracket (line ∷ rest) ≡ []
+unfolding up_to_bracket
+up_to_bracket-header line rest is = cond-true _ _ _ is
+
+up_to_bracket-entry : (line : Line) (rest : List Line) → is_bracketed line.text ≡ false → up_to_bracket (line ∷ rest) ≡ line ∷ up_to_bracket rest
+unfolding up_to_bracket
+up_to_bracket-entry line rest is = cond-false _ _ _ is
+
+named_items : (name : Option (List ℕ)) (lines : List Line)
+    → elim name as (λ _. List Assignment) [ None ↦ [] | Some n ↦ flat_map (assigned n) lines ] ≡ items_at (elim name as (λ _. Place) [ None ↦ PassedOver | Some n ↦ Inside n ]) lines
+unfolding items_at
+named_items None lines = refl
+named_items (Some n) lines = refl
+
+named_notes : (name : Option (List ℕ)) (line : Line) (lines : List Line)
+    → elim name as (λ _. List Note) [ None ↦ note BadHeader line ∷ [] | Some n ↦ flat_map unassigned lines ]
+    ≡ elim name as (λ _. List Note) [ None ↦ note BadHeader line ∷ [] | Some n ↦ [] ] ++ notes_at (elim name as (λ _. Place) [ None ↦ PassedOver | Some n ↦ Inside n ]) lines
+unfolding notes_at
+named_notes None line lines = refl
+named_notes (Some n) line lines = refl
+
+pub items_from-header : (place : Place) (line : Line) (rest : List Line) → is_bracketed line.text ≡ true → items_from place (line ∷ rest) ≡ items_from (place_behind line.text) rest
+unfolding items_from assignments_in place_behind
+items_from-header place line rest is =
+    ap (λ v. items_at place v ++ assignments_in (line ∷ rest)) (up_to_bracket-header line rest is)
+    ∙ ap (λ v. v ++ assignments_in (line ∷ rest)) (items_at-nil place)
+    ∙ ap (λ v. v ++ assignments_in rest) (named_items (header_name line.text) (up_to_bracket rest))
+
+pub notes_from-header : (place : Place) (line : Line) (rest : List Line) → is_bracketed line.text ≡ true
+    → notes_from place (line ∷ rest) ≡ header_notes line ++ notes_from (place_behind line.text) rest
+unfolding notes_from notes_behind place_behind header_notes
+notes_from-header place line rest is =
+    ap (λ v. notes_at place v ++ notes_behind (line ∷ rest)) (up_to_bracket-header line rest is)
+    ∙ ap (λ v. v ++ notes_behind (line ∷ rest)) (notes_at-nil place)
+    ∙ ap (λ v. v ++ notes_behind rest) (cond-true _ _ _ is ∙ named_notes (header_name line.text) line (up_to_bracket rest))
+    ∙ append_assoc (header_notes line) (notes_at (place_behind line.text) (up_to_bracket rest)) (notes_behind rest)
+
+pub plain_header : (text : List ℕ) → is_bracketed text ≡ false → header_name text ≡ None
+unfolding header_name
+plain_header text is = cond-false _ _ _ (ap (λ b. b && ends_with nat_eq text (codes "]") && ltb 2 (length text)) is)
+
+pub no_items : (name : Option (List ℕ)) (lines : List Line) → name ≡ None → elim name as (λ _. List Assignment) [ None ↦ [] | Some n ↦ flat_map (assigned n) lines ] ≡ []
+no_items None lines is = refl
+no_items (Some n) lines is = absurd (cc)
+
+pub items_from-entry : (place : Place) (line : Line) (rest : List Line) → is_bracketed line.text ≡ false
+    → items_from place (line ∷ rest) ≡ items_at place (line ∷ []) ++ items_from place rest
+unfolding items_from assignments_in
+items_from-entry place line rest is =
+    ap (λ v. items_at place v ++ assignments_in (line ∷ rest)) (up_to_bracket-entry line rest is)
+    ∙ ap (λ v. v ++ assignments_in (line ∷ rest)) (items_at-cons place line (up_to_bracket rest))
+    ∙ ap (λ v. (items_at place (line ∷ []) ++ items_at place (up_to_bracket rest)) ++ (v ++ assignments_in rest)) (no_items (header_name line.text) (up_to_bracket rest) (plain_header line.text is))
+    ∙ append_assoc (items_at place (line ∷ [])) (items_at place (up_to_bracket rest)) (assignments_in rest)
+
+pub notes_from-entry : (place : Place) (line : Line) (rest : List Line) → is_bracketed line.text ≡ false
+    → notes_from place (line ∷ rest) ≡ notes_at place (line ∷ []) ++ notes_from place rest
+unfolding notes_from notes_behind
+notes_from-entry place line rest is =
+    ap (λ v. notes_at place v ++ notes_behind (line ∷ rest)) (up_to_bracket-entry line rest is)
+    ∙ ap (λ v. v ++ notes_behind (line ∷ rest)) (notes_at-cons place line (up_to_bracket rest))
+    ∙ ap (λ v. (notes_at place (line ∷ []) ++ notes_at place (up_to_bracket rest)) ++ (v ++ notes_behind rest)) (cond-false _ _ _ is)
+    ∙ append_assoc (notes_at place (line ∷ [])) (notes_at place (up_to_bracket rest)) (notes_behind rest)
+
+pub items_from-nil : (place : Place) → items_from place [] ≡ []
+unfolding items_from up_to_bracket assignments_in
+items_from-nil place = ap (λ v. v ++ []) (items_at-nil place)
+
+pub notes_from-nil : (place : Place) → notes_from place [] ≡ []
+unfolding notes_from up_to_bracket notes_behind
+notes_from-nil place = ap (λ v. v ++ []) (notes_at-nil place)
+
+-- a line with a byte is kept
+pub kept-some : (line : Line) (rest : List Line) → 0 < length line.text → kept line rest ≡ line ∷ rest
+kept-some line rest some = cond-true _ _ _ (lt-ltb 0 (length line.text) some)
+
+-- An empty line gives nothing.
+pub kept-none : (line : Line) (rest : List Line) → length line.text ≡ 0 → kept line rest ≡ rest
+kept-none line rest none = cond-false _ _ _ (le-ltb 0 (length line.text) (omega arith))
+
+-- What a line gives is put behind what was read, and the rest is what the lines behind it give.
+pub told_on : {A : Type 0} (was is one here behind whole : List A) → is ≡ was ++ one → here ≡ behind → whole ≡ one ++ behind → is ++ here ≡ was ++ whole
+told_on was is one here behind whole step same all =
+    ap (λ v. v ++ here) step ∙ append_assoc was one here ∙ ap (λ v. was ++ v) (ap (λ v. one ++ v) same ∙ sym all)
+
+-- two facts on a success make a third
+pub both_ok : {T E P Q R : Type 0} (r : Result T E) → OnOk r P → OnOk r Q → (P → Q → R) → OnOk r R
+both_ok (Ok x) p q f = f p q
+both_ok (Err e) p q f = p
+
+-- At the start of a file nothing is given but what the file gives.
+pub items_from-start : (lines : List Line) → items_from Outside lines ≡ assignments_in lines
+unfolding items_from items_at
+items_from-start lines = refl
+
+pub notes_from-start : (lines : List Line) → notes_from Outside lines ≡ notes_in lines
+unfolding notes_from notes_at notes_in
+notes_from-start lines = refl
+
+-- a line more is read
+pub step : {A : Type 0} (give : List Line → List A) (was is whole : List A) (number : ℕ) (text trim : List ℕ) (lines rest : List Line)
+    → is ≡ was ++ give (kept (record { number = number; text = trim }) rest) → trim ≡ text → lines ≡ kept (record { number = number; text = text }) rest → was ++ give lines ≡ whole → is ≡ whole
+step give was is whole number text trim lines rest now same first so_far =
+    now ∙ ap (λ t. was ++ give (kept (record { number = number; text = t }) rest)) same ∙ ap (λ v. was ++ give v) (sym first) ∙ so_far
+
+-- no line is left
+pub finished : {A : Type 0} (give : List Line → List A) (was whole : List A) (lines : List Line) → lines ≡ [] → give [] ≡ [] → was ++ give lines ≡ whole → was ≡ whole
+finished give was whole lines end nothing so_far = nothing_more was (give lines) (ap give end ∙ nothing) ∙ so_far

@@ -1,0 +1,24 @@
+use Rattle.section_reader.proofs.Alike.{comments_change_numbers_alone, blank_lines_change_numbers_alone, first_blank_line_changes_numbers_alone, continued_lines_are_joined}
+use Rattle.section_reader.proofs.Comments.{comments_are_marked, whitespace_is_blank, marks_change_nothing}
+use Rattle.section_reader.proofs.laws.reading_laws.Goals as goal
+
+pub returns-clause-comments : goal.returns-clause-comments
+returns-clause-comments c = comments_change_numbers_alone
+
+pub returns-clause-blank_lines : goal.returns-clause-blank_lines
+returns-clause-blank_lines c = blank_lines_change_numbers_alone
+
+pub returns-clause-first_blank_line : goal.returns-clause-first_blank_line
+returns-clause-first_blank_line c = first_blank_line_changes_numbers_alone
+
+pub returns-clause-continued : goal.returns-clause-continued
+returns-clause-continued c = continued_lines_are_joined
+
+pub returns-clause-marked : goal.returns-clause-marked
+returns-clause-marked c = comments_are_marked
+
+pub returns-clause-white : goal.returns-clause-white
+returns-clause-white c = whitespace_is_blank
+
+pub returns-clause-byte_order_mark : goal.returns-clause-byte_order_mark
+returns-clause-byte_order_mark c = marks_change_nothing

@@ -1,0 +1,8 @@
+use Rattle.std.proofs.Common.{ap}
+use Rattle.std.specs.Str.Lines.{lines}
+use Rattle.section_reader.specs.Lines.{numbered, physical_lines}
+use Rattle.section_reader.proofs.lines.Lines.of.Goals as goal
+
+pub returns : goal.returns
+unfolding physical_lines
+returns c = record { lines = ap (λ v. numbered 1 (lines v)) c.without_mark.ensures.rest }

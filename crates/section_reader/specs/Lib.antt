@@ -1,0 +1,10 @@
+pub mod Lines
+pub mod LinesLaws
+pub mod Parts
+pub mod Logical
+pub mod LogicalLaws
+pub mod Sections
+pub mod FileLaws
+pub mod WrittenLaws
+pub mod Places
+pub mod Words

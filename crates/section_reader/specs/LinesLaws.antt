@@ -1,0 +1,82 @@
+-- Which physical lines a file has, said by how files are put together from lines.
+use Rattle.std.proofs.Common.{◌≡◌, ◌≢◌, ◌<◌, ◌+◌, ◌-◌, ◌==◌, ℕ, zero, suc, List, [], ◌∷◌, ◌++◌, length, take, get_or, refl, ap, ◌∙◌, append_assoc, length-append, add-zero, arith}
+use Rattle.std.specs.List.{All, AllByRecursion, flat_map, slice_split}
+use Rattle.std.specs.Str.Lines.{lines, lines_of_parts, strip_carriage_return}
+use Rattle.std.proofs.lemmas.Bool.{cond-true, cond-false, eq-eqb, ne_eqb}
+use Rattle.std.proofs.lemmas.List.Splits.{slice_split_at, slice_split_none, length-slice_split}
+use Rattle.std.proofs.lemmas.List.Elements.{All-weaker, All-push}
+use Rattle.std.proofs.lemmas.List.Prefix.{end_from_reads}
+use Rattle.std.proofs.lemmas.List.{get_or_push, take_at}
+
+-- no byte of the line is a line feed
+abbrev pub HasNoLineFeed : List ℕ → Type 0
+HasNoLineFeed line = All (λ b. b ≢ 10) line
+
+-- the line's last byte is a carriage return
+abbrev pub EndsInReturn : List ℕ → Type 0
+EndsInReturn line = (front : List ℕ) × (line ≡ front ++ 13 ∷ [])
+
+-- The line may stand in a file as it is: it has no line feed, and no carriage return at its end, which would belong to the line's end.
+abbrev pub IsPlainLine : List ℕ → Type 0
+IsPlainLine line = HasNoLineFeed line × ¬ (EndsInReturn line)
+
+line_then_parts : (line : List ℕ) (parts : List (List ℕ)) → 0 < length parts → lines_of_parts (line ∷ parts) ≡ strip_carriage_return line ∷ lines_of_parts parts
+line_then_parts line [] some = absurd (omega arith)
+line_then_parts line (next ∷ parts) some = refl
+
+-- what stands before the first line feed is the first line, but for a carriage return at its end
+pub lines-line_feed : (line rest : List ℕ) → HasNoLineFeed line → lines (line ++ 10 ∷ rest) ≡ strip_carriage_return line ∷ lines rest
+lines-line_feed line rest none =
+    let parts = slice_split (λ b. b == 10) rest in
+    ap lines_of_parts (slice_split_at (λ b. b == 10) line 10 rest (All-weaker _ _ (λ b. ne_eqb b 10) line none) refl)
+    ∙ line_then_parts line parts (omega (arith, length-slice_split (λ b. b == 10) rest))
+
+one_part : (line : List ℕ) → 0 < length line → lines_of_parts (line ∷ []) ≡ line ∷ []
+one_part line some = cond-false _ _ _ (ne_eqb (length line) 0 (λ e. omega arith))
+
+-- a file without a line feed is one line
+pub lines-last : (line : List ℕ) → 0 < length line → HasNoLineFeed line → lines line ≡ line ∷ []
+lines-last line some none =
+    ap lines_of_parts (slice_split_none (λ b. b == 10) line (All-weaker _ _ (λ b. ne_eqb b 10) line none)) ∙ one_part line some
+
+-- a line that doesn't end in a carriage return stays
+strip_carriage_return-plain : (line : List ℕ) → ¬ (EndsInReturn line) → strip_carriage_return line ≡ line
+strip_carriage_return-plain [] plain = refl
+strip_carriage_return-plain (b ∷ rest) plain =
+    let line = b ∷ rest in
+    cond-false _ _ _
+    (ne_eqb (get_or line (length line - 1) 0) 13
+    (λ is. plain (take (length line - 1) line, end_from_reads 0 line (13 ∷ []) (omega arith) (at_last is))))
+  where
+    at_last : get_or (b ∷ rest) (length (b ∷ rest) - 1) 0 ≡ 13 → (i : ℕ) → i < 1 → get_or (b ∷ rest) (length (b ∷ rest) - 1 + i) 0 ≡ get_or (13 ∷ []) i 0
+    at_last is zero lt = rw add-zero is
+    at_last is (suc i) lt = absurd (omega arith)
+
+-- Lines that are each followed by a line feed are the first lines of that file.
+pub lines-line_feeds : (texts : List (List ℕ)) (rest : List ℕ) → AllByRecursion IsPlainLine texts → lines (flat_map (λ line. line ++ 10 ∷ []) texts ++ rest) ≡ texts ++ lines rest
+lines-line_feeds [] rest plain = refl
+lines-line_feeds (line ∷ texts) rest plain =
+    let later = flat_map (λ line. line ++ 10 ∷ []) texts ++ rest in
+    let parts : (line ++ 10 ∷ [] ++ flat_map (λ line. line ++ 10 ∷ []) texts) ++ rest ≡ line ++ 10 ∷ later = simp append_assoc in
+    ap lines parts
+    ∙ lines-line_feed line later plain.0.0
+    ∙ ap (λ v. v ∷ lines later) (strip_carriage_return-plain line plain.0.1)
+    ∙ ap (λ v. line ∷ v) (lines-line_feeds texts rest plain.1)
+
+-- a carriage return before the line feed is dropped, and no other
+strip_carriage_return-return : (line : List ℕ) → strip_carriage_return (line ++ 13 ∷ []) ≡ line
+strip_carriage_return-return line =
+    let long : length (line ++ 13 ∷ []) - 1 ≡ length line = omega (arith, length-append line (13 ∷ [])) in
+    cond-true _ _ _ (eq-eqb _ 13 (ap (λ k. get_or (line ++ 13 ∷ []) k 0) long ∙ get_or_push line 13 0 (length line) refl))
+    ∙ ap (λ k. take k (line ++ 13 ∷ [])) long ∙ take_at line (13 ∷ []) (length line) refl
+
+-- Lines that are each followed by a carriage return and a line feed are the first lines of that file.
+pub lines-returns : (texts : List (List ℕ)) (rest : List ℕ) → AllByRecursion HasNoLineFeed texts → lines (flat_map (λ line. line ++ 13 ∷ 10 ∷ []) texts ++ rest) ≡ texts ++ lines rest
+lines-returns [] rest none = refl
+lines-returns (line ∷ texts) rest none =
+    let later = flat_map (λ line. line ++ 13 ∷ 10 ∷ []) texts ++ rest in
+    let parts : (line ++ 13 ∷ 10 ∷ [] ++ flat_map (λ line. line ++ 13 ∷ 10 ∷ []) texts) ++ rest ≡ (line ++ 13 ∷ []) ++ 10 ∷ later = simp append_assoc in
+    ap lines parts
+    ∙ lines-line_feed (line ++ 13 ∷ []) later (All-push (λ b. b ≢ 10) line 13 none.0 (λ e. omega arith))
+    ∙ ap (λ v. v ∷ lines later) (strip_carriage_return-return line)
+    ∙ ap (λ v. line ∷ v) (lines-returns texts rest none.1)

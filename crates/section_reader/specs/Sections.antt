@@ -1,0 +1,68 @@
+-- The assignments and notes of a file, by its logical lines.
+use Rattle.std.specs.Prelude.{ℕ, Some, None, if◌then◌else◌, List, [], ◌∷◌, ◌++◌, map}
+use Rattle.std.specs.List.{flat_map}
+use Rattle.section_reader.specs.declared.assignments.Assignment.{Assignment}
+use Rattle.section_reader.specs.declared.assignments.Note.{Note}
+use Rattle.section_reader.specs.declared.assignments.NoteKind.{NoteKind}
+use Rattle.section_reader.specs.declared.assignments.NoteKind.TheVariants.{OutsideSection, NoEquals, BadHeader}
+use Rattle.section_reader.specs.Lines.{Line}
+use Rattle.section_reader.specs.Logical.{logical_lines}
+use Rattle.section_reader.specs.Parts.{is_bracketed, header_name, pair_of}
+
+-- the lines up to the first that begins with a bracket
+unfoldable pub up_to_bracket : List Line → List Line
+up_to_bracket [] = []
+up_to_bracket (line ∷ rest) = if is_bracketed line.text then [] else line ∷ up_to_bracket rest
+
+-- what a line of a section assigns: one thing, or nothing
+unfoldable pub assigned : List ℕ → Line → List Assignment
+assigned section line = elim (pair_of line.text) [
+  | None ↦ []
+  | Some pair ↦ record { section = section; key = pair.0; value = pair.1; line = line.number } ∷ []
+]
+
+abbrev pub note : NoteKind → Line → Note
+note kind line = record { line = line.number; kind = kind }
+
+-- the note on a line of a section, where it assigns nothing
+unfoldable pub unassigned : Line → List Note
+unassigned line = elim (pair_of line.text) [
+  | None ↦ note NoEquals line ∷ []
+  | Some pair ↦ []
+]
+
+-- what the section of this header assigns, where the line is a good header: its lines are those up to the next that begins with a bracket
+abbrev pub section_items : Line → List Line → List Assignment
+section_items line rest = elim (header_name line.text) [
+  | None ↦ []
+  | Some name ↦ flat_map (assigned name) (up_to_bracket rest)
+]
+
+-- The assignments, section by section.
+unfoldable pub assignments_in : List Line → List Assignment
+assignments_in [] = []
+assignments_in (line ∷ rest) = section_items line rest ++ assignments_in rest
+
+-- the notes on a header and its section: behind a bad one the lines up to the next that begins with a bracket have none
+abbrev pub section_notes : Line → List Line → List Note
+section_notes line rest = elim (header_name line.text) [
+  | None ↦ note BadHeader line ∷ []
+  | Some name ↦ flat_map unassigned (up_to_bracket rest)
+]
+
+-- The notes on headers and sections.
+unfoldable pub notes_behind : List Line → List Note
+notes_behind [] = []
+notes_behind (line ∷ rest) = (if is_bracketed line.text then section_notes line rest else []) ++ notes_behind rest
+
+-- The notes: on each line that stands before any header, good or bad, and then section by section.
+unfoldable pub notes_in : List Line → List Note
+notes_in lines = map (note OutsideSection) (up_to_bracket lines) ++ notes_behind lines
+
+-- the assignments of a file
+unfoldable pub assignments_of : List ℕ → List Assignment
+assignments_of bytes = assignments_in (logical_lines bytes)
+
+-- the notes on a file's lines
+unfoldable pub notes_of : List ℕ → List Note
+notes_of bytes = notes_in (logical_lines bytes)

@@ -1,0 +1,91 @@
+//! Lists as values.
+ghost use Rattle.std.specs.Prelude.{◌≡◌, IfOk, OnOk, OnErr, [], ◌∷◌, ◌++◌};
+
+use crate::assignments::{Assignment, Note};
+use std::alloc::{AllocError, Global};
+use std::marker::Model;
+
+/// A list in the order of the file, which contracts see as its elements alone.
+#[derive(Debug, Drop)]
+pub struct Items<T: Drop> {
+    elements: Vec<T>,
+}
+
+impl<T: Drop> Model for Items<T> {
+    ghost use Rattle.std.specs.Prelude.{List};
+
+    ghost Value = { List T };
+
+    ghost view = { λ i. i.elements.items };
+}
+
+impl<T: Drop> Items<T> {
+    /// No elements. It takes no memory.
+    pub(crate) fn new(alloc: Global) -> Self
+        ensures empty { result ≡ [] }
+    {
+        Items {
+            elements: Vec::new(alloc),
+        }
+    }
+
+    /// Puts an element behind the others. It fails for want of memory alone, and then changes nothing.
+    pub(crate) fn push(&mut self, element: T) -> Result<(), AllocError>
+        ensures ok { OnOk result (self.new ≡ self.old ++ element ∷ []) }
+        ensures err { OnErr result (self.new ≡ self.old) }
+    {
+        self.elements.push(element)?;
+        Ok(())
+    }
+
+    /// The elements. It takes no memory.
+    pub fn as_slice(&self) -> &[T]
+        ensures elements { result.now ≡ self.now }
+    {
+        &self.elements
+    }
+}
+
+impl Items<Assignment> {
+    /// The same assignments again. It fails for want of memory alone.
+    pub fn try_clone(&self) -> Result<Items<Assignment>, AllocError>
+        ensures copy { IfOk result (λ copy. copy ≡ self.now) }
+    {
+        let mut copy = Items::new(*self.elements.allocator());
+        for assignment in &self.elements {
+            copy.push(assignment.try_clone()?)?;
+        }
+        Ok(copy)
+    }
+}
+
+impl Items<Note> {
+    /// The same notes again. It fails for want of memory alone.
+    pub fn try_clone(&self) -> Result<Items<Note>, AllocError>
+        ensures copy { IfOk result (λ copy. copy ≡ self.now) }
+    {
+        let mut copy = Items::new(*self.elements.allocator());
+        for note in &self.elements {
+            copy.push(*note)?;
+        }
+        Ok(copy)
+    }
+}
+
+impl<T: PartialEq + Drop> PartialEq for Items<T> {
+    ghost use Rattle.std.specs.Cmp.Lexicographic.{lists_per, pointwise};
+
+    ghost eq = { pointwise T.eq };
+
+    ghost laws = { lists_per T.laws };
+
+    fn eq(&self, other: &Self) -> bool {
+        self.elements == other.elements
+    }
+}
+
+impl<T: Eq + Drop> Eq for Items<T> {
+    ghost use Rattle.std.specs.Cmp.Lexicographic.{lists_equiv};
+
+    ghost laws = { lists_equiv T.Eq.laws };
+}

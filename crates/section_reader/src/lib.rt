@@ -1,0 +1,28 @@
+//! What a unit file says: the assignments of its sections, and notes on the lines that say nothing.
+//!
+//! The syntax is that of systemd.syntax(7), "Introduction"; what that page leaves open is this project's own. Nothing here
+//! knows what a section or a key means. `read` takes bytes, and refuses for want of memory alone.
+#![tactic(auto)]
+
+mod assignments;
+mod items;
+mod laws;
+mod lines;
+mod logical;
+mod parts;
+mod places;
+mod reader;
+mod section_names;
+mod sections;
+mod text;
+
+pub use assignments::{Assignment, Note, NoteKind};
+pub use items::Items;
+pub use laws::{reading_laws, writing_laws};
+pub use reader::read;
+pub use section_names::SectionName;
+pub use sections::Sections;
+pub use text::Text;
+
+#[cfg(test)]
+mod tests;

@@ -1,0 +1,14 @@
+//! Where a reader stands in a file.
+
+use crate::section_names::SectionName;
+
+/// What stands before a line that doesn't begin with a bracket.
+#[derive(Debug, Drop)]
+pub(crate) enum Place {
+    /// No header, good or bad.
+    Outside,
+    /// A header with this name.
+    Inside(SectionName),
+    /// A bad header.
+    PassedOver,
+}
