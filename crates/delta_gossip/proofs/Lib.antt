@@ -1,0 +1,4 @@
+pub mod Joins
+pub mod Rounds
+pub mod Shown
+pub mod Runs

@@ -1,0 +1,7 @@
+use Rattle.std.proofs.Common.{◌≡◌}
+use Rattle.delta_gossip.specs.Sweeps.{with_store}
+use Rattle.delta_gossip.proofs.Rounds.{gathered}
+use Rattle.delta_gossip.proofs.sweeps.gather.Given as goal
+
+abbrev pub invariant-loop-replica : goal.invariant-loop-replica
+invariant-loop-replica l = l.first ≡ with_store (gathered l.fn.first l.rest l.replica-index) l.fn.first

@@ -1,0 +1,42 @@
+use Rattle.std.proofs.Common.{◌≡◌, ◌++◌, ◌∙◌, subst, length, List}
+use Rattle.std.specs.Prelude.{reverse}
+use Rattle.std.proofs.lemmas.List.{take_all}
+use Rattle.edit_sums.specs.Sums.{sum_of}
+use Rattle.world_law.specs.declared.events.Event.{Event}
+use Rattle.world_law.specs.Worlds.{took, blank}
+use Rattle.world_law.specs.Took.{IsSumOf, Took}
+use Rattle.delta_gossip.specs.Shows.{world_after, IsWorld}
+use Rattle.delta_gossip.proofs.Runs.{after_more, each_shown, agree_shown, same_shown}
+use Rattle.delta_gossip.proofs.worlds.run_world.Goals as goal
+
+pub loop-event-preserved : goal.loop-event-preserved
+loop-event-preserved c = (
+  c.in_ok-step.ensures.writers ∙ c.loop-event.invariant.0,
+  rw (after_more c.args.events.now c.loop-event.event-index c.event-item.result (blank (length c.args.writers.now)) c.loop-event-test.true, ← c.event-item.is) (c.in_ok-step.ensures.model _ c.loop-event.invariant.1),
+)
+
+shown : (c : goal.After-loop-event) → IsWorld (world_after (length c.args.writers.now) c.args.events.now) c.loop-event.world
+shown c =
+    subst (λ (es : List Event). IsWorld (world_after (length c.args.writers.now) es) c.loop-event.world)
+    (take_all c.loop-event.event-index c.args.events.now c.loop-event-test.false) c.loop-event.invariant.1
+
+pub returns-clause-sums : goal.returns-clause-sums
+returns-clause-sums c honest k =
+    each_shown (world_after (length c.args.writers.now) c.args.events.now) c.loop-event.world.replicas.items _ _ (shown c) k (λ es s. s ≡ sum_of es)
+    (c.converges.ensures.sums (length c.args.writers.now) c.args.events.now honest k)
+
+pub returns-clause-told : goal.returns-clause-told
+returns-clause-told c honest k =
+    each_shown (world_after (length c.args.writers.now) c.args.events.now) c.loop-event.world.replicas.items _ _ (shown c) k
+    (λ es s. IsSumOf (Took (length c.args.writers.now) (reverse c.args.events.now) k) s)
+    (c.converges.ensures.told (length c.args.writers.now) c.args.events.now honest k)
+
+pub returns-clause-agree : goal.returns-clause-agree
+returns-clause-agree c honest k l same =
+    agree_shown c.loop-event.world.replicas.items (took (world_after (length c.args.writers.now) c.args.events.now)) (returns-clause-sums c honest) k l same
+
+pub returns-clause-same : goal.returns-clause-same
+returns-clause-same c later honest k l same =
+    same_shown (world_after (length c.args.writers.now) c.args.events.now) c.loop-event.world.replicas.items _ _ (shown c)
+    (world_after (length c.args.writers.now) (c.args.events.now ++ later)) k l
+    (c.converges.ensures.same (length c.args.writers.now) c.args.events.now later honest k l) same

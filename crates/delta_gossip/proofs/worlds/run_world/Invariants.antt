@@ -1,0 +1,7 @@
+use Rattle.std.proofs.Common.{◌≡◌, take, map, length}
+use Rattle.delta_gossip.specs.Shows.{world_after, IsWorld}
+use Rattle.delta_gossip.proofs.worlds.run_world.Given as goal
+
+abbrev pub invariant-loop-event : goal.invariant-loop-event
+invariant-loop-event l =
+    (map (λ r. r.writer) l.world.replicas.items ≡ l.fn.writers) × IsWorld (world_after (length l.fn.writers) (take l.event-index l.events)) l.world

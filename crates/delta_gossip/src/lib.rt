@@ -1,0 +1,20 @@
+//! Replicas that learn from one another: by whole stores, and by asks and the pieces cut for them.
+//!
+//! Two replicas are brought together by `exchange`, any number of them by `sweep`. `run_world` runs
+//! a list of events among nodes that put edits, ask, cut what was asked for, and are given pieces
+//! in any order, late, twice or never; its contract says that nodes that took the same edits hold
+//! the same (Shapiro, Preguica, Baquero, Zawirski, "Conflict-free Replicated Data Types", 2011).
+#![tactic(auto)]
+
+mod exchanges;
+mod steps;
+mod sweeps;
+#[cfg(test)]
+mod tests;
+mod worlds;
+
+pub use delta_pieces::{Digest, Piece, TakeFault, delta_at, delta_for, digest, take};
+pub use exchanges::exchange;
+pub use sweeps::sweep;
+pub use world_law::{Event, Paths};
+pub use worlds::{World, run_world};

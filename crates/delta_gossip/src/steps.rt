@@ -1,0 +1,106 @@
+//! What each event does in a world. One that names what does not exist does nothing.
+ghost use Rattle.std.specs.Prelude.{◌≡◌, map, IfOk, OnOk};
+ghost use Rattle.world_law.specs.Cuts.{cut};
+ghost use Rattle.world_law.specs.Worlds.{World as Model, happens};
+ghost use Rattle.world_law.specs.declared.events.Event.TheVariants.{Put, Ask, Cut, Give};
+ghost use Rattle.delta_gossip.specs.Shows.{IsWorld};
+
+use crate::worlds::World;
+use delta_pieces::{Digest, Piece, delta_at, delta_for, digest};
+use edit_sums::Edit;
+use replica_store::{Replica, Store};
+use std::alloc::{AllocError, Global};
+use std::slice::from_ref;
+use world_law::{Event, Paths};
+
+/// What one event does: whatever model world is shown before, the next one is shown after it.
+pub fn step(alloc: Global, world: &mut World, event: &Event) -> Result<(), AllocError>
+    ensures writers { OnOk result (map (λ r. r.writer) world.new.replicas.items ≡ map (λ r. r.writer) world.old.replicas.items) }
+    ensures model { OnOk result ((w : Model) → IsWorld w world.old → IsWorld (happens w event.now) world.new) }
+{
+    match event {
+        Event::Put { node, edit } => put_edit(alloc, world, *node, edit),
+        Event::Ask { node } => ask_as(alloc, world, *node),
+        Event::Cut { node, ask, paths } => cut_piece(alloc, world, *node, *ask, paths),
+        Event::Give { piece, node } => give_piece(world, *piece, *node),
+    }
+}
+
+// A node puts a copy of an edit into its store.
+fn put_edit(alloc: Global, world: &mut World, node: usize, edit: &Edit) -> Result<(), AllocError>
+    ensures writers { OnOk result (map (λ r. r.writer) world.new.replicas.items ≡ map (λ r. r.writer) world.old.replicas.items) }
+    ensures model { OnOk result ((w : Model) → IsWorld w world.old → IsWorld (happens w (Put node edit.now)) world.new) }
+{
+    let Some(replica) = world.replicas.get_mut(node) else {
+        return Ok(());
+    };
+    match replica.absorb(Store::from_edits(alloc, from_ref(edit))?) {
+        Ok(_) => Ok(()),
+        Err(_) => Err(AllocError),
+    }
+}
+
+// A node asks.
+fn ask_as(alloc: Global, world: &mut World, node: usize) -> Result<(), AllocError>
+    ensures writers { OnOk result (map (λ r. r.writer) world.new.replicas.items ≡ map (λ r. r.writer) world.old.replicas.items) }
+    ensures model { OnOk result ((w : Model) → IsWorld w world.old → IsWorld (happens w (Ask node)) world.new) }
+{
+    let Some(replica) = world.replicas.get(node) else {
+        return Ok(());
+    };
+    let asked = digest(alloc, replica)?;
+    world.asks.push(asked)?;
+    Ok(())
+}
+
+// A node cuts a piece for an ask.
+fn cut_piece(
+    alloc: Global,
+    world: &mut World,
+    node: usize,
+    ask: usize,
+    paths: &Option<Paths>,
+) -> Result<(), AllocError>
+    ensures writers { OnOk result (map (λ r. r.writer) world.new.replicas.items ≡ map (λ r. r.writer) world.old.replicas.items) }
+    ensures model { OnOk result ((w : Model) → IsWorld w world.old → IsWorld (happens w (Cut node ask paths.now)) world.new) }
+{
+    let Some(replica) = world.replicas.get(node) else {
+        return Ok(());
+    };
+    let Some(asked) = world.asks.get(ask) else {
+        return Ok(());
+    };
+    let piece = cut_for(alloc, replica, asked, paths)?;
+    world.pieces.push(piece)?;
+    Ok(())
+}
+
+// What a replica has for an ask, at these paths or at all.
+fn cut_for(
+    alloc: Global,
+    replica: &Replica,
+    asked: &Digest,
+    paths: &Option<Paths>,
+) -> Result<Piece, AllocError>
+    ensures cut { IfOk result (λ piece. piece ≡ cut replica.now.store asked.now paths.now) }
+{
+    match paths {
+        None => delta_for(alloc, replica, asked),
+        Some(paths) => delta_at(alloc, replica, asked, paths.as_slice()),
+    }
+}
+
+// A node is given a piece, which stays.
+fn give_piece(world: &mut World, piece: usize, node: usize) -> Result<(), AllocError>
+    ensures writers { OnOk result (map (λ r. r.writer) world.new.replicas.items ≡ map (λ r. r.writer) world.old.replicas.items) }
+    ensures model { OnOk result ((w : Model) → IsWorld w world.old → IsWorld (happens w (Give piece node)) world.new) }
+{
+    let Some(piece) = world.pieces.get(piece) else {
+        return Ok(());
+    };
+    let Some(replica) = world.replicas.get_mut(node) else {
+        return Ok(());
+    };
+    replica.merge(piece.store())?;
+    Ok(())
+}

@@ -1,0 +1,50 @@
+//! Any number of replicas, brought together.
+ghost use Rattle.std.specs.Prelude.{◌≡◌, ◌∷◌, All, map, OnOk, OnErr};
+ghost use Rattle.edit_sums.specs.Sums.{IsStoreBelow};
+ghost use Rattle.delta_gossip.specs.Sweeps.{join_all, with_store, AreBetween, IsBetween};
+
+use replica_store::Replica;
+use std::alloc::AllocError;
+
+/// Brings every replica into the first, and then the first into every other one: all then hold the
+/// join of all stores. With k replicas these are 2(k - 1) merges, and nothing is copied that is
+/// only read.
+///
+/// It fails for want of memory alone. Each store then lies between what it was and the join of all,
+/// and the same call may be made again.
+pub fn sweep(replicas: &mut [Replica]) -> Result<(), AllocError>
+    ensures joined { OnOk result (replicas.new ≡ map (with_store (join_all (map (λ r. r.store) replicas.old))) replicas.old) }
+    ensures between { OnErr result (AreBetween (join_all (map (λ r. r.store) replicas.old)) replicas.old replicas.new) }
+    ensures again { OnErr result (join_all (map (λ r. r.store) replicas.new) ≡ join_all (map (λ r. r.store) replicas.old)) }
+{
+    match replicas.split_first_mut() {
+        None => Ok(()),
+        Some((first, rest)) => {
+            gather(first, rest)?;
+            spread(first, rest)
+        }
+    }
+}
+
+// Brings all the others into the first.
+fn gather(first: &mut Replica, rest: &[Replica]) -> Result<(), AllocError>
+    ensures gathered { OnOk result (first.new ≡ with_store (join_all (map (λ r. r.store) (first.old ∷ rest.now))) first.old) }
+    ensures between { OnErr result (IsBetween (join_all (map (λ r. r.store) (first.old ∷ rest.now))) first.old first.new) }
+{
+    for replica in rest {
+        first.merge(replica.store())?;
+    }
+    Ok(())
+}
+
+// Brings the first, which holds what they hold, into all the others.
+fn spread(first: &Replica, rest: &mut [Replica]) -> Result<(), AllocError>
+    requires below { All (λ r. IsStoreBelow r.store first.now.store) rest.old }
+    ensures spread { OnOk result (rest.new ≡ map (with_store first.now.store) rest.old) }
+    ensures between { OnErr result (AreBetween first.now.store rest.old rest.new) }
+{
+    for replica in rest.iter_mut() {
+        replica.merge(first.store())?;
+    }
+    Ok(())
+}
