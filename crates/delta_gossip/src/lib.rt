@@ -13,7 +13,7 @@ mod sweeps;
 mod tests;
 mod worlds;
 
-pub use delta_pieces::{Digest, Piece, TakeFault, delta_at, delta_for, digest, take};
+pub use delta_pieces::{Digest, Piece, Rest, TakeFault, delta_at, delta_for, digest, take};
 pub use exchanges::exchange;
 pub use sweeps::sweep;
 pub use world_law::{Event, Paths};

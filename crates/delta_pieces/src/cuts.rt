@@ -10,9 +10,9 @@ use load_path::Path;
 use replica_store::{Replica, Store};
 use std::alloc::{AllocError, Global};
 
-/// Copies of what a replica holds whose version is greater than the digest's, or whose path the
-/// digest lacks. Where no version stands for two edits, whoever asked with its own digest lacks
-/// nothing of the replica once it has taken them.
+/// Copies of what a replica holds that is news to a digest: of a greater version than it has, or at
+/// a path that it doesn't have. Where no version stands for two edits, whoever asked with its own
+/// digest lacks nothing of the replica once it takes them.
 ///
 /// One pass over the entries and the versions together; only what is carried is copied. It fails
 /// for want of memory alone.

@@ -106,7 +106,8 @@ impl Shell {
         Ok(merge_done(alloc, changed)?)
     }
 
-    /// Merges every node into the first, and then the first into every node.
+    /// Brings all nodes together: each of the others is merged into the first, and the first then into
+    /// each of them.
     pub fn sweep(&mut self, alloc: Global) -> Result<Vec<u8>, Fault>
         ensures done { IsSaid (λ text. text.items) result (λ outcome. Continues (kept_in self.old) (kept_in self.new)
             (λ old new. Does old Sweep outcome new)) }

@@ -5,8 +5,8 @@ ghost use Rattle.unit_name.specs.Escapes.{is_kept, hex_escape, escaped_byte, esc
 
 use std::alloc::{AllocError, Global};
 
-/// What spells these bytes in a name. `/` becomes `-`; a byte that is no ASCII letter or digit, `:`, `_` or `.` becomes a
-/// backslash, an `x` and two lower-case hexadecimal digits, and so does a `.` that comes first.
+/// What spells these bytes in a name. `/` becomes `-`. ASCII letters and digits, `:`, `_` and `.` stay as they are. Of any
+/// other byte, and of a `.` at the very start, come a backslash, an `x` and two lower-case hexadecimal digits.
 pub fn escape(alloc: Global, text: &[u8]) -> Result<Vec<u8>, AllocError>
     ensures escaped { IfOk result (λ escaped. escaped.items ≡ escape text.now) }
 {

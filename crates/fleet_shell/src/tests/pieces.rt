@@ -18,7 +18,10 @@ fn links_are_held(rt: HostRuntime) -> Result<(), Fail> {
             ("put a /etc/systemd/system/x A", "ok 3.1"),
             ("link a /etc/systemd/system/x z", "ok 4.1"),
             ("remove a /etc/systemd/system/d.wants/y", "ok 5.1"),
-            ("remove a /etc/systemd/system/d.wants/y", "error: E2 Nothing"),
+            (
+                "remove a /etc/systemd/system/d.wants/y",
+                "error: E2 Nothing",
+            ),
             (
                 "files a",
                 "/etc/systemd/system/x 4.1 link z\n\

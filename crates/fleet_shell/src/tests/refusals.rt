@@ -4,7 +4,8 @@ use super::*;
 #[test]
 fn commands_that_are_not_there(rt: HostRuntime) -> Result<(), Fail> {
     for line in [
-        "frob", "show", "cat", "list", "plan", "crowd", "workers", "Node", "nodes", "links", "Sweep",
+        "frob", "show", "cat", "list", "plan", "crowd", "workers", "Node", "nodes", "links",
+        "Sweep",
     ] {
         let script = format!(in rt.alloc(); "{line}\n{line} a-b /opt/x 1 \\q\n")?;
         let written = answers_to(&rt, script.as_bytes())?;
