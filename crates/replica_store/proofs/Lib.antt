@@ -8,3 +8,4 @@ pub mod Kept
 pub mod SameLists
 pub mod Puts
 pub mod Spans
+pub mod Searches

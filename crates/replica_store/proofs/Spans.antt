@@ -80,7 +80,7 @@ gt_le Less h = refl
 gt_le Equal h = refl
 gt_le Greater h = cc (h)
 
-below_at : (x : PathParts) (es : List Pair) (j : ℕ) (d : Pair) → IsTrue (below_all path_cmp x es) → j < length es → path_cmp x (get_or es j d).0 ≡ Less
+pub below_at : (x : PathParts) (es : List Pair) (j : ℕ) (d : Pair) → IsTrue (below_all path_cmp x es) → j < length es → path_cmp x (get_or es j d).0 ≡ Less
 below_at x [] j d h lt = absurd (omega arith)
 below_at x (e ∷ es) zero d h lt = is_less _ (both_first _ _ h)
 below_at x (e ∷ es) (suc j) d h lt = below_at x es j d (both_second _ _ h) (omega arith)

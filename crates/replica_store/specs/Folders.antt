@@ -1,10 +1,20 @@
--- The paths of a folder.
-use Rattle.std.specs.Prelude.{ℕ, Bool, ◌==◌, ◌&&◌, List}
+-- Paths by their parts, and the paths of a folder.
+use Rattle.std.specs.Prelude.{ℕ, Bool, ◌==◌, ◌&&◌, Option, Some, None, List}
 use Rattle.std.specs.Str.{bytes_eq}
 use Rattle.std.specs.Ordering.{nat_cmp, ordering_then}
 use Rattle.std.specs.Cmp.Lexicographic.{slice_cmp}
 use Rattle.std.specs.declared.cmp.Ordering.{Ordering}
 use Rattle.load_path.specs.Paths.{PathParts}
+use Rattle.edit_sums.specs.declared.entries.Entry.{Entry}
+
+-- the path of these parts
+abbrev pub path_at : ℕ → List ℕ → List ℕ → PathParts
+path_at rank folder name = record { rank = rank; folder = folder; name = name }
+
+-- an entry with its path
+abbrev pub paired : PathParts → Option Entry → Option (PathParts × Entry)
+paired path None = None
+paired path (Some entry) = Some (path, entry)
 
 -- the path is in this folder of the directory of this rank; the empty folder has the paths of one component
 abbrev pub is_in : ℕ → List ℕ → PathParts → Bool

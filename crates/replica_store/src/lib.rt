@@ -6,6 +6,7 @@
 #![tactic(auto)]
 
 mod folders;
+mod lookups;
 mod merges;
 mod replicas;
 mod scans;

@@ -1,13 +1,14 @@
 //! Stores.
 ghost use Rattle.std.specs.Prelude.{◌≡◌, ◌↔◌, IsTrue, IfOk, OnOk, OnErr, IfErr, filter};
-ghost use Rattle.std.specs.Option.{option_copied};
+ghost use Rattle.std.specs.Option.{option_copied, option_map, IfSome};
 ghost use Rattle.std.specs.FinMap as finmap;
 ghost use Rattle.std.specs.FinMap.{is_sorted};
 ghost use Rattle.load_path.specs.Paths.{path_cmp};
 ghost use Rattle.edit_sums.specs.Sums.{edit_of, high_of, join, sum_of, visible_at, with_edit, changed_paths, IsStoreBelow};
-ghost use Rattle.replica_store.specs.Folders.{is_in};
+ghost use Rattle.replica_store.specs.Folders.{is_in, path_at};
 
 use crate::folders::in_folder;
+use crate::lookups::{content_shown, pair_at};
 use crate::merges::{join_one, merge_copies, merge_moved};
 use crate::scans::{are_same, copy_of, greatest, paths_of};
 use edit_sums::{Content, Edit, Entry};
@@ -118,6 +119,16 @@ impl Store {
             Content::Gone => None,
             shown => Some(shown),
         }
+    }
+
+    /// The path of these parts and the content that is visible there, if there is one. The empty
+    /// folder stands for none. O(log n), without memory and without a path being built.
+    pub fn visible_at(&self, rank: u8, folder: &[u8], name: &[u8]) -> Option<(&Path, &Content)>
+        ensures path { IfSome result (λ found. found.0.now ≡ path_at rank folder.now name.now) }
+        ensures visible { option_map (λ found. found.1.now) result ≡ visible_at self.now (path_at rank folder.now name.now) }
+    {
+        let (path, entry) = pair_at(&self.entries, rank, folder, name)?;
+        Some((path, content_shown(entry)?))
     }
 
     /// All paths and entries in path order, without memory.
