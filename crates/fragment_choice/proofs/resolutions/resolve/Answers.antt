@@ -1,0 +1,21 @@
+use Rattle.std.proofs.Common.{◌-◌, sym, ap, ◌∙◌, arith}
+use Rattle.fragment_choice.specs.Resolutions.{follow}
+use Rattle.fragment_choice.proofs.Steps.{asked, ended_here, unasked, stands}
+use Rattle.fragment_choice.proofs.resolutions.resolve.Goals as goal
+
+pub loop-step-init : goal.loop-step-init
+loop-step-init c = ap (follow c.args.store.now 9 c.args.name.now) c.in_ok-main.ensures.same
+
+pub returns-in_default : goal.returns-in_default
+returns-in_default c =
+    let found = ended_here _ c.loop-step.main _ c.in_default.not-Alias ∙ asked c.args.store.now c.args.name.now c.loop-step.main (9 - c.loop-step.step) (9 - c.loop-step.step - 1) _ _ (omega arith) c.in_ok-choice.ensures.choice c.loop-step.invariant in
+    let all = stands c.args.store.now c.args.name.now _ found in
+    record { resolution = found; chain = all.chain; no_alias = all.no_alias }
+
+pub loop-step-preserved : goal.loop-step-preserved
+loop-step-preserved c = asked c.args.store.now c.args.name.now c.loop-step.main (9 - c.loop-step.step) _ _ _ (omega arith) (sym c.in-Alias.is ∙ c.in_ok-choice.ensures.choice) c.loop-step.invariant
+
+pub returns : goal.returns
+returns c =
+    let found = unasked c.args.store.now c.args.name.now c.loop-step.main _ (9 - c.loop-step.step) _ (omega arith) c.in_ok-try_clone.ensures.same c.loop-step.invariant in
+    record { resolution = found; chain = (stands c.args.store.now c.args.name.now _ found).chain; no_alias = tt }

@@ -1,0 +1,9 @@
+pub mod Choices
+pub mod ChoiceLaws
+pub mod Resolutions
+pub mod ResolutionLaws
+pub mod UnitNames
+pub mod LinkedNames
+pub mod LinkLaws
+pub mod UnitNameLaws
+pub mod FragmentLaws

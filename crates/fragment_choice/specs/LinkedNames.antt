@@ -1,0 +1,40 @@
+-- The names that links give to a unit.
+use Rattle.std.specs.Prelude.{◌≡◌, ℕ, Bool, true, false, Option, Some, None, List, [], ◌∷◌, ◌⊎◌, IsTrue, if◌then◌else◌}
+use Rattle.load_path.specs.Paths.{PathParts}
+use Rattle.edit_sums.specs.declared.contents.Content.{Content}
+use Rattle.edit_sums.specs.declared.contents.Content.TheVariants.{Gone, Link, File}
+use Rattle.edit_sums.specs.Sums.{EntryMap, visible_at}
+use Rattle.unit_name.specs.Names.{Name, is_name}
+use Rattle.unit_name.specs.Forms.{template_of}
+use Rattle.fragment_choice.specs.Choices.{own_path}
+use Rattle.fragment_choice.specs.UnitNames.{IsAmong, IsOtherName}
+
+-- the unit name that these bytes are
+abbrev pub unit_of : List ℕ → Option Name
+unit_of b = if is_name b then Some b else None
+
+abbrev pub is_link : Option Content → Bool
+is_link None = false
+is_link (Some Gone) = false
+is_link (Some (Link target)) = true
+is_link (Some (File bytes)) = false
+
+-- n or its template is o, and at this rank a visible link has this name
+pub record IsLinkedBy (s : EntryMap) (rank : ℕ) (o n : Name) : Type 0 where
+  pub link : IsTrue (is_link (visible_at s (own_path o rank)))
+  pub owner : (o ≡ n) ⊎ (template_of n ≡ Some o)
+
+-- a link at this rank gives the name n
+abbrev pub IsLinkedAt : EntryMap → ℕ → Name → Type 0
+IsLinkedAt s rank n = (o : Name) × IsLinkedBy s rank o n
+
+-- one of these paths is such a link
+abbrev pub IsLinkedAmong : EntryMap → ℕ → List PathParts → Name → Type 0
+IsLinkedAmong s rank [] n = ⊥
+IsLinkedAmong s rank (p ∷ ps) n = IsLinkedBy s rank p.name n ⊎ IsLinkedAmong s rank ps n
+
+-- other names of u were added: those that pass are all there
+pub record Gathers (s : EntryMap) (u : Name) (Passes : Name → Type 0) (old new : List Name) : Type 0 where
+  pub kept : (n : Name) → IsAmong n old → IsAmong n new
+  pub sound : (n : Name) → IsAmong n new → IsAmong n old ⊎ IsOtherName s u n
+  pub found : (n : Name) → Passes n → IsOtherName s u n → IsAmong n new

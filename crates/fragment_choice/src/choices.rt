@@ -1,0 +1,137 @@
+//! The choice of a unit's main file.
+ghost use Rattle.std.specs.Prelude.{◌≡◌, IfOk};
+ghost use Rattle.replica_store.specs.Folders.{path_at};
+ghost use Rattle.fragment_choice.specs.Choices.{choice, own_choice, says, content_says, link_says};
+
+use crate::links::{last_component, target_says};
+use join_law::Key;
+use replica_store::{Content, Path, Store};
+use std::alloc::{AllocError, Global};
+use thiserror::Error;
+use unit_name::{NameFault, UnitName};
+
+/// Why a unit is bad. `Loop` comes from `resolve` alone, the others from a link.
+#[derive(Clone, Copy, Debug, PartialEq, Eq, Error)]
+pub enum Cause {
+    /// B1: the link's name and its target are of different kinds, or of one without aliases.
+    #[error("B1 Kind")]
+    Kind,
+    /// B2: one is plain, a template or an instance where the other may not be.
+    #[error("B2 Shape")]
+    Shape,
+    /// B3: more than eight aliases follow one another.
+    #[error("B3 Loop")]
+    Loop,
+    /// B4: the target's last component is no unit name, or makes one that is too long.
+    #[error("B4 Target")]
+    Target,
+}
+
+/// What stands for a unit.
+#[derive(Debug, Drop)]
+pub enum Choice {
+    /// Nothing.
+    NotFound,
+    /// An empty file or a link to `/dev/null`.
+    Masked,
+    /// The file at this path.
+    Fragment(Path),
+    /// The unit of this name.
+    Alias(UnitName),
+    /// A link that no unit may have.
+    Bad(Cause),
+}
+
+/// What stands for a name: what is visible of it at the least rank that isn't passed over, and
+/// for an instance that has nothing of its own what is visible of its template
+/// (systemd.unit(5), "Unit File Load Path").
+///
+/// It asks the store at most eight times, at four ranks for the name and for its template. Each
+/// is a search for which no path is built. It fails for want of memory alone.
+pub fn choose(alloc: Global, store: &Store, name: &UnitName) -> Result<Choice, AllocError>
+    ensures choice { IfOk result (λ chosen. chosen ≡ choice store.now name.now) }
+{
+    if let Some(said) = own_choice(alloc, store, name, name)? {
+        return Ok(said);
+    }
+    let Some(template) = name.template_of()? else {
+        return Ok(Choice::NotFound);
+    };
+    Ok(own_choice(alloc, store, name, &template)?.unwrap_or(Choice::NotFound))
+}
+
+// What the visible paths of one own name say, the least rank first.
+fn own_choice(
+    alloc: Global,
+    store: &Store,
+    name: &UnitName,
+    own: &UnitName,
+) -> Result<Option<Choice>, AllocError>
+    ensures choice { IfOk result (λ said. said ≡ own_choice store.now name.now own.now) }
+{
+    for rank in 0..4u8 {
+        if let Some(said) = says(alloc, store, name, own, rank)? {
+            return Ok(Some(said));
+        }
+    }
+    Ok(None)
+}
+
+// What the own name says at one rank.
+fn says(
+    alloc: Global,
+    store: &Store,
+    name: &UnitName,
+    own: &UnitName,
+    rank: u8,
+) -> Result<Option<Choice>, AllocError>
+    ensures said { IfOk result (λ said. said ≡ says store.now name.now own.now rank) }
+{
+    match store.visible_at(rank, b"", own.bytes()) {
+        None => Ok(None),
+        Some((path, content)) => content_says(alloc, name, own, path, content),
+    }
+}
+
+// What a content says at a path of the own name.
+fn content_says(
+    alloc: Global,
+    name: &UnitName,
+    own: &UnitName,
+    path: &Path,
+    content: &Content,
+) -> Result<Option<Choice>, AllocError>
+    ensures said { IfOk result (λ said. said ≡ content_says name.now own.now path.now content.now) }
+{
+    match content {
+        Content::Gone => Ok(None),
+        Content::File(file) => {
+            if file.bytes().is_empty() {
+                return Ok(Some(Choice::Masked));
+            }
+            Ok(Some(Choice::Fragment(path.try_clone()?)))
+        }
+        Content::Link(target) => {
+            if target.bytes() == b"/dev/null".as_slice() {
+                return Ok(Some(Choice::Masked));
+            }
+            link_says(alloc, name, own, last_component(target.bytes()))
+        }
+    }
+}
+
+// What a link says whose target ends in this component.
+fn link_says(
+    alloc: Global,
+    name: &UnitName,
+    own: &UnitName,
+    component: &[u8],
+) -> Result<Option<Choice>, AllocError>
+    ensures said { IfOk result (λ said. said ≡ link_says name.now own.now component.now) }
+{
+    match UnitName::parse(alloc, component) {
+        Ok(target) => target_says(name, own, target),
+        Err(NameFault::Memory) => Err(AllocError),
+        Err(_) => Ok(Some(Choice::Bad(Cause::Target))),
+    }
+}

@@ -1,0 +1,42 @@
+//! What is true of all choices and resolutions: laws, each the contract of a function that does
+//! nothing.
+ghost use Rattle.fragment_choice.specs.ChoiceLaws.{LeastRankChooses, TemplatesComeLast, GreaterRanksDontCount, MasksHide, OnlyVisibleCounts, RemovalsGiveBack};
+ghost use Rattle.fragment_choice.specs.LinkLaws.{AliasesHaveLinks, InstancesKeepTheirPart};
+ghost use Rattle.fragment_choice.specs.ResolutionLaws.{FollowingFindsTheEnd, MainsAreTheirOwn, NoAliasStands};
+ghost use Rattle.fragment_choice.specs.FragmentLaws.{FragmentsAreFiles};
+ghost use Rattle.fragment_choice.specs.UnitNameLaws.{NamesHaveTheMain, NamesDontMeet, OneListOfNames};
+
+/// The least rank that says anything chooses, whatever greater ranks hold; a mask hides these, and
+/// a removal gives back what was there.
+pub fn choice_laws()
+    ensures least { LeastRankChooses }
+    ensures templates { TemplatesComeLast }
+    ensures greater { GreaterRanksDontCount }
+    ensures masks { MasksHide }
+    ensures visible { OnlyVisibleCounts }
+    ensures removals { RemovalsGiveBack }
+{}
+
+/// An alias has a link of its own name or of its template's, and an instance's main name is an
+/// instance of the same part.
+pub fn link_laws()
+    ensures aliases { AliasesHaveLinks }
+    ensures instances { InstancesKeepTheirPart }
+{}
+
+/// Following a name's aliases finds the end of their chain, which is its own main and no alias. A
+/// fragment that stands there is a file that is visible and isn't empty.
+pub fn resolution_laws()
+    ensures ends { FollowingFindsTheEnd }
+    ensures mains { MainsAreTheirOwn }
+    ensures no_alias { NoAliasStands }
+    ensures files { FragmentsAreFiles }
+{}
+
+/// Each name of a unit has the unit as its main, so the names of two units don't meet. A unit has
+/// one list of names.
+pub fn unit_laws()
+    ensures mains { NamesHaveTheMain }
+    ensures apart { NamesDontMeet }
+    ensures one { OneListOfNames }
+{}

@@ -1,0 +1,17 @@
+//! Which file stands for a unit: its fragment, its masks, its aliases, and the names that it has.
+//! The rules are those of systemd.unit(5), "Unit File Load Path" and "Description".
+#![tactic(auto)]
+
+mod choices;
+mod laws;
+mod links;
+mod names;
+mod resolutions;
+
+pub use choices::{Cause, Choice, choose};
+pub use laws::{choice_laws, link_laws, resolution_laws, unit_laws};
+pub use names::names_of;
+pub use resolutions::{Resolution, resolve};
+
+#[cfg(test)]
+mod tests;
