@@ -1,0 +1,75 @@
+-- What a folder's paths say of a file name.
+use Rattle.std.proofs.Common.{◌≡◌, ℕ, Bool, true, false, cond, ◌&&◌, ◌||◌, ◌==◌, Option, Some, None, is_some, List, [], ◌∷◌, filter, refl, ap, sym, ◌∙◌, eq-eqb}
+use Rattle.std.specs.Option.{option_and_then}
+use Rattle.std.specs.List.{list_any}
+use Rattle.std.specs.Str.{bytes_eq}
+use Rattle.std.specs.Ordering.{eq_by_cmp, is_eq}
+use Rattle.std.specs.declared.cmp.Ordering.{Ordering}
+use Rattle.std.specs.declared.cmp.Ordering.TheVariants.{Less, Equal, Greater}
+use Rattle.std.specs.FinMap as finmap
+use Rattle.std.specs.FinMap.{contains_key-keys}
+use Rattle.std.proofs.lemmas.Cmp.{tied_itself}
+use Rattle.std.proofs.lemmas.Bool.{and_parts, eqb-true, and_from}
+use Rattle.std.proofs.lemmas.Slice.Eq.{bytes_eq-Decides}
+use Rattle.load_path.specs.Paths.{PathParts, path_cmp}
+use Rattle.load_path.specs.PathLaws.{path_cmp_total, path_cmp-IsAntisymmetric}
+use Rattle.edit_sums.specs.declared.entries.Entry.{Entry}
+use Rattle.edit_sums.specs.Sums.{EntryMap, shown}
+use Rattle.replica_store.specs.Folders.{is_in}
+use Rattle.dropins.specs.declared.takes.Candidate.{Candidate}
+use Rattle.dropins.specs.declared.takes.Search.{Search}
+use Rattle.dropins.specs.Taken.{as_found, candidate_at}
+use Rattle.dropins.specs.Walks.{path, first_said}
+use Rattle.dropins.proofs.Firsts.{said_among}
+
+is_equal : (r : Ordering) → is_eq r ≡ true → r ≡ Equal
+is_equal Less h = cc (h)
+is_equal Equal h = refl
+is_equal Greater h = cc (h)
+
+module _ (r : ℕ) (d f : List ℕ) where
+  same_path : (k : PathParts) → is_in r d k ≡ true → bytes_eq k.name f ≡ true → k ≡ path r d f
+  same_path k i n =
+      let p = and_parts (k.rank == r) (bytes_eq k.folder d) i in
+      ap (λ x. path x k.folder k.name) (eqb-true _ _ p.0) ∙ ap (λ x. path r x k.name) ((bytes_eq-Decides _ _).0 p.1) ∙ ap (path r d) ((bytes_eq-Decides _ _).0 n)
+
+  itself_in : (is_in r d (path r d f) && bytes_eq f f) ≡ true
+  itself_in = and_from _ _ (and_from _ _ (eq-eqb r r refl) ((bytes_eq-Decides d d).1 refl)) ((bytes_eq-Decides f f).1 refl)
+
+  -- a path of the folder with the file name is the one that is asked for
+  tied : (k : PathParts) → eq_by_cmp path_cmp (path r d f) k ≡ (is_in r d k && bytes_eq k.name f)
+  tied k = step (is_in r d k) (bytes_eq k.name f) (eq_by_cmp path_cmp (path r d f) k) refl refl refl
+    where
+      same : eq_by_cmp path_cmp (path r d f) k ≡ true → path r d f ≡ k
+      same h = path_cmp-IsAntisymmetric _ _ (is_equal _ h)
+
+      back : eq_by_cmp path_cmp (path r d f) k ≡ true → (is_in r d k && bytes_eq k.name f) ≡ true
+      back h = sym (ap (λ x. is_in r d x && bytes_eq x.name f) (same h)) ∙ itself_in
+
+      step : (i n e : Bool) → is_in r d k ≡ i → bytes_eq k.name f ≡ n → eq_by_cmp path_cmp (path r d f) k ≡ e → e ≡ (i && n)
+      step true true true hi hn he = refl
+      step true true false hi hn he = sym he ∙ ap (eq_by_cmp path_cmp (path r d f)) (same_path k hi hn) ∙ ap is_eq (tied_itself path_cmp_total (path r d f))
+      step true false true hi hn he = sym (back he) ∙ ap (λ b. is_in r d k && b) hn ∙ ap (λ b. b && false) hi
+      step true false false hi hn he = refl
+      step false n true hi hn he = sym (back he) ∙ ap (λ b. b && bytes_eq k.name f) hi
+      step false n false hi hn he = refl
+
+  says_at : EntryMap → Search → PathParts → Option Candidate
+  says_at s x p = cond (bytes_eq p.name f) (candidate_at s x p) None
+
+  among : (s : EntryMap) (x : Search) (ks : List PathParts) → first_said (λ p. cond (bytes_eq p.name f) (candidate_at s x p) None) (filter (is_in r d) ks) ≡ cond (list_any (eq_by_cmp path_cmp (path r d f)) ks) (candidate_at s x (path r d f)) None
+  among s x [] = refl
+  among s x (k ∷ ks) =
+      said_among (λ p. cond (bytes_eq p.name f) (candidate_at s x p) None) k (filter (is_in r d) ks) (is_in r d k) (bytes_eq k.name f) (list_any (eq_by_cmp path_cmp (path r d f)) ks) (candidate_at s x k) (candidate_at s x (path r d f)) refl (λ i n. ap (candidate_at s x) (same_path k i n)) (among s x ks)
+      ∙ sym (ap (λ b. cond (b || list_any (eq_by_cmp path_cmp (path r d f)) ks) (candidate_at s x (path r d f)) None) (tied k))
+
+  none_held : (x : Search) (o : Option Entry) → cond (is_some o) (option_and_then (as_found x (path r d f)) (option_and_then shown o)) None ≡ option_and_then (as_found x (path r d f)) (option_and_then shown o)
+  none_held x None = refl
+  none_held x (Some e) = refl
+
+  -- the paths of a folder say what stands at the path of a file name there
+  pub folder_says : (s : EntryMap) (x : Search) → first_said (λ p. cond (bytes_eq p.name f) (candidate_at s x p) None) (filter (is_in r d) (finmap.keys s)) ≡ candidate_at s x (path r d f)
+  folder_says s x =
+      among s x (finmap.keys s)
+      ∙ ap (λ b. cond b (candidate_at s x (path r d f)) None) (sym (contains_key-keys s (path r d f)))
+      ∙ none_held x (finmap.get s (path r d f))

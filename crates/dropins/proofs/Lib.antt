@@ -1,0 +1,5 @@
+pub mod Cuts
+pub mod Firsts
+pub mod Found
+pub mod Placed
+pub mod Rises

@@ -1,0 +1,23 @@
+use Rattle.std.proofs.Common.{arith, eq-eqb, ◌∙◌, ◌-◌, ap, sym, subst, take, fold, length}
+use Rattle.unit_name.specs.Names.{IsName}
+use Rattle.dropins.specs.FolderLists.{with_name, with_template, with_prefix}
+use Rattle.dropins.proofs.Cuts.{cut_taken, cut_left, front_is_name}
+use Rattle.dropins.proofs.folder_lists.add_folders.Goals as goal
+
+pub cut_name-requires : goal.cut_name-requires
+cut_name-requires c = record {
+  lawful = subst (λ p. IsName (with_prefix c.args.name.now (take (c.loop-end.end - 1) p))) (sym c.prefix-prefix.ensures.prefix)
+      (front_is_name c.args.name.now (c.loop-end.end - 1) c.prefix-prefix.ensures.lawful (omega arith) (omega (arith, c.loop-end.invariant.0, ap length c.prefix-prefix.ensures.prefix)));
+}
+
+pub loop-end-preserved-in_ok-add_with_template-2 : goal.loop-end-preserved-in_ok-add_with_template-2
+loop-end-preserved-in_ok-add_with_template-2 c = (
+  omega arith,
+  cut_taken (λ p. with_template (with_prefix c.args.name.now p)) c.loop-end.all.items _ c.prefix-prefix.result.now c.loop-end.end _ (omega arith) (eq-eqb _ _ c.if-prefix-end-eq45.true)
+      (c.in_ok-add_with_template-2.ensures.added ∙ ap (λ n. fold with_name c.loop-end.all.items (with_template n)) c.in_ok-cut_name.ensures.cut)
+      c.loop-end.invariant.1,
+)
+
+pub loop-end-preserved : goal.loop-end-preserved
+loop-end-preserved c =
+    (omega arith, cut_left (λ p. with_template (with_prefix c.args.name.now p)) c.loop-end.all.items c.prefix-prefix.result.now c.loop-end.end _ (omega arith) (grind (arith, c.if-prefix-end-eq45.false)) c.loop-end.invariant.1)

@@ -1,0 +1,11 @@
+use Rattle.std.proofs.Common.{◌≡◌, ◌≤◌, ◌-◌, length, fold}
+use Rattle.std.specs.List.{flat_map}
+use Rattle.dropins.specs.FolderLists.{with_name, with_template, with_prefix, fronts}
+use Rattle.dropins.proofs.folder_lists.add_folders.Given as goal
+
+abbrev pub invariant-loop-end : goal.invariant-loop-end
+invariant-loop-end l =
+    (l.end ≤ length l.prefix) × (fold with_name l.all.items (flat_map (λ p. with_template (with_prefix l.name p)) (fronts (l.end - 1) l.prefix)) ≡ fold with_name l.initial.all.items (flat_map (λ p. with_template (with_prefix l.name p)) (fronts (length l.prefix - 1) l.prefix)))
+
+abbrev pub decreases-loop-end : goal.decreases-loop-end
+decreases-loop-end l = l.end

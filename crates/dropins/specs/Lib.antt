@@ -1,0 +1,7 @@
+pub mod FolderLists
+pub mod Taken
+pub mod Walks
+pub mod WalkLaws
+pub mod PrecedenceLaws
+pub mod FolderLaws
+pub mod OrderLaws

@@ -1,0 +1,88 @@
+-- Laws of what is taken for a file name.
+use Rattle.std.proofs.Common.{◌≡◌, ◌≢◌, ℕ, ◌<◌, ◌≤◌, Option, Some, None, List, ap, sym, ◌∙◌, inl, inr, arith, refl}
+use Rattle.std.specs.Prelude.{◌⊎◌, slice_get}
+use Rattle.std.specs.Option.{option_and_then}
+use Rattle.std.specs.Cmp.{tied_itself}
+use Rattle.std.specs.declared.cmp.Ordering.{Ordering}
+use Rattle.std.specs.declared.cmp.Ordering.TheVariants.{Less, Equal, Greater}
+use Rattle.load_path.specs.Paths.{PathParts, path_cmp}
+use Rattle.load_path.specs.PathLaws.{path_cmp_total, path_cmp-IsAntisymmetric}
+use Rattle.edit_sums.specs.Sums.{EntryMap, visible_at}
+use Rattle.dropins.specs.declared.takes.Candidate.{Candidate}
+use Rattle.dropins.specs.declared.takes.Candidate.TheVariants.{Mask, At}
+use Rattle.dropins.specs.declared.takes.Search.{Search}
+use Rattle.dropins.specs.Taken.{as_found, Stands, IsTaken, TakenFor}
+use Rattle.dropins.specs.Walks.{taken}
+use Rattle.dropins.specs.WalkLaws as walk
+
+-- a directory's rank goes before the closeness of a folder: what is taken has at most the rank of anything that stands for its file name, in whichever folder
+abbrev pub RanksGoFirst : Type 0
+RanksGoFirst = (s : EntryMap) (x : Search) (ds : List (List ℕ)) (c d : Candidate) (p q : PathParts) (i : ℕ) → IsTaken s x ds c p → Stands s x ds d q i → q.name ≡ p.name → p.rank ≤ q.rank
+
+-- where anything stands for a file name, something is taken for it
+abbrev pub SomethingIsTaken : Type 0
+SomethingIsTaken = (s : EntryMap) (x : Search) (ds : List (List ℕ)) (d : Candidate) (q : PathParts) (i : ℕ) → Stands s x ds d q i → (c : Candidate) × TakenFor s x ds q.name c
+
+-- a file name is taken once at most
+abbrev pub TakenOnce : Type 0
+TakenOnce = (s : EntryMap) (x : Search) (ds : List (List ℕ)) (c d : Candidate) (p q : PathParts) → IsTaken s x ds c p → IsTaken s x ds d q → p.name ≡ q.name → (p ≡ q) × (c ≡ d)
+
+-- a mask that is taken hides all else of its file name
+abbrev pub MasksHide : Type 0
+MasksHide = (s : EntryMap) (x : Search) (ds : List (List ℕ)) (p q : PathParts) → IsTaken s x ds Mask p → p.name ≡ q.name → IsTaken s x ds (At q) q → ⊥
+
+-- what is taken depends on what is visible in the folders alone
+abbrev pub FoldersDecide : Type 0
+FoldersDecide = (s t : EntryMap) (x : Search) (ds : List (List ℕ)) → ((p : PathParts) (i : ℕ) → p.rank < 4 → slice_get ds i ≡ Some p.folder → visible_at s p ≡ visible_at t p)
+    → (c : Candidate) (p : PathParts) → IsTaken s x ds c p → IsTaken t x ds c p
+
+-- once something is removed, a mask too, that is taken which is taken where it never was
+abbrev pub RemovalsGiveBack : Type 0
+RemovalsGiveBack = (s t : EntryMap) (x : Search) (ds : List (List ℕ)) (m : PathParts) → visible_at s m ≡ None → visible_at t m ≡ None → ((q : PathParts) → q ≢ m → visible_at s q ≡ visible_at t q)
+    → (c : Candidate) (p : PathParts) → IsTaken s x ds c p → IsTaken t x ds c p
+
+pub ranks_go_first : RanksGoFirst
+ranks_go_first s x ds c d p q i a st n = by (a.least d q i st n)
+  where
+    by : (p.rank < q.rank) ⊎ ((p.rank ≡ q.rank) × (a.place ≤ i)) → p.rank ≤ q.rank
+    by (inl l) = omega (arith, l)
+    by (inr e) = omega (arith, e.0)
+
+pub something_is_taken : SomethingIsTaken
+something_is_taken s x ds d q i st = by (taken s x ds q.name) refl
+  where
+    by : (o : Option Candidate) → taken s x ds q.name ≡ o → (c : Candidate) × TakenFor s x ds q.name c
+    by None h = absurd (walk.none_stands s x ds q.name h d q i st refl)
+    by (Some c) h = (c, walk.found_is_taken s x ds q.name c h)
+
+pub taken_once : TakenOnce
+taken_once s x ds c d p q a b n = walk.taken_once s x ds c d p q a b n
+
+pub masks_hide : MasksHide
+masks_hide s x ds p q a n b = cc ((walk.taken_once s x ds Mask (At q) p q a b n).1)
+
+pub folders_decide : FoldersDecide
+folders_decide s t x ds same c p a = record {
+  place = a.place;
+  stands = record {
+    rank_within = a.stands.rank_within;
+    folder_is = a.stands.folder_is;
+    says = ap (option_and_then (as_found x p)) (sym (same p a.place a.stands.rank_within a.stands.folder_is)) ∙ a.stands.says;
+  };
+  least = λ d q i st n. a.least d q i (record {
+    rank_within = st.rank_within;
+    folder_is = st.folder_is;
+    says = ap (option_and_then (as_found x q)) (same q i st.rank_within st.folder_is) ∙ st.says;
+  }) n;
+}
+
+pub removals_give_back : RemovalsGiveBack
+removals_give_back s t x ds m removed absent same = folders_decide s t x ds (λ q i l f. by q (path_cmp q m) refl)
+  where
+    unequal : (q : PathParts) (r : Ordering) → path_cmp q m ≡ r → (r ≡ Equal → ⊥) → q ≢ m
+    unequal q r e differ h = differ (sym e ∙ ap (λ y. path_cmp y m) h ∙ tied_itself path_cmp_total m)
+
+    by : (q : PathParts) (r : Ordering) → path_cmp q m ≡ r → visible_at s q ≡ visible_at t q
+    by q Less e = same q (unequal q Less e (λ h. cc (h)))
+    by q Equal e = let h = path_cmp-IsAntisymmetric q m e in ap (visible_at s) h ∙ removed ∙ sym (ap (visible_at t) h ∙ absent)
+    by q Greater e = same q (unequal q Greater e (λ h. cc (h)))

@@ -1,0 +1,91 @@
+-- Drop-ins and links: what stands for a file name in the folders of names, and what of it is taken.
+use Rattle.std.specs.Prelude.{◌≡◌, ℕ, ◌-◌, ◌<◌, ◌≤◌, ◌⊎◌, nat_lt, Bool, ◌&&◌, if◌then◌else◌, Option, Some, None, List, [], ◌∷◌, ◌++◌, length, map, drop, slice_get, codes}
+use Rattle.std.specs.Option.{option_and_then}
+use Rattle.std.specs.Str.{bytes_eq}
+use Rattle.load_path.specs.Paths.{PathParts}
+use Rattle.edit_sums.specs.Sums.{EntryMap, visible_at}
+use Rattle.edit_sums.specs.declared.contents.Content.{Content}
+use Rattle.edit_sums.specs.declared.contents.Content.TheVariants.{Gone, Link, File}
+use Rattle.unit_name.specs.Names.{Name, IsName}
+use Rattle.dropins.specs.FolderLists.{folders}
+use Rattle.dropins.specs.declared.link_names.Folder.{Folder}
+use Rattle.dropins.specs.declared.link_names.Folder.TheVariants.{Wants, Requires}
+use Rattle.dropins.specs.declared.takes.Candidate.{Candidate}
+use Rattle.dropins.specs.declared.takes.Candidate.TheVariants.{Mask, At}
+use Rattle.dropins.specs.declared.takes.Search.{Search}
+use Rattle.dropins.specs.declared.takes.Search.TheVariants.{DropIns, Links}
+
+-- whether a file name ends in .conf and is longer
+abbrev pub is_conf : List ℕ → Bool
+is_conf f = nat_lt 5 (length f) && bytes_eq (drop (length f - 5) f) (codes ".conf")
+
+-- whether a link leads to /dev/null
+abbrev pub is_null : List ℕ → Bool
+is_null target = bytes_eq target (codes "/dev/null")
+
+-- what a content is among drop-ins: a file's path; a mask where the file is empty or a link leads to /dev/null; else nothing
+abbrev pub content_as_drop_in : PathParts → Content → Option Candidate
+content_as_drop_in p Gone = None
+content_as_drop_in p (File []) = Some Mask
+content_as_drop_in p (File (b ∷ bs)) = Some (At p)
+content_as_drop_in p (Link target) = if is_null target then Some Mask else None
+
+-- the same, where the file name is a drop-in's
+abbrev pub as_drop_in : PathParts → Content → Option Candidate
+as_drop_in p c = if is_conf p.name then content_as_drop_in p c else None
+
+-- what a content is among links: a link's path, or a mask where it leads to /dev/null; files are nothing
+abbrev pub as_link : PathParts → Content → Option Candidate
+as_link p Gone = None
+as_link p (File bytes) = None
+as_link p (Link target) = if is_null target then Some Mask else Some (At p)
+
+-- what a content is in a search
+abbrev pub as_found : Search → PathParts → Content → Option Candidate
+as_found DropIns p c = as_drop_in p c
+as_found Links p c = as_link p c
+
+-- the candidate that is visible at a path
+abbrev pub candidate_at : EntryMap → Search → PathParts → Option Candidate
+candidate_at s x p = option_and_then (as_found x p) (visible_at s p)
+
+-- this candidate stands at the path: the path is in the folder of this place of the list, in a directory of the load path
+pub record Stands (s : EntryMap) (x : Search) (ds : List (List ℕ)) (c : Candidate) (p : PathParts) (place : ℕ) : Type 0 where
+  pub rank_within : p.rank < 4
+  pub folder_is : slice_get ds place ≡ Some p.folder
+  pub says : candidate_at s x p ≡ Some c
+
+-- the candidate at the path is taken for the path's file name: of all that stand for it, it has the least rank, and in that rank the first folder of the list
+pub record IsTaken (s : EntryMap) (x : Search) (ds : List (List ℕ)) (c : Candidate) (p : PathParts) : Type 0 where
+  pub place : ℕ
+  pub stands : Stands s x ds c p place
+  pub least : (d : Candidate) (q : PathParts) (i : ℕ) → Stands s x ds d q i → q.name ≡ p.name → (p.rank < q.rank) ⊎ ((p.rank ≡ q.rank) × (place ≤ i))
+
+-- what is taken for a file name
+pub record TakenFor (s : EntryMap) (x : Search) (ds : List (List ℕ)) (f : List ℕ) (c : Candidate) : Type 0 where
+  pub path : PathParts
+  pub name_is : path.name ≡ f
+  pub taken : IsTaken s x ds c path
+
+-- what a folder's name has behind a unit's
+abbrev pub ending : Folder → List ℕ
+ending Wants = codes ".wants"
+ending Requires = codes ".requires"
+
+-- the names' folders with this ending
+abbrev pub dirs_with : List ℕ → List Name → List (List ℕ)
+dirs_with end ns = map (λ n. n ++ end) (folders ns)
+
+-- the path is a drop-in of a unit of these names
+abbrev pub IsDropIn : EntryMap → List Name → PathParts → Type 0
+IsDropIn s ns p = IsTaken s DropIns (dirs_with (codes ".d") ns) (At p) p
+
+-- the names' link folders of this sort give this name: it is a unit's, and a link is taken for it
+pub record IsLinked (s : EntryMap) (ns : List Name) (d : Folder) (n : Name) : Type 0 where
+  pub name : IsName n
+  pub path : PathParts
+  pub name_is : path.name ≡ n
+  pub taken : IsTaken s Links (dirs_with (ending d) ns) (At path) path
+
+abbrev pub file_name : PathParts → List ℕ
+file_name p = p.name

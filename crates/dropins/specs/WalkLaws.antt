@@ -1,0 +1,180 @@
+-- Laws of the walk: what it finds first for a file name is what is taken for it, and nothing else is.
+use Rattle.std.proofs.Common.{◌≡◌, ℕ, zero, suc, ◌<◌, ◌≤◌, Bool, true, false, cond, Option, Some, None, List, [], ◌∷◌, length, get_or, refl, ap, sym, ◌∙◌, subst, inl, inr, arith}
+use Rattle.std.specs.Prelude.{◌↔◌, ◌⊎◌, slice_get}
+use Rattle.std.specs.Option.{option_or, option_and_then}
+use Rattle.std.proofs.lemmas.Bool.{cases_lt}
+use Rattle.std.proofs.lemmas.Option.{none-some, same_Some, slice_get-get_or, get_or_from_slice_get, slice_get_within}
+use Rattle.load_path.specs.Paths.{PathParts}
+use Rattle.edit_sums.specs.Sums.{EntryMap, visible_at}
+use Rattle.edit_sums.specs.declared.contents.Content.{Content}
+use Rattle.edit_sums.specs.declared.contents.Content.TheVariants.{Gone, Link, File}
+use Rattle.dropins.specs.declared.takes.Candidate.{Candidate}
+use Rattle.dropins.specs.declared.takes.Candidate.TheVariants.{Mask, At}
+use Rattle.dropins.specs.declared.takes.Search.{Search}
+use Rattle.dropins.specs.declared.takes.Search.TheVariants.{DropIns, Links}
+use Rattle.dropins.specs.Taken.{is_conf, is_null, content_as_drop_in, as_found, candidate_at, Stands, IsTaken, TakenFor}
+use Rattle.dropins.specs.Walks.{path, first_said, taken_in, ranks, taken}
+
+-- ---- the first of a list that has something to say, by its place
+
+pub record IsFirst {A B : Type 0} (g : A → Option B) (xs : List A) (d : A) (v : B) : Type 0 where
+  pub place : ℕ
+  pub within : place < length xs
+  pub says : g (get_or xs place d) ≡ Some v
+  pub before : (i : ℕ) → i < place → g (get_or xs i d) ≡ None
+
+pub first_is : {A B : Type 0} (g : A → Option B) (xs : List A) (d : A) (v : B) → first_said g xs ≡ Some v → IsFirst g xs d v
+first_is g [] d v h = absurd (none-some _ h)
+first_is {A} {B} g (x ∷ xs) d v h = step (g x) refl (first_is g xs d v) h
+  where
+    later : g x ≡ None → IsFirst g xs d v → IsFirst g (x ∷ xs) d v
+    later e m = record { place = suc m.place; within = omega (arith, m.within); says = m.says; before = before }
+      where
+        before : (i : ℕ) → i < suc m.place → g (get_or (x ∷ xs) i d) ≡ None
+        before zero l = e
+        before (suc i) l = m.before i (omega arith)
+
+    step : (o : Option B) → g x ≡ o → (first_said g xs ≡ Some v → IsFirst g xs d v) → option_or o (first_said g xs) ≡ Some v → IsFirst g (x ∷ xs) d v
+    step None e more t = later e (more t)
+    step (Some w) e more t = record { place = 0; within = omega arith; says = e ∙ t; before = λ i l. absurd (omega arith) }
+
+pub none_says : {A B : Type 0} (g : A → Option B) (xs : List A) (d : A) → first_said g xs ≡ None → (i : ℕ) → i < length xs → g (get_or xs i d) ≡ None
+none_says g [] d h i l = absurd (omega arith)
+none_says {A} {B} g (x ∷ xs) d h i l = step (g x) refl (none_says g xs d) h i l
+  where
+    step : (o : Option B) → g x ≡ o → (first_said g xs ≡ None → (j : ℕ) → j < length xs → g (get_or xs j d) ≡ None) → option_or o (first_said g xs) ≡ None → (j : ℕ) → j < length (x ∷ xs) → g (get_or (x ∷ xs) j d) ≡ None
+    step None e more t zero m = e
+    step None e more t (suc j) m = more t j (omega arith)
+    step (Some w) e more t j m = absurd (none-some _ (sym t))
+
+rank_is : (r : ℕ) → r < 4 → get_or ranks r 0 ≡ r
+rank_is zero h = refl
+rank_is (suc zero) h = refl
+rank_is (suc (suc zero)) h = refl
+rank_is (suc (suc (suc zero))) h = refl
+rank_is (suc (suc (suc (suc r)))) h = absurd (omega arith)
+
+-- ---- a candidate that is a path stands at that path
+
+pub path_or : PathParts → Option Candidate → PathParts
+path_or q None = q
+path_or q (Some Mask) = q
+path_or q (Some (At p)) = p
+
+content_path : (x : Search) (q : PathParts) (c : Content) → path_or q (as_found x q c) ≡ q
+unfolding path_or
+content_path DropIns q c = conf (is_conf q.name) (here c)
+  where
+    here : (d : Content) → path_or q (content_as_drop_in q d) ≡ q
+    here Gone = refl
+    here (File []) = refl
+    here (File (b ∷ bs)) = refl
+    here (Link target) = step (is_null target)
+      where
+        step : (t : Bool) → path_or q (cond t (Some Mask) None) ≡ q
+        step true = refl
+        step false = refl
+
+    conf : (t : Bool) → path_or q (content_as_drop_in q c) ≡ q → path_or q (cond t (content_as_drop_in q c) None) ≡ q
+    conf true h = h
+    conf false h = refl
+content_path Links q Gone = refl
+content_path Links q (File bytes) = refl
+content_path Links q (Link target) = step (is_null target)
+  where
+    step : (t : Bool) → path_or q (cond t (Some Mask) (Some (At q))) ≡ q
+    step true = refl
+    step false = refl
+
+found_path : (x : Search) (q : PathParts) (o : Option Content) → path_or q (option_and_then (as_found x q) o) ≡ q
+unfolding path_or
+found_path x q None = refl
+found_path x q (Some c) = content_path x q c
+
+pub stands_there : (s : EntryMap) (x : Search) (p q : PathParts) → candidate_at s x q ≡ Some (At p) → q ≡ p
+unfolding path_or
+stands_there s x p q h = sym (found_path x q (visible_at s q)) ∙ ap (path_or q) h
+
+-- ---- the walk
+
+parts : (p : PathParts) (r : ℕ) (d f : List ℕ) → p.rank ≡ r → p.folder ≡ d → p.name ≡ f → p ≡ path r d f
+parts p r d f a b c = ap (λ y. path y p.folder p.name) a ∙ ap (λ y. path r y p.name) b ∙ ap (path r d) c
+
+module _ (s : EntryMap) (x : Search) (ds : List (List ℕ)) where
+  -- where nothing is found, nothing stands
+  pub none_stands : (f : List ℕ) → taken s x ds f ≡ None → (c : Candidate) (p : PathParts) (i : ℕ) → Stands s x ds c p i → p.name ≡ f → ⊥
+  none_stands f h c p i st e =
+      let folder = get_or_from_slice_get ds i p.folder [] st.folder_is in
+      let none = none_says (λ d. candidate_at s x (path p.rank d f)) ds [] (ap (taken_in s x ds f) (sym (rank_is p.rank st.rank_within)) ∙ none_says (taken_in s x ds f) ranks 0 h p.rank st.rank_within) i (slice_get_within ds i p.folder st.folder_is) in
+      none-some _ (sym none ∙ ap (candidate_at s x) (sym (parts p p.rank (get_or ds i []) f refl (sym folder) e)) ∙ st.says)
+
+-- what is found first is taken
+module _ (s : EntryMap) (x : Search) (ds : List (List ℕ)) (f : List ℕ) (c : Candidate) (h : taken s x ds f ≡ Some c) where
+  first_rank : IsFirst (taken_in s x ds f) ranks 0 c
+  first_rank = first_is (taken_in s x ds f) ranks 0 c h
+
+  first_folder : IsFirst (λ d. candidate_at s x (path first_rank.place d f)) ds [] c
+  first_folder = first_is (λ d. candidate_at s x (path first_rank.place d f)) ds [] c (ap (taken_in s x ds f) (sym (rank_is first_rank.place first_rank.within)) ∙ first_rank.says)
+
+  lesser_rank : (r i : ℕ) → r < first_rank.place → i < length ds → candidate_at s x (path r (get_or ds i []) f) ≡ None
+  lesser_rank r i l w = none_says (λ d. candidate_at s x (path r d f)) ds [] (ap (taken_in s x ds f) (sym (rank_is r (omega (arith, first_rank.within, l)))) ∙ first_rank.before r l) i w
+
+  module _ (d : Candidate) (q : PathParts) (i : ℕ) (st : Stands s x ds d q i) (n : q.name ≡ f) where
+    clash : {C : Type 0} (r : ℕ) → q.rank ≡ r → candidate_at s x (path r (get_or ds i []) f) ≡ None → C
+    clash r a none = absurd (none-some _ (sym none ∙ ap (candidate_at s x) (sym (parts q r (get_or ds i []) f a (sym (get_or_from_slice_get ds i q.folder [] st.folder_is)) n)) ∙ st.says))
+
+    same_rank : q.rank ≡ first_rank.place → (i < first_folder.place) ⊎ (first_folder.place ≤ i) → (first_rank.place < q.rank) ⊎ ((first_rank.place ≡ q.rank) × (first_folder.place ≤ i))
+    same_rank a (inl l) = clash first_rank.place a (first_folder.before i l)
+    same_rank a (inr l) = inr (sym a, l)
+
+    ranked : (q.rank < first_rank.place) ⊎ (first_rank.place ≤ q.rank) → (first_rank.place < q.rank) ⊎ (q.rank ≤ first_rank.place) → (first_rank.place < q.rank) ⊎ ((first_rank.place ≡ q.rank) × (first_folder.place ≤ i))
+    ranked (inl l) g = clash q.rank refl (lesser_rank q.rank i l (slice_get_within ds i q.folder st.folder_is))
+    ranked (inr l) (inl g) = inl g
+    ranked (inr l) (inr g) = same_rank (omega (arith, l, g)) (cases_lt i first_folder.place)
+
+  pub found_is_taken : TakenFor s x ds f c
+  found_is_taken = record {
+    path = path first_rank.place (get_or ds first_folder.place []) f;
+    name_is = refl;
+    taken = record {
+      place = first_folder.place;
+      stands = record { rank_within = first_rank.within; folder_is = slice_get-get_or ds first_folder.place [] first_folder.within; says = first_folder.says };
+      least = λ d q i st n. ranked d q i st n (cases_lt q.rank first_rank.place) (cases_lt first_rank.place q.rank);
+    };
+  }
+
+module _ (s : EntryMap) (x : Search) (ds : List (List ℕ)) where
+  -- for a file name one candidate at most is taken
+  pub taken_once : (c d : Candidate) (p q : PathParts) → IsTaken s x ds c p → IsTaken s x ds d q → p.name ≡ q.name → (p ≡ q) × (c ≡ d)
+  taken_once c d p q a b n = by (a.least d q b.place b.stands (sym n)) (b.least c p a.place a.stands n)
+    where
+      same : p.rank ≡ q.rank → a.place ≡ b.place → (p ≡ q) × (c ≡ d)
+      same r i =
+          let folder = same_Some _ _ (sym a.stands.folder_is ∙ ap (slice_get ds) i ∙ b.stands.folder_is) in
+          let e = parts p q.rank q.folder q.name r folder n in
+          (e, same_Some _ _ (sym a.stands.says ∙ ap (candidate_at s x) e ∙ b.stands.says))
+
+      by : (p.rank < q.rank) ⊎ ((p.rank ≡ q.rank) × (a.place ≤ b.place)) → (q.rank < p.rank) ⊎ ((q.rank ≡ p.rank) × (b.place ≤ a.place)) → (p ≡ q) × (c ≡ d)
+      by (inl l) (inl g) = absurd (omega (arith, l, g))
+      by (inl l) (inr g) = absurd (omega (arith, l, g.0))
+      by (inr l) (inl g) = absurd (omega (arith, l.0, g))
+      by (inr l) (inr g) = same l.0 (omega (arith, l.1, g.1))
+
+  -- what is taken is found first
+  pub taken_is_found : (c : Candidate) (p : PathParts) → IsTaken s x ds c p → taken s x ds p.name ≡ Some c
+  taken_is_found c p a = by (taken s x ds p.name) refl
+    where
+      by : (o : Option Candidate) → taken s x ds p.name ≡ o → o ≡ Some c
+      by None h = absurd (none_stands s x ds p.name h c p a.place a.stands refl)
+      by (Some d) h = let b = found_is_taken s x ds p.name d h in ap Some (taken_once d c b.path p b.taken a b.name_is).1
+
+  -- a path is found for its file name exactly where it is taken
+  pub found_iff_taken : (p : PathParts) → (taken s x ds p.name ≡ Some (At p)) ↔ IsTaken s x ds (At p) p
+  found_iff_taken p = (λ h. by (found_is_taken s x ds p.name (At p) h), taken_is_found (At p) p)
+    where
+      by : TakenFor s x ds p.name (At p) → IsTaken s x ds (At p) p
+      by b = subst (IsTaken s x ds (At p)) (stands_there s x p b.path b.taken.stands.says) b.taken
+
+  -- a path that is found for a file name has it
+  pub found_name : (f : List ℕ) (p : PathParts) → taken s x ds f ≡ Some (At p) → p.name ≡ f
+  found_name f p h = let b = found_is_taken s x ds f (At p) h in ap (λ (q : PathParts). q.name) (sym (stands_there s x p b.path b.taken.stands.says)) ∙ b.name_is

@@ -1,0 +1,38 @@
+-- What is taken for a file name, found by walking through ranks and folders: words for private clauses.
+use Rattle.std.specs.Prelude.{ℕ, Option, None, List, [], ◌∷◌, ◌++◌}
+use Rattle.std.specs.Option.{option_or}
+use Rattle.load_path.specs.Paths.{PathParts}
+use Rattle.edit_sums.specs.Sums.{EntryMap}
+use Rattle.dropins.specs.declared.takes.Candidate.{Candidate}
+use Rattle.dropins.specs.declared.takes.Candidate.TheVariants.{Mask, At}
+use Rattle.dropins.specs.declared.takes.Search.{Search}
+use Rattle.dropins.specs.Taken.{candidate_at}
+
+abbrev pub path : ℕ → List ℕ → List ℕ → PathParts
+path r d f = record { rank = r; folder = d; name = f }
+
+-- the first of a list that has something to say
+abbrev pub first_said : {A B : Type 0} → (A → Option B) → List A → Option B
+first_said f [] = None
+first_said f (x ∷ xs) = option_or (f x) (first_said f xs)
+
+-- the candidate of a file name in a directory's first folder that has one
+abbrev pub taken_in : EntryMap → Search → List (List ℕ) → List ℕ → ℕ → Option Candidate
+taken_in s x ds f r = first_said (λ d. candidate_at s x (path r d f)) ds
+
+-- the ranks of the directories
+abbrev pub ranks : List ℕ
+ranks = 0 ∷ 1 ∷ 2 ∷ 3 ∷ []
+
+-- the candidate that is found first for a file name
+abbrev pub taken : EntryMap → Search → List (List ℕ) → List ℕ → Option Candidate
+taken s x ds f = first_said (taken_in s x ds f) ranks
+
+abbrev pub given : Candidate → List PathParts
+given Mask = []
+given (At p) = p ∷ []
+
+-- the paths of what is taken, without masks
+abbrev pub unmasked : List (List ℕ × Candidate) → List PathParts
+unmasked [] = []
+unmasked (t ∷ ts) = given t.1 ++ unmasked ts

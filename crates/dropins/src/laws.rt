@@ -1,0 +1,28 @@
+//! What is true of all stores and names: laws, each the contract of a function that does nothing.
+ghost use Rattle.dropins.specs.PrecedenceLaws.{RanksGoFirst, SomethingIsTaken, TakenOnce, MasksHide, FoldersDecide, RemovalsGiveBack};
+ghost use Rattle.dropins.specs.FolderLaws.{OneFolder};
+ghost use Rattle.dropins.specs.OrderLaws.{OneOrder, DropInsAreFiles};
+
+/// A directory's rank goes before the closeness of a folder. For each file name that anything
+/// stands for one thing is taken; a mask that is taken hides all else, and once it is removed what
+/// was there counts again.
+pub fn precedence_laws()
+    ensures ranks { RanksGoFirst }
+    ensures some { SomethingIsTaken }
+    ensures once { TakenOnce }
+    ensures hidden { MasksHide }
+    ensures decided { FoldersDecide }
+    ensures removed { RemovalsGiveBack }
+{}
+
+/// What is in an order by file name says the order, whatever the folders. A drop-in is a file that
+/// isn't empty, and its name ends in `.conf`.
+pub fn order_laws()
+    ensures same { OneOrder }
+    ensures files { DropInsAreFiles }
+{}
+
+/// Names without dashes and without an instance have one folder.
+pub fn folder_laws()
+    ensures one { OneFolder }
+{}

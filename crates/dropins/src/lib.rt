@@ -1,0 +1,20 @@
+//! The drop-ins and the link folders of units (systemd.unit(5), "Description").
+//!
+//! A unit's drop-ins stand in the folders of its names: `NAME.d`, those of the template of an
+//! instance, and those of prefixes that are cut behind a dash. The same folders with `.wants` and
+//! `.requires` have links to units that it depends on.
+#![tactic(auto)]
+
+mod folder_lists;
+mod laws;
+mod link_names;
+mod orders;
+mod takes;
+
+pub use folder_lists::folders;
+pub use laws::{folder_laws, order_laws, precedence_laws};
+pub use link_names::{Folder, links};
+pub use orders::order;
+
+#[cfg(test)]
+mod tests;

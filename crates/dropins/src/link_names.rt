@@ -1,0 +1,69 @@
+//! The units that link folders give.
+ghost use Rattle.std.specs.Prelude.{◌≡◌, ◌↔◌, ℕ, List, IfOk, map, filter};
+ghost use Rattle.std.specs.List.{Contains};
+ghost use Rattle.std.specs.List.Sorted.{IsStrictlySortedBy};
+ghost use Rattle.unit_name.specs.Names.{Name, is_name, name_cmp};
+ghost use Rattle.dropins.specs.Taken.{IsLinked, ending, file_name};
+
+use crate::takes::{Search, taken_paths};
+use replica_store::{Path, Store};
+use std::alloc::{AllocError, Global};
+use unit_name::{NameFault, UnitName};
+
+/// The folders whose links add dependencies (systemd.unit(5), "Description").
+#[derive(Clone, Copy, Debug, PartialEq, Eq)]
+pub enum Folder {
+    /// `NAME.wants`.
+    Wants,
+    /// `NAME.requires`.
+    Requires,
+}
+
+impl Folder {
+    // What the folder's name has behind the unit's.
+    fn ending(self) -> &'static [u8]
+        ensures ending { result.now ≡ ending self }
+    {
+        match self {
+            Folder::Wants => b".wants",
+            Folder::Requires => b".requires",
+        }
+    }
+}
+
+/// The names that the link folders of a unit of these names give, in byte order (systemd.unit(5),
+/// "Description").
+///
+/// Only links count, and a link's own file name is the name that it gives. For each file name the
+/// link of the least rank counts, and there that of the first folder of the list; where it leads to
+/// `/dev/null`, or where the file name is no unit name, it gives nothing.
+///
+/// The folder list, then a search in the store for each folder in each rank and two for each path
+/// that stands there.
+pub fn links(
+    alloc: Global,
+    store: &Store,
+    names: &[UnitName],
+    folder: Folder,
+) -> Result<Vec<UnitName>, AllocError>
+    ensures rising { IfOk result (λ units. IsStrictlySortedBy name_cmp units.items) }
+    ensures exact { IfOk result (λ units. (n : Name) → Contains units.items n ↔ IsLinked store.now names.now folder n) }
+{
+    let paths = taken_paths(alloc, store, names, Search::Links, folder.ending())?;
+    unit_names(alloc, &paths)
+}
+
+// The file names that are unit names.
+fn unit_names(alloc: Global, paths: &[Path]) -> Result<Vec<UnitName>, AllocError>
+    ensures names { IfOk result (λ units. units.items ≡ filter is_name (map file_name paths.now)) }
+{
+    let mut units = Vec::new(alloc);
+    for path in paths {
+        match UnitName::parse(alloc, path.name()) {
+            Ok(unit) => units.push(unit)?,
+            Err(NameFault::Memory) => return Err(AllocError),
+            Err(_) => {}
+        }
+    }
+    Ok(units)
+}
