@@ -1,3 +1,4 @@
+pub mod Cats
 pub mod Lawful
 pub mod Nodes
 pub mod Pieces

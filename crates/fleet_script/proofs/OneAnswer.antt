@@ -8,18 +8,25 @@ use Rattle.load_path.specs.declared.paths.PathFault.TheVariants as path
 use Rattle.edit_sums.specs.declared.contents.Content.{Content}
 use Rattle.edit_sums.specs.declared.contents.Content.TheVariants as content
 use Rattle.edit_sums.specs.Limits.{is_file, is_target}
-use Rattle.edit_sums.specs.Sums.{high_of, visible_at, changed_paths}
+use Rattle.edit_sums.specs.Sums.{EntryMap, high_of, visible_at, changed_paths}
 use Rattle.script_words.specs.Lines.{lines_of, is_passed_over}
 use Rattle.script_words.specs.TextLaws.{spells_one}
+use Rattle.unit_name.specs.declared.names.NameFault.{NameFault}
+use Rattle.unit_name.specs.declared.names.NameFault.TheVariants as name
+use Rattle.unit_name.specs.Names.{name_of}
+use Rattle.fragment_choice.specs.declared.choices.Choice.{Choice}
+use Rattle.fragment_choice.specs.declared.choices.Choice.TheVariants as choice
+use Rattle.fragment_choice.specs.Resolutions.{resolution}
 use Rattle.fleet_script.specs.declared.commands.Command.{Command}
-use Rattle.fleet_script.specs.declared.commands.Command.TheVariants.{Node, Put, Link, Remove, Merge, Part, Send, Sweep, Files, Same}
+use Rattle.fleet_script.specs.declared.commands.Command.TheVariants.{Node, Put, Link, Remove, Merge, Part, Send, Sweep, Files, Cat, Same}
 use Rattle.fleet_script.specs.declared.commands.Refusal.{Refusal}
-use Rattle.fleet_script.specs.declared.commands.Refusal.TheVariants.{LineTooLong, UnknownNode, UnknownPiece, BadText, NodeTaken, WriterTaken, Directory, Depth, Component, FileTooLarge, BadLink, VersionsSpent, Nothing}
+use Rattle.fleet_script.specs.declared.commands.Refusal.TheVariants.{LineTooLong, UnknownNode, UnknownPiece, BadText, NodeTaken, WriterTaken, Directory, Depth, Component, FileTooLarge, BadLink, VersionsSpent, Nothing, Length, Kind, EmptyPrefix, BadByte, NotFound, Masked, Bad}
 use Rattle.fleet_script.specs.Commands.{command_of}
-use Rattle.fleet_script.specs.Does.{Does, Gives, Refuses, AtNode, AtPiece, AtPath, AtPaths, RefusesPath, WithText, WithFile, WithTarget, Writes, if_any, paths_of}
+use Rattle.fleet_script.specs.Does.{Does, Gives, Refuses, AtNode, AtPiece, AtPath, AtPaths, RefusesPath, WithText, WithFile, WithTarget, Writes, RefusesName, AtName, TellsChoice, if_any, paths_of}
 use Rattle.fleet_script.specs.Scripts.{Run, AnswersLine, AnswersCommand, Answers, Says}
 use Rattle.fleet_script.specs.Texts.{Outcome, ok_line, changed_line, entries_line, files_text, error_line, outcome_text}
 use Rattle.std.specs.FinMap as finmap
+use Rattle.fleet_script.proofs.Cats.{one_cat}
 use Rattle.world_law.specs.declared.events.Event.TheVariants as event
 use Rattle.world_law.specs.Cuts.{cut, digest_of}
 use Rattle.fleet_script.specs.Worlds.{World, blank, held, happened, with_node, node_named, has_writer, next_edit, merged, parted, piece_named, swept}
@@ -64,6 +71,23 @@ module _ (old : World) (a b : Outcome) (x y : World) where
 
   piece_same : (name : List ℕ) (P Q : ℕ → Type 0) → AtPiece old a x name P → AtPiece old b y name Q → ((p : ℕ) → P p → Q p → IsSame a x b y) → IsSame a x b y
   piece_same name P Q p q f = option_both (piece_named old.pieces name) _ _ P Q (IsSame a x b y) p q (refuses_same UnknownPiece) f
+
+  name_refused_same : (fault : NameFault) → RefusesName old a x fault → RefusesName old b y fault → IsSame a x b y
+  name_refused_same name.Length p q = refuses_same Length p q
+  name_refused_same name.Kind p q = refuses_same Kind p q
+  name_refused_same name.EmptyPrefix p q = refuses_same EmptyPrefix p q
+  name_refused_same (name.BadByte place) p q = refuses_same (BadByte place) p q
+  name_refused_same name.Memory p q = absurd p
+
+  name_same : (word : List ℕ) (P Q : List ℕ → Type 0) → AtName old a x word P → AtName old b y word Q → ((n : List ℕ) → P n → Q n → IsSame a x b y) → IsSame a x b y
+  name_same word P Q p q f = result_both (name_of word) P Q (RefusesName old a x) (RefusesName old b y) (IsSame a x b y) p q f name_refused_same
+
+  choice_same : (s : EntryMap) (main : List ℕ) (c : Choice) → TellsChoice old a x s main c → TellsChoice old b y s main c → IsSame a x b y
+  choice_same s main choice.NotFound p q = refuses_same (NotFound main) p q
+  choice_same s main choice.Masked p q = refuses_same (Masked main) p q
+  choice_same s main (choice.Fragment path) p q = (p.2.outcome_is ∙ ap Ok (one_cat s main path p.0 q.0 p.1 q.1) ∙ sym q.2.outcome_is, p.2.world_is ∙ sym q.2.world_is)
+  choice_same s main (choice.Alias other) p q = absurd p
+  choice_same s main (choice.Bad cause) p q = refuses_same (Bad main) p q
 
   text_same : (text : List ℕ) (P Q : List ℕ → Type 0) → WithText old a x text P → WithText old b y text Q → ((bytes : List ℕ) → P bytes → Q bytes → IsSame a x b y) → IsSame a x b y
   text_same text P Q (inl p) (inl q) f = f q.0 (subst P (spells_one text p.0 q.0 p.1 q.1) p.2) q.2
@@ -111,6 +135,9 @@ module _ (old : World) (a b : Outcome) (x y : World) where
       gives_same (changed_line (changed_paths (held old k) (held (happened old (event.Give number k)) k))) (happened old (event.Give number k))))
   does_same Sweep p q = gives_same (codes "ok\n") (swept old) p q
   does_same (Files node) p q = node_same node _ _ p q (λ k. gives_same (files_text (held old k)) old)
+  does_same (Cat node unit) p q =
+      node_same node _ _ p q (λ k p q. name_same unit _ _ p q (λ n p q.
+      choice_same (held old k) (resolution (held old k) n).main (resolution (held old k) n).choice p q))
   does_same (Same left right) p q = node_same left _ _ p q (λ j p q. node_same right _ _ p q (λ k. compared_same j k))
 
 module _ (old : World) (a b : List ℕ) (x y : World) where

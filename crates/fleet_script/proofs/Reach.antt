@@ -11,13 +11,19 @@ use Rattle.load_path.specs.declared.paths.PathFault.TheVariants as path
 use Rattle.edit_sums.specs.declared.contents.Content.{Content}
 use Rattle.edit_sums.specs.declared.contents.Content.TheVariants as content
 use Rattle.edit_sums.specs.Limits.{is_file, is_target}
-use Rattle.edit_sums.specs.Sums.{high_of, visible_at}
+use Rattle.edit_sums.specs.Sums.{EntryMap, high_of, visible_at}
 use Rattle.script_words.specs.Lines.{is_passed_over}
+use Rattle.unit_name.specs.declared.names.NameFault.{NameFault}
+use Rattle.unit_name.specs.declared.names.NameFault.TheVariants as name
+use Rattle.unit_name.specs.Names.{name_of}
+use Rattle.fragment_choice.specs.declared.choices.Choice.{Choice}
+use Rattle.fragment_choice.specs.declared.choices.Choice.TheVariants as choice
+use Rattle.fragment_choice.specs.Resolutions.{resolution}
 use Rattle.fleet_script.specs.declared.commands.Command.{Command}
-use Rattle.fleet_script.specs.declared.commands.Command.TheVariants.{Node, Put, Link, Remove, Merge, Part, Send, Sweep, Files, Same}
+use Rattle.fleet_script.specs.declared.commands.Command.TheVariants.{Node, Put, Link, Remove, Merge, Part, Send, Sweep, Files, Cat, Same}
 use Rattle.fleet_script.specs.declared.commands.Refusal.{Refusal}
 use Rattle.fleet_script.specs.Commands.{command_of}
-use Rattle.fleet_script.specs.Does.{Does, Gives, Refuses, AtNode, AtPiece, AtPath, AtPaths, RefusesPath, WithText, WithFile, WithTarget, Writes, paths_of}
+use Rattle.fleet_script.specs.Does.{Does, Gives, Refuses, AtNode, AtPiece, AtPath, AtPaths, RefusesPath, WithText, WithFile, WithTarget, Writes, RefusesName, TellsChoice, paths_of}
 use Rattle.fleet_script.specs.Scripts.{Run, AnswersLine, Says}
 use Rattle.fleet_script.specs.Texts.{Outcome}
 use Rattle.fleet_script.specs.Worlds.{World, Member, held, merged, merged_all, node_named, numbers_from, has_writer, piece_named, swept}
@@ -106,6 +112,20 @@ module _ (old : World) (outcome : Outcome) (new : World) (lawful : IsLawful old)
   with_target : (target : List ℕ) (P : Content → Type 0) → WithTarget old outcome new target P → (P (content.Link target) → IsLawful new) → IsLawful new
   with_target target P p f = bool_either (is_target target) _ _ (IsLawful new) p (λ _ q. f q) (λ _ r. refuses _ r)
 
+  refused_name : (fault : NameFault) → RefusesName old outcome new fault → IsLawful new
+  refused_name name.Length r = refuses _ r
+  refused_name name.Kind r = refuses _ r
+  refused_name name.EmptyPrefix r = refuses _ r
+  refused_name (name.BadByte place) r = refuses _ r
+  refused_name name.Memory r = absurd r
+
+  tells_choice : (s : EntryMap) (main : List ℕ) (c : Choice) → TellsChoice old outcome new s main c → IsLawful new
+  tells_choice s main choice.NotFound r = refuses _ r
+  tells_choice s main choice.Masked r = refuses _ r
+  tells_choice s main (choice.Fragment at) t = gives _ _ t.2 lawful
+  tells_choice s main (choice.Alias other) t = absurd t
+  tells_choice s main (choice.Bad cause) r = refuses _ r
+
   does : (command : Command) → Does old command outcome new → IsLawful new
   does (Node name writer) d =
       option_either (node_named old.nodes name) _ _ (IsLawful new) d
@@ -121,6 +141,7 @@ module _ (old : World) (outcome : Outcome) (new : World) (lawful : IsLawful old)
   does (Send piece node) d = at_piece piece _ d (λ p q. at_node node _ q (λ k lt g. gives _ _ g (lawful_given old p k lawful lt)))
   does Sweep d = gives _ _ d (lawful_swept old lawful)
   does (Files node) d = at_node node _ d (λ k lt g. gives _ _ g lawful)
+  does (Cat node unit) d = at_node node _ d (λ k lt p. result_either (name_of unit) _ (RefusesName old outcome new) (IsLawful new) p (λ n t. tells_choice (held old k) (resolution (held old k) n).main (resolution (held old k) n).choice t) refused_name)
   does (Same left right) d = at_node left _ d (λ j lt p. at_node right _ p (λ k lt_k q. compared q))
     where
       compared : {P Q : Type 0} {a b : List ℕ} → (P × Gives a old outcome new) ⊎ (Q × Gives b old outcome new) → IsLawful new

@@ -5,7 +5,7 @@ use Rattle.script_words.specs.Words.{words_of, text_after}
 use Rattle.script_words.specs.Names.{is_name}
 use Rattle.script_words.specs.Numbers.{number_of}
 use Rattle.fleet_script.specs.declared.commands.Command.{Command}
-use Rattle.fleet_script.specs.declared.commands.Command.TheVariants.{Node, Put, Link, Remove, Merge, Part, Send, Sweep, Files, Same}
+use Rattle.fleet_script.specs.declared.commands.Command.TheVariants.{Node, Put, Link, Remove, Merge, Part, Send, Sweep, Files, Cat, Same}
 use Rattle.fleet_script.specs.declared.commands.Refusal.{Refusal}
 use Rattle.fleet_script.specs.declared.commands.Refusal.TheVariants.{UnknownCommand, Arguments}
 
@@ -63,6 +63,10 @@ abbrev pub files_of : List (List ℕ) → Result Command Refusal
 files_of (node ∷ []) = if is_name node then Ok (Files node) else Err Arguments
 files_of words = Err Arguments
 
+abbrev pub cat_of : List (List ℕ) → Result Command Refusal
+cat_of (node ∷ unit ∷ []) = if is_name node then Ok (Cat node unit) else Err Arguments
+cat_of words = Err Arguments
+
 abbrev pub same_of : List (List ℕ) → Result Command Refusal
 same_of (left ∷ right ∷ []) = if is_name left && is_name right then Ok (Same left right) else Err Arguments
 same_of words = Err Arguments
@@ -80,8 +84,9 @@ command_of_words (verb ∷ words) line =
     else (if bytes_eq verb (codes "send") then send_of words
     else (if bytes_eq verb (codes "sweep") then sweep_of words
     else (if bytes_eq verb (codes "files") then files_of words
+    else (if bytes_eq verb (codes "cat") then cat_of words
     else (if bytes_eq verb (codes "same") then same_of words
-    else Err UnknownCommand)))))))))
+    else Err UnknownCommand))))))))))
 
 -- the command of a line, or why it is none
 abbrev pub command_of : List ℕ → Result Command Refusal

@@ -3,7 +3,9 @@ use Rattle.load_path.specs.declared.paths.PathFault.{PathFault}
 use Rattle.load_path.specs.declared.paths.PathFault.TheVariants as path
 use Rattle.replica_store.specs.declared.replicas.EditFault.{EditFault}
 use Rattle.replica_store.specs.declared.replicas.EditFault.TheVariants as edit
-use Rattle.fleet_script.specs.declared.commands.Refusal.TheVariants.{Directory, Depth, Component, VersionsSpent, Nothing}
+use Rattle.fleet_script.specs.declared.commands.Refusal.TheVariants.{Directory, Depth, Component, VersionsSpent, Nothing, Length, Kind, EmptyPrefix, BadByte}
+use Rattle.unit_name.specs.declared.names.NameFault.{NameFault}
+use Rattle.unit_name.specs.declared.names.NameFault.TheVariants as name
 use Rattle.fleet_script.specs.declared.commands.Fault.{Fault}
 use Rattle.fleet_script.specs.declared.commands.Fault.TheVariants.{Refused, Memory}
 
@@ -17,3 +19,10 @@ abbrev pub fault_of_edit : EditFault → Fault
 fault_of_edit edit.VersionsSpent = Refused VersionsSpent
 fault_of_edit edit.Nothing = Refused Nothing
 fault_of_edit edit.Memory = Memory
+
+abbrev pub fault_of_name : NameFault → Fault
+fault_of_name name.Length = Refused Length
+fault_of_name name.Kind = Refused Kind
+fault_of_name name.EmptyPrefix = Refused EmptyPrefix
+fault_of_name (name.BadByte place) = Refused (BadByte place)
+fault_of_name name.Memory = Memory

@@ -1,8 +1,11 @@
 -- What the shell keeps of a world: of each node its replica of now, and the pieces of now by name.
 use Rattle.std.specs.Prelude.{◌≡◌, ℕ, ◌<◌, ◌≤◌, Bool, ⊤, if◌then◌else◌, List, [], ◌∷◌, map, length, slice_get, slice_index_or, slice_set, Option, Some, None, Result, Ok, Err}
+use Rattle.std.specs.List.{Contains}
 use Rattle.std.specs.Str.{bytes_eq}
+use Rattle.load_path.specs.Paths.{PathParts}
+use Rattle.edit_sums.specs.declared.contents.Content.TheVariants.{File}
 use Rattle.edit_sums.specs.declared.entries.Edit.{Edit}
-use Rattle.edit_sums.specs.Sums.{EntryMap, IsAmong, IsHonest, join, high_of}
+use Rattle.edit_sums.specs.Sums.{EntryMap, IsAmong, IsHonest, join, high_of, visible_at}
 use Rattle.world_law.specs.Worlds as worlds
 use Rattle.world_law.specs.Worlds.{puts_of, AreWithin}
 use Rattle.fleet_script.specs.declared.commands.Fault.{Fault}
@@ -93,3 +96,11 @@ joined_with kept other = record kept { replica = record kept.replica { store = j
 -- the store of one node is joined into that of another, and all else stays
 abbrev pub IsJoinedAt : List Kept → ℕ → ℕ → List Kept → Type 0
 IsJoinedAt old from to new = (d : Kept) → new ≡ slice_set old to (joined_with (slice_index_or old to d) (slice_index_or old from d))
+
+-- a file that isn't empty is visible at the path
+abbrev pub IsFileAt : EntryMap → PathParts → Type 0
+IsFileAt s p = (b : ℕ) × (bs : List ℕ) × (visible_at s p ≡ Some (File (b ∷ bs)))
+
+-- at each of these paths
+abbrev pub AreFilesAt : EntryMap → List PathParts → Type 0
+AreFilesAt s paths = (p : PathParts) → Contains paths p → IsFileAt s p

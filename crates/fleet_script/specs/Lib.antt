@@ -4,4 +4,5 @@ pub mod Faults
 pub mod Holds
 pub mod Scripts
 pub mod Texts
+pub mod Units
 pub mod Worlds

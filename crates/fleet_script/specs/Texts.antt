@@ -1,6 +1,6 @@
 -- How answers are written.
-use Rattle.std.specs.Prelude.{ℕ, codes, List, ◌++◌, length, Result, Ok, Err}
-use Rattle.std.specs.List.{flat_map}
+use Rattle.std.specs.Prelude.{ℕ, nat_eq, codes, if◌then◌else◌, Option, Some, None, List, [], ◌++◌, length, Result, Ok, Err}
+use Rattle.std.specs.List.{flat_map, ends_with}
 use Rattle.std.specs.Fmt.{decimal}
 use Rattle.std.specs.FinMap as finmap
 use Rattle.join_law.specs.declared.versions.Version.{Version}
@@ -8,9 +8,9 @@ use Rattle.load_path.specs.Paths.{PathParts, text_of}
 use Rattle.edit_sums.specs.declared.contents.Content.{Content}
 use Rattle.edit_sums.specs.declared.contents.Content.TheVariants.{Gone, Link, File}
 use Rattle.edit_sums.specs.declared.entries.Entry.{Entry}
-use Rattle.edit_sums.specs.Sums.{EntryMap}
+use Rattle.edit_sums.specs.Sums.{EntryMap, visible_at}
 use Rattle.fleet_script.specs.declared.commands.Refusal.{Refusal}
-use Rattle.fleet_script.specs.declared.commands.Refusal.TheVariants.{UnknownCommand, Arguments, UnknownNode, BadText, UnknownPiece, NodeTaken, WriterTaken, LineTooLong, Directory, Depth, Component, FileTooLarge, BadLink, VersionsSpent, Nothing}
+use Rattle.fleet_script.specs.declared.commands.Refusal.TheVariants.{UnknownCommand, Arguments, UnknownNode, BadText, UnknownPiece, NodeTaken, WriterTaken, LineTooLong, Directory, Depth, Component, FileTooLarge, BadLink, VersionsSpent, Nothing, Length, Kind, EmptyPrefix, BadByte, NotFound, Masked, Bad}
 
 -- the counter, a dot, the writer
 abbrev pub version_text : Version → List ℕ
@@ -38,26 +38,60 @@ entry_line p = text_of p.0 ++ codes " " ++ version_text p.1.version ++ codes " "
 abbrev pub files_text : EntryMap → List ℕ
 files_text s = flat_map entry_line (finmap.entries s) ++ codes "end\n"
 
+-- a line feed, where the last byte is none
+abbrev pub line_end : List ℕ → List ℕ
+line_end bytes = if ends_with nat_eq bytes (codes "\n") then [] else codes "\n"
+
+-- a file: its path behind `# `, and its bytes, with a line feed added if the last is none
+abbrev pub file_lines : PathParts → List ℕ → List ℕ
+file_lines path bytes = codes "# " ++ text_of path ++ codes "\n" ++ bytes ++ line_end bytes
+
+-- the bytes of a content that is a file
+abbrev pub file_bytes : Option Content → List ℕ
+file_bytes None = []
+file_bytes (Some Gone) = []
+file_bytes (Some (Link target)) = []
+file_bytes (Some (File bytes)) = bytes
+
+-- the files that are visible at some paths, one after another
+abbrev pub cat_text : EntryMap → List PathParts → List ℕ
+cat_text s paths = flat_map (λ path. file_lines path (file_bytes (visible_at s path))) paths ++ codes "end\n"
+
 -- the code and the name of a refusal
-abbrev pub refusal_text : Refusal → List ℕ
-refusal_text UnknownCommand = codes "X1 UnknownCommand"
-refusal_text Arguments = codes "X2 Arguments"
-refusal_text UnknownNode = codes "X3 UnknownNode"
-refusal_text BadText = codes "X4 BadText"
-refusal_text UnknownPiece = codes "X5 UnknownPiece"
-refusal_text NodeTaken = codes "X6 NodeTaken"
-refusal_text WriterTaken = codes "X7 WriterTaken"
-refusal_text LineTooLong = codes "X8 LineTooLong"
-refusal_text Directory = codes "F1 Directory"
-refusal_text Depth = codes "F2 Depth"
-refusal_text Component = codes "F3 Component"
-refusal_text FileTooLarge = codes "C1 FileTooLarge"
-refusal_text BadLink = codes "C2 BadLink"
-refusal_text VersionsSpent = codes "E1 VersionsSpent"
-refusal_text Nothing = codes "E2 Nothing"
+abbrev pub refusal_name : Refusal → List ℕ
+refusal_name UnknownCommand = codes "X1 UnknownCommand"
+refusal_name Arguments = codes "X2 Arguments"
+refusal_name UnknownNode = codes "X3 UnknownNode"
+refusal_name BadText = codes "X4 BadText"
+refusal_name UnknownPiece = codes "X5 UnknownPiece"
+refusal_name NodeTaken = codes "X6 NodeTaken"
+refusal_name WriterTaken = codes "X7 WriterTaken"
+refusal_name LineTooLong = codes "X8 LineTooLong"
+refusal_name Directory = codes "F1 Directory"
+refusal_name Depth = codes "F2 Depth"
+refusal_name Component = codes "F3 Component"
+refusal_name FileTooLarge = codes "C1 FileTooLarge"
+refusal_name BadLink = codes "C2 BadLink"
+refusal_name VersionsSpent = codes "E1 VersionsSpent"
+refusal_name Nothing = codes "E2 Nothing"
+refusal_name Length = codes "N1 Length"
+refusal_name Kind = codes "N2 Kind"
+refusal_name EmptyPrefix = codes "N3 EmptyPrefix"
+refusal_name (BadByte place) = codes "N4 BadByte"
+refusal_name (NotFound unit) = codes "P2 NotFound"
+refusal_name (Masked unit) = codes "P3 Masked"
+refusal_name (Bad unit) = codes "P4 Bad"
+
+-- the values of a refusal, each behind a space
+abbrev pub refusal_values : Refusal → List ℕ
+refusal_values (BadByte place) = codes " " ++ decimal place
+refusal_values (NotFound unit) = codes " " ++ unit
+refusal_values (Masked unit) = codes " " ++ unit
+refusal_values (Bad unit) = codes " " ++ unit
+refusal_values other = []
 
 abbrev pub error_line : Refusal → List ℕ
-error_line refusal = codes "error: " ++ refusal_text refusal ++ codes "\n"
+error_line refusal = codes "error: " ++ refusal_name refusal ++ refusal_values refusal ++ codes "\n"
 
 -- what a command comes to: the words of its answer, or a refusal
 abbrev pub Outcome : Type 0

@@ -1,7 +1,9 @@
 //! How answers are written.
-ghost use Rattle.std.specs.Prelude.{◌≡◌, ◌++◌, IfOk, OnOk, codes};
+ghost use Rattle.std.specs.Prelude.{◌≡◌, ◌∷◌, ◌++◌, IfOk, OnOk, codes};
 ghost use Rattle.std.specs.List.{flat_map};
-ghost use Rattle.fleet_script.specs.Texts.{refusal_text, error_line, ok_line, changed_line, entries_line, entry_line, files_text, content_text, version_text};
+ghost use Rattle.edit_sums.specs.Sums.{visible_at};
+ghost use Rattle.fleet_script.specs.Holds.{AreFilesAt, IsFileAt};
+ghost use Rattle.fleet_script.specs.Texts.{refusal_name, refusal_values, error_line, cat_text, file_bytes, file_lines, ok_line, changed_line, entries_line, entry_line, files_text, content_text, version_text};
 
 use crate::commands::Refusal;
 use edit_sums::{Content, Entry};
@@ -11,8 +13,8 @@ use replica_store::Store;
 use std::alloc::{AllocError, Global};
 
 // The code and the name of a refusal.
-fn name_of(refusal: Refusal) -> &'static [u8]
-    ensures name { result.now ≡ refusal_text refusal }
+fn name_of(refusal: &Refusal) -> &'static [u8]
+    ensures name { result.now ≡ refusal_name refusal.now }
 {
     match refusal {
         Refusal::UnknownCommand => b"X1 UnknownCommand",
@@ -30,6 +32,30 @@ fn name_of(refusal: Refusal) -> &'static [u8]
         Refusal::BadLink => b"C2 BadLink",
         Refusal::VersionsSpent => b"E1 VersionsSpent",
         Refusal::Nothing => b"E2 Nothing",
+        Refusal::Length => b"N1 Length",
+        Refusal::Kind => b"N2 Kind",
+        Refusal::EmptyPrefix => b"N3 EmptyPrefix",
+        Refusal::BadByte(_) => b"N4 BadByte",
+        Refusal::NotFound(_) => b"P2 NotFound",
+        Refusal::Masked(_) => b"P3 Masked",
+        Refusal::Bad(_) => b"P4 Bad",
+    }
+}
+
+// Appends the values of a refusal, each behind a space.
+fn append_values(alloc: Global, out: &mut Vec<u8>, refusal: &Refusal) -> Result<(), AllocError>
+    ensures appended { OnOk result (out.new.items ≡ out.old.items ++ refusal_values refusal.now) }
+{
+    match refusal {
+        Refusal::BadByte(place) => {
+            let place = *place;
+            out.extend_from_slice(format!(in alloc; " {place}")?.as_bytes())
+        }
+        Refusal::NotFound(name) | Refusal::Masked(name) | Refusal::Bad(name) => {
+            out.push(b' ')?;
+            out.extend_from_slice(name.bytes())
+        }
+        _ => Ok(()),
     }
 }
 
@@ -38,7 +64,8 @@ pub fn refused(alloc: Global, refusal: Refusal) -> Result<Vec<u8>, AllocError>
     ensures line { IfOk result (λ line. line.items ≡ error_line refusal) }
 {
     let mut line = Vec::from_slice(alloc, b"error: ")?;
-    line.extend_from_slice(name_of(refusal))?;
+    line.extend_from_slice(name_of(&refusal))?;
+    append_values(alloc, &mut line, &refusal)?;
     line.push(b'\n')?;
     Ok(line)
 }
@@ -108,6 +135,55 @@ fn append_entry(
     append_content(alloc, out, &entry.content)?;
     out.push(b'\n')?;
     Ok(())
+}
+
+// The bytes of the file that is visible at a path.
+fn file_at<'a>(store: &'a Store, path: &Path) -> &'a [u8]
+    requires file { IsFileAt store.now path.now }
+    ensures bytes { result.now ≡ file_bytes (visible_at store.now path.now) }
+{
+    match store.visible(path) {
+        Some(Content::File(file)) => file.bytes(),
+        _ => unreachable!(),
+    }
+}
+
+// Appends the file at a path: the path behind `# `, and the bytes, with a line feed added if the
+// last of them is none.
+fn append_file(out: &mut Vec<u8>, store: &Store, path: &Path) -> Result<(), AllocError>
+    requires file { IsFileAt store.now path.now }
+    ensures appended { OnOk result (out.new.items ≡ out.old.items ++ file_lines path.now (file_bytes (visible_at store.now path.now))) }
+{
+    let bytes = file_at(store, path);
+    out.extend_from_slice(b"# ")?;
+    path.append_to(out)?;
+    out.push(b'\n')?;
+    out.extend_from_slice(bytes)?;
+    if bytes.last() != Some(&b'\n') {
+        out.push(b'\n')?;
+    }
+    Ok(())
+}
+
+/// The files of a unit: its fragment, and then its drop-ins. Linear in what is written, and a
+/// search in the store for each file.
+pub fn cat_of(
+    alloc: Global,
+    store: &Store,
+    fragment: &Path,
+    dropins: &[Path],
+) -> Result<Vec<u8>, AllocError>
+    requires file { IsFileAt store.now fragment.now }
+    requires files { AreFilesAt store.now dropins.now }
+    ensures lines { IfOk result (λ text. text.items ≡ cat_text store.now (fragment.now ∷ dropins.now)) }
+{
+    let mut out = Vec::new(alloc);
+    append_file(&mut out, store, fragment)?;
+    for path in dropins {
+        append_file(&mut out, store, path)?;
+    }
+    out.extend_from_slice(b"end\n")?;
+    Ok(out)
 }
 
 /// All that a store holds, a line for each entry, in path order. Linear in what is written.

@@ -6,6 +6,7 @@ use replica_store::EditFault;
 use script_words::cut_word;
 use std::alloc::AllocError;
 use std::marker::Model;
+use unit_name::{NameFault, UnitName};
 
 /// Some bytes of a line.
 #[derive(Drop)]
@@ -119,6 +120,11 @@ pub enum Command<'a> {
     Files {
         node: Word<'a>,
     },
+    /// The fragment of a unit, as a node has it.
+    Cat {
+        node: Word<'a>,
+        unit: Word<'a>,
+    },
     /// Whether two nodes hold the same.
     Same {
         left: Word<'a>,
@@ -127,7 +133,7 @@ pub enum Command<'a> {
 }
 
 /// Why a line is refused. The nodes are then as they were.
-#[derive(Clone, Copy, Debug, PartialEq, Eq)]
+#[derive(Debug, Drop)]
 pub enum Refusal {
     UnknownCommand,
     Arguments,
@@ -144,6 +150,17 @@ pub enum Refusal {
     BadLink,
     VersionsSpent,
     Nothing,
+    Length,
+    Kind,
+    EmptyPrefix,
+    /// The place of the byte that no name has.
+    BadByte(usize),
+    /// The unit whose file isn't there.
+    NotFound(UnitName),
+    /// The unit that is masked.
+    Masked(UnitName),
+    /// The unit that is bad.
+    Bad(UnitName),
 }
 
 /// Why a command was not done.
@@ -189,6 +206,23 @@ impl From<PathFault> for Fault {
             PathFault::Depth => Fault::Refused(Refusal::Depth),
             PathFault::Component => Fault::Refused(Refusal::Component),
             PathFault::Memory => Fault::Memory,
+        }
+    }
+}
+
+impl From<NameFault> for Fault {
+    ghost use Rattle.std.specs.Prelude.{◌≡◌};
+    ghost use Rattle.fleet_script.specs.Faults.{fault_of_name};
+
+    ghost from_gives = { λ refused fault. fault ≡ fault_of_name refused };
+
+    fn from(refused: NameFault) -> Fault {
+        match refused {
+            NameFault::Length => Fault::Refused(Refusal::Length),
+            NameFault::Kind => Fault::Refused(Refusal::Kind),
+            NameFault::EmptyPrefix => Fault::Refused(Refusal::EmptyPrefix),
+            NameFault::BadByte(place) => Fault::Refused(Refusal::BadByte(place)),
+            NameFault::Memory => Fault::Memory,
         }
     }
 }

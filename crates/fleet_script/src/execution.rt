@@ -225,6 +225,7 @@ impl Shell {
             Command::Send { piece, node } => self.send(alloc, piece.as_slice(), node.as_slice()),
             Command::Sweep => self.sweep(alloc),
             Command::Files { node } => self.files(alloc, node.as_slice()),
+            Command::Cat { node, unit } => self.cat(alloc, node.as_slice(), unit.as_slice()),
             Command::Same { left, right } => self.same(alloc, left.as_slice(), right.as_slice()),
         }
     }

@@ -12,6 +12,7 @@ mod laws;
 mod parsing;
 mod running;
 mod states;
+mod units;
 
 pub use laws::{one_answer, scripts_are_honest};
 pub use running::{ShellFault, run};

@@ -1,7 +1,7 @@
 //! From a line to a command.
 ghost use Rattle.std.specs.Prelude.{◌≡◌, [], ◌∷◌, MatchOption};
 ghost use Rattle.script_words.specs.Words.{words_of, text_after};
-ghost use Rattle.fleet_script.specs.Commands.{command_of, node_of, put_of, link_of, remove_of, merge_of, part_of, send_of, sweep_of, files_of, same_of, AreNotOne, AreNotTwo, AreNotThree};
+ghost use Rattle.fleet_script.specs.Commands.{command_of, node_of, put_of, link_of, remove_of, merge_of, part_of, send_of, sweep_of, files_of, cat_of, same_of, AreNotOne, AreNotTwo, AreNotThree};
 
 use crate::commands::{Command, Refusal, Word, Words};
 use script_words::{cut_word, is_name, parse_number, text_of_rest};
@@ -31,6 +31,8 @@ pub fn parse(line: &[u8]) -> Result<Command<'_>, Refusal>
         sweep(rest)
     } else if verb == b"files".as_slice() {
         files(rest)
+    } else if verb == b"cat".as_slice() {
+        cat(rest)
     } else if verb == b"same".as_slice() {
         same(rest)
     } else {
@@ -212,6 +214,22 @@ fn files(rest: &[u8]) -> Result<Command<'_>, Refusal>
     if is_name(node) {
         Ok(Command::Files {
             node: Word::new(node),
+        })
+    } else {
+        Err(Refusal::Arguments)
+    }
+}
+
+fn cat(rest: &[u8]) -> Result<Command<'_>, Refusal>
+    ensures command { result ≡ cat_of (words_of rest.now) }
+{
+    let Some((node, unit)) = two_words(rest) else {
+        return Err(Refusal::Arguments);
+    };
+    if is_name(node) {
+        Ok(Command::Cat {
+            node: Word::new(node),
+            unit: Word::new(unit),
         })
     } else {
         Err(Refusal::Arguments)

@@ -3,6 +3,7 @@ use super::*;
 use std::process::Abort;
 use std::test::Fail;
 
+mod dropins;
 mod fakes;
 mod faults;
 mod limits;
@@ -13,6 +14,7 @@ mod rows;
 mod statuses;
 mod stores;
 mod texts;
+mod units;
 mod words;
 
 /// What is written for a script that is answered to its end.

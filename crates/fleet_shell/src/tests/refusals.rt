@@ -4,8 +4,7 @@ use super::*;
 #[test]
 fn commands_that_are_not_there(rt: HostRuntime) -> Result<(), Fail> {
     for line in [
-        "frob", "show", "cat", "list", "plan", "crowd", "workers", "Node", "nodes", "links",
-        "Sweep",
+        "frob", "show", "list", "plan", "crowd", "workers", "Node", "nodes", "links", "Sweep",
     ] {
         let script = format!(in rt.alloc(); "{line}\n{line} a-b /opt/x 1 \\q\n")?;
         let written = answers_to(&rt, script.as_bytes())?;
@@ -104,6 +103,11 @@ fn words_are_counted_first(rt: HostRuntime) -> Result<(), Fail> {
         ("files", "error: X2 Arguments\n"),
         ("files c d", "error: X2 Arguments\n"),
         ("files c", "error: X3 UnknownNode\n"),
+        ("cat", "error: X2 Arguments\n"),
+        ("cat c", "error: X2 Arguments\n"),
+        ("cat c d e", "error: X2 Arguments\n"),
+        ("cat c- d", "error: X2 Arguments\n"),
+        ("cat c d", "error: X3 UnknownNode\n"),
         ("same c", "error: X2 Arguments\n"),
         ("same c d e", "error: X2 Arguments\n"),
         ("same c d-", "error: X2 Arguments\n"),

@@ -1,7 +1,7 @@
 use Rattle.std.proofs.Common.{Ok, sym, ap, ◌∙◌}
 use Rattle.fleet_script.specs.Holds.{kept_in}
 use Rattle.fleet_script.proofs.Lines.{executed}
-use Rattle.fleet_script.specs.declared.commands.Command.TheVariants.{Node, Put, Link, Remove, Merge, Part, Send, Sweep, Files, Same}
+use Rattle.fleet_script.specs.declared.commands.Command.TheVariants.{Node, Put, Link, Remove, Merge, Part, Send, Sweep, Files, Cat, Same}
 use Rattle.fleet_script.proofs.states.Shell.execute.Goals as goal
 
 pub returns-in-Node : goal.returns-in-Node
@@ -33,3 +33,6 @@ returns-in-Send c = record { done = executed (kept_in c.args.self.now) (kept_in 
 
 pub returns-in-Sweep : goal.returns-in-Sweep
 returns-in-Sweep c = record { done = executed (kept_in c.args.self.now) (kept_in c.sweep.new.self) c.args.line.now Sweep c.sweep.result (ap Ok (sym c.in-Sweep.is) ∙ c.in_ok-name.ensures.command) c.sweep.ensures.done }
+
+pub returns-in-Cat : goal.returns-in-Cat
+returns-in-Cat c = record { done = executed (kept_in c.args.self.now) (kept_in c.cat.new.self) c.args.line.now (Cat c.in-Cat.node c.in-Cat.unit) c.cat.result (ap Ok (sym c.in-Cat.is) ∙ c.in_ok-name.ensures.command) (rw c.as_slice-in-Cat-2.ensures.bytes at (rw c.as_slice-in-Cat.ensures.bytes at c.cat.ensures.done)) }
