@@ -1,5 +1,6 @@
 pub mod Cuts
 pub mod Firsts
 pub mod Found
+pub mod Listed
 pub mod Placed
 pub mod Rises

@@ -1,43 +1,91 @@
 //! The folders of names.
-ghost use Rattle.std.specs.Prelude.{◌≡◌, IfOk, OnOk, fold};
-ghost use Rattle.std.specs.Str.{bytes_eq};
+ghost use Rattle.std.specs.Prelude.{◌≡◌, [], IfOk, OnOk, fold};
 ghost use Rattle.unit_name.specs.Names.{IsName};
-ghost use Rattle.dropins.specs.FolderLists.{folders, folders_of, is_among, with_name, with_prefix, with_template};
+ghost use Rattle.dropins.specs.FolderLists.{folders, folders_of, with_name, with_prefix, with_template};
+ghost use Rattle.dropins.specs.Listings.{IsKept};
 
 use std::alloc::{AllocError, Global};
+use std::collections::BTreeSet;
 use unit_name::{NameFault, UnitName};
+
+// Names in the order of their first places, and the same names in a set.
+#[derive(Drop)]
+struct Listing {
+    names: Vec<UnitName>,
+    seen: BTreeSet<UnitName>,
+}
+
+impl Listing {
+    fn new(alloc: Global) -> Listing
+        ensures nothing { result.names.items ≡ [] }
+        ensures kept { IsKept result }
+    {
+        Listing {
+            names: Vec::new(alloc),
+            seen: BTreeSet::new(alloc),
+        }
+    }
+
+    // Adds a name unless it is there.
+    fn add(&mut self, name: UnitName) -> Result<(), AllocError>
+        requires kept { IsKept self.now }
+        ensures added { OnOk result (self.new.names.items ≡ with_name self.old.names.items name) }
+        ensures kept { OnOk result (IsKept self.new) }
+    {
+        if self.seen.insert(name.try_clone()?)? {
+            self.names.push(name)?;
+        }
+        Ok(())
+    }
+
+    // Adds a name, and of an instance its template.
+    fn add_with_template(&mut self, name: UnitName) -> Result<(), AllocError>
+        requires kept { IsKept self.now }
+        ensures added { OnOk result (self.new.names.items ≡ fold with_name self.old.names.items (with_template name)) }
+        ensures kept { OnOk result (IsKept self.new) }
+    {
+        let template = name.template_of()?;
+        self.add(name)?;
+        match template {
+            Some(template) => self.add(template),
+            None => Ok(()),
+        }
+    }
+
+    // Adds the folders of one name.
+    fn add_folders(&mut self, alloc: Global, name: &UnitName) -> Result<(), AllocError>
+        requires kept { IsKept self.now }
+        ensures added { OnOk result (self.new.names.items ≡ fold with_name self.old.names.items (folders_of name.now)) }
+        ensures kept { OnOk result (IsKept self.new) }
+    {
+        self.add_with_template(name.try_clone()?)?;
+        let prefix = name.prefix();
+        let mut end = prefix.len();
+        while end > 1 {
+            end -= 1;
+            if prefix[end - 1] == b'-' {
+                self.add_with_template(cut_name(alloc, name, &prefix[..end])?)?;
+            }
+        }
+        Ok(())
+    }
+}
 
 /// The names whose folders hold what is added to a unit of these names (systemd.unit(5),
 /// "Description"), name by name: the name, and its template where it is an instance; then the same
 /// with the prefix cut behind each of its dashes, from the last dash to the first, where that is
 /// shorter. A name that repeats keeps its first place.
 ///
-/// Each name is sought among those before it, so the cost is the square of the number of folders,
-/// which are at most two for each dash and for each name.
+/// There are at most two for each name and for each dash of one; each is sought in a set of those
+/// before it, so the cost is O(n log n). It fails for want of memory alone.
 pub fn folders(alloc: Global, names: &[UnitName]) -> Result<Vec<UnitName>, AllocError>
     ensures folders { IfOk result (λ all. all.items ≡ folders names.now) }
 {
-    let mut all = Vec::new(alloc);
+    let mut all = Listing::new(alloc);
     for name in names {
-        add_folders(alloc, &mut all, name)?;
+        all.add_folders(alloc, name)?;
     }
-    Ok(all)
-}
-
-// Adds the folders of one name.
-fn add_folders(alloc: Global, all: &mut Vec<UnitName>, name: &UnitName) -> Result<(), AllocError>
-    ensures added { OnOk result (all.new.items ≡ fold with_name all.old.items (folders_of name.now)) }
-{
-    add_with_template(all, name.try_clone()?)?;
-    let prefix = name.prefix();
-    let mut end = prefix.len();
-    while end > 1 {
-        end -= 1;
-        if prefix[end - 1] == b'-' {
-            add_with_template(all, cut_name(alloc, name, &prefix[..end])?)?;
-        }
-    }
-    Ok(())
+    Ok(all.names)
 }
 
 // The name with another prefix.
@@ -54,38 +102,4 @@ fn cut_name(alloc: Global, name: &UnitName, prefix: &[u8]) -> Result<UnitName, A
             Err(AllocError)
         }
     }
-}
-
-// Adds a name, and of an instance its template.
-fn add_with_template(all: &mut Vec<UnitName>, name: UnitName) -> Result<(), AllocError>
-    ensures added { OnOk result (all.new.items ≡ fold with_name all.old.items (with_template name)) }
-{
-    let template = name.template_of()?;
-    add(all, name)?;
-    match template {
-        Some(template) => add(all, template),
-        None => Ok(()),
-    }
-}
-
-// Adds a name unless it is there.
-fn add(names: &mut Vec<UnitName>, name: UnitName) -> Result<(), AllocError>
-    ensures added { OnOk result (names.new.items ≡ with_name names.old.items name) }
-{
-    if !is_among(&name, names) {
-        names.push(name)?;
-    }
-    Ok(())
-}
-
-fn is_among(name: &UnitName, names: &[UnitName]) -> bool
-    ensures test { result ≡ is_among name.now names.now }
-{
-    names.iter().any(|other| is_same(name, other))
-}
-
-fn is_same(name: &UnitName, other: &UnitName) -> bool
-    ensures test { result ≡ bytes_eq name.now other.now }
-{
-    name.bytes() == other.bytes()
 }

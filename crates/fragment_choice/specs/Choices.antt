@@ -61,7 +61,7 @@ is_that (Some m) t = is_same m t
 abbrev pub is_self : Name → Name → Bool
 is_self o t = is_same o t || is_that (template_of o) t
 
--- plain leads to plain, a template to a template, an instance to a template or to an instance with the same instance part
+-- two plain names agree, and so do two templates; an instance agrees with each template, and with each instance whose part is its own
 abbrev pub shapes_agree : UnitShape → List ℕ → UnitShape → List ℕ → Bool
 shapes_agree Plain i Plain j = true
 shapes_agree Plain i Template j = false

@@ -20,8 +20,8 @@ use unit_name::{NameFault, UnitName};
 /// and then in byte order the others whose main name it is, also those that only a link of their
 /// template gives.
 ///
-/// For each visible link of one component it resolves at most two names. It fails for want of
-/// memory alone.
+/// One pass over the paths of one component, with a search for each; for each visible link among
+/// them it resolves at most two names. It fails for want of memory alone.
 pub fn names_of(alloc: Global, store: &Store, name: &UnitName) -> Result<Vec<UnitName>, AllocError>
     requires main { main store.now name.now ≡ name.now }
     ensures names { IfOk result (λ names. AreNames store.now name.now names.items) }

@@ -2,7 +2,7 @@ use Rattle.std.proofs.Common.{arith, eq-eqb, ◌∙◌, ◌-◌, ap, sym, subst,
 use Rattle.unit_name.specs.Names.{IsName}
 use Rattle.dropins.specs.FolderLists.{with_name, with_template, with_prefix}
 use Rattle.dropins.proofs.Cuts.{cut_taken, cut_left, front_is_name}
-use Rattle.dropins.proofs.folder_lists.add_folders.Goals as goal
+use Rattle.dropins.proofs.folder_lists.Listing.add_folders.Goals as goal
 
 pub cut_name-requires : goal.cut_name-requires
 cut_name-requires c = record {
@@ -13,11 +13,15 @@ cut_name-requires c = record {
 pub loop-end-preserved-in_ok-add_with_template-2 : goal.loop-end-preserved-in_ok-add_with_template-2
 loop-end-preserved-in_ok-add_with_template-2 c = (
   omega arith,
-  cut_taken (λ p. with_template (with_prefix c.args.name.now p)) c.loop-end.all.items _ c.prefix-prefix.result.now c.loop-end.end _ (omega arith) (eq-eqb _ _ c.if-prefix-end-eq45.true)
-      (c.in_ok-add_with_template-2.ensures.added ∙ ap (λ n. fold with_name c.loop-end.all.items (with_template n)) c.in_ok-cut_name.ensures.cut)
+  cut_taken (λ p. with_template (with_prefix c.args.name.now p)) c.loop-end.self.names.items _ c.prefix-prefix.result.now c.loop-end.end _ (omega arith) (eq-eqb _ _ c.if-prefix-end-eq45.true)
+      (c.in_ok-add_with_template-2.ensures.added ∙ ap (λ n. fold with_name c.loop-end.self.names.items (with_template n)) c.in_ok-cut_name.ensures.cut)
       c.loop-end.invariant.1,
+  c.in_ok-add_with_template-2.ensures.kept,
 )
 
 pub loop-end-preserved : goal.loop-end-preserved
-loop-end-preserved c =
-    (omega arith, cut_left (λ p. with_template (with_prefix c.args.name.now p)) c.loop-end.all.items c.prefix-prefix.result.now c.loop-end.end _ (omega arith) (grind (arith, c.if-prefix-end-eq45.false)) c.loop-end.invariant.1)
+loop-end-preserved c = (
+  omega arith,
+  cut_left (λ p. with_template (with_prefix c.args.name.now p)) c.loop-end.self.names.items c.prefix-prefix.result.now c.loop-end.end _ (omega arith) (grind (arith, c.if-prefix-end-eq45.false)) c.loop-end.invariant.1,
+  c.loop-end.invariant.2,
+)
