@@ -33,6 +33,7 @@ fn files_of_unit(
 }
 
 impl Shell {
+    /// Tells a unit's files: its fragment, and then its drop-ins.
     pub fn cat(&mut self, alloc: Global, node: &[u8], unit: &[u8]) -> Result<Vec<u8>, Fault>
         ensures done { IsSaid (λ text. text.items) result (λ outcome. Continues (kept_in self.old) (kept_in self.new)
             (λ old new. Does old (Command.Cat node.now unit.now) outcome new)) }

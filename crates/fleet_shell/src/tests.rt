@@ -3,12 +3,12 @@ use super::*;
 use std::process::Abort;
 use std::test::Fail;
 
-mod dropins;
 mod fakes;
 mod faults;
 mod limits;
 mod lines;
 mod pieces;
+mod precedence;
 mod refusals;
 mod rows;
 mod statuses;
