@@ -1,0 +1,139 @@
+//! Edits and stores in words.
+//!
+//! An edit is `COUNTER.WRITER:PATH` for a removal, with `=TEXT` behind it for a file and with `>TARGET` for a link.
+use crate::calls::{CallFault, Words, append_path, append_text, number_of, path_of, text_of};
+use replica_store::{Content, ContentFault, Edit, Entry, Path, Store, Version};
+use std::alloc::{AllocError, Global};
+
+// The parts of a word before and behind the first byte of a kind.
+fn cut_at(word: &[u8], byte: u8) -> Option<(&[u8], &[u8])> {
+    let place = word.iter().position(|b| *b == byte)?;
+    Some((&word[..place], &word[place + 1..]))
+}
+
+/// The version that a word writes.
+pub fn version_of(word: &[u8]) -> Result<Version, CallFault> {
+    let (counter, writer) = cut_at(word, b'.').ok_or(CallFault::Line)?;
+    let writer = u32::try_from(number_of(writer)?).map_err(|_| CallFault::Line)?;
+    let counter = number_of(counter)?;
+    Ok(Version { counter, writer })
+}
+
+// The content of a lawful file or link.
+fn made(content: Result<Content, ContentFault>) -> Result<Content, CallFault> {
+    content.map_err(|_| CallFault::Line)
+}
+
+/// The path and the content that a word writes.
+pub fn placed_of(alloc: Global, word: &[u8]) -> Result<(Path, Content), CallFault> {
+    if let Some((path, text)) = cut_at(word, b'=') {
+        let content = made(Content::file(text_of(alloc, text)?))?;
+        return Ok((path_of(alloc, path)?, content));
+    }
+    if let Some((path, target)) = cut_at(word, b'>') {
+        let content = made(Content::link(text_of(alloc, target)?))?;
+        return Ok((path_of(alloc, path)?, content));
+    }
+    Ok((path_of(alloc, word)?, Content::gone()))
+}
+
+/// The edit that a word writes.
+pub fn edit_of(alloc: Global, word: &[u8]) -> Result<Edit, CallFault> {
+    let (version, placed) = cut_at(word, b':').ok_or(CallFault::Line)?;
+    let version = version_of(version)?;
+    let (path, content) = placed_of(alloc, placed)?;
+    Ok(Edit {
+        path,
+        version,
+        content,
+    })
+}
+
+/// The edits that words write, up to the word `+` or to the end.
+pub fn edits(alloc: Global, words: &mut Words) -> Result<Vec<Edit>, CallFault> {
+    let mut edits = Vec::new(alloc);
+    for _ in 0..words.count() {
+        if words.takes(b"+") {
+            break;
+        }
+        edits.push(edit_of(alloc, words.word()?)?)?;
+    }
+    Ok(edits)
+}
+
+/// The store of edits that words write, up to the word `+` or to the end.
+pub fn store(alloc: Global, words: &mut Words) -> Result<Store, CallFault> {
+    let edits = edits(alloc, words)?;
+    Ok(Store::from_edits(alloc, &edits)?)
+}
+
+/// Writes a version.
+pub fn append_version(
+    alloc: Global,
+    out: &mut Vec<u8>,
+    version: Version,
+) -> Result<(), AllocError> {
+    let counter = version.counter;
+    let writer = version.writer;
+    out.extend_from_slice(format!(in alloc; "{counter}.{writer}")?.as_bytes())
+}
+
+/// Writes a content as it stands behind a path.
+pub fn append_content(out: &mut Vec<u8>, content: &Content) -> Result<(), AllocError> {
+    match content {
+        Content::Gone => Ok(()),
+        Content::File(file) => {
+            out.push(b'=')?;
+            append_text(out, file.bytes())
+        }
+        Content::Link(target) => {
+            out.push(b'>')?;
+            append_text(out, target.bytes())
+        }
+    }
+}
+
+// Writes an entry with its path.
+fn append_entry(
+    alloc: Global,
+    out: &mut Vec<u8>,
+    path: &Path,
+    entry: &Entry,
+) -> Result<(), AllocError> {
+    append_version(alloc, out, entry.version)?;
+    out.push(b':')?;
+    append_path(out, path)?;
+    append_content(out, &entry.content)
+}
+
+/// Writes all that a store holds, in path order, each entry behind a space but the first.
+pub fn append_store(alloc: Global, out: &mut Vec<u8>, store: &Store) -> Result<(), AllocError> {
+    if store.entries().is_empty() {
+        return out.extend_from_slice(b"nothing");
+    }
+    let mut is_first = true;
+    for (path, entry) in store.entries() {
+        if !is_first {
+            out.push(b' ')?;
+        }
+        is_first = false;
+        append_entry(alloc, out, path, entry)?;
+    }
+    Ok(())
+}
+
+/// Writes paths, parted by spaces.
+pub fn append_paths(out: &mut Vec<u8>, paths: &[Path]) -> Result<(), AllocError> {
+    if paths.is_empty() {
+        return out.extend_from_slice(b"none");
+    }
+    let mut is_first = true;
+    for path in paths {
+        if !is_first {
+            out.push(b' ')?;
+        }
+        is_first = false;
+        append_path(out, path)?;
+    }
+    Ok(())
+}

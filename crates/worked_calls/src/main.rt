@@ -1,0 +1,68 @@
+//! Works calls of the libraries: reads a call a line from standard input, and writes each line behind it with its answer.
+//!
+//! A line is a subject, a call and its words, parted by spaces. Lines that are empty or begin with `#` are repeated
+//! as they are. `stdin` has the calls, and `stdout` what each must answer; the gate compares the two.
+#![tactic(auto)]
+
+mod calls;
+mod edits;
+mod paths;
+
+use calls::{CallFault, Words};
+use script_pipes::{Watched, read_all, write_all};
+use script_words::{cut_line, cut_word, is_passed_over};
+use std::alloc::{AllocError, Global};
+use std::io;
+use std::process::ExitCode;
+
+// What a call answers.
+fn answer(alloc: Global, line: &[u8]) -> Result<Vec<u8>, CallFault> {
+    let (subject, rest) = cut_word(line).ok_or(CallFault::Line)?;
+    let mut words = Words::new(alloc, rest);
+    match subject {
+        b"path" => paths::answer(alloc, &mut words),
+        _ => Err(CallFault::Line),
+    }
+}
+
+// Writes a line, and behind it its answer if it is a call.
+fn append_line(alloc: Global, out: &mut Vec<u8>, line: &[u8]) -> Result<(), AllocError> {
+    out.extend_from_slice(line)?;
+    if !is_passed_over(line) {
+        out.extend_from_slice(b" -> ")?;
+        match answer(alloc, line) {
+            Ok(text) => out.extend_from_slice(&text)?,
+            Err(CallFault::Line) => out.extend_from_slice(b"no such call")?,
+            Err(CallFault::Memory) => return Err(AllocError),
+        }
+    }
+    out.push(b'\n')?;
+    Ok(())
+}
+
+// All lines, each with its answer.
+fn answers(alloc: Global, calls: &[u8]) -> Result<Vec<u8>, AllocError> {
+    let mut out = Vec::new(alloc);
+    let mut rest = calls;
+    while !rest.is_empty() {
+        let (line, later) = cut_line(rest);
+        append_line(alloc, &mut out, line)?;
+        rest = later;
+    }
+    Ok(out)
+}
+
+fn main(rt: HostRuntime) -> ExitCode {
+    let mut reader = Watched::new(rt.reader());
+    let Ok(calls) = read_all(rt.alloc(), &mut reader) else {
+        return ExitCode::from(1);
+    };
+    let Ok(out) = answers(rt.alloc(), &calls) else {
+        return ExitCode::from(2);
+    };
+    let mut writer = Watched::new(io::writer(&rt));
+    if write_all(&mut writer, &out).is_err() {
+        return ExitCode::from(1);
+    }
+    ExitCode::from(0)
+}
