@@ -4,12 +4,14 @@
 //! is too long, and 2 where memory was refused; a line on standard error then says which.
 #![tactic(auto)]
 
-ghost use Rattle.std.specs.Prelude.{◌≡◌};
+ghost use Rattle.std.specs.Prelude.{◌≡◌, ◌⊎◌, ◌≤◌};
+ghost use Rattle.std.specs.Process.{exit_status};
+ghost use Rattle.fleet_shell.specs.Ends.{IsAnswered, IsFronted, IsUnread, IsUnwritten};
 ghost use Rattle.fleet_shell.specs.Status.{status_of};
 
 use fleet_script::ShellFault;
 pub use fleet_script::run;
-use script_pipes::Watched;
+use script_pipes::{MAX_SCRIPT_BYTES, Sink, Source, Watched};
 use std::io;
 use std::process::ExitCode;
 
@@ -32,9 +34,34 @@ fn finish(rt: &impl Eprint, outcome: Result<(), ShellFault>) -> u8
     status
 }
 
+/// The whole program: reads a script, writes its answers, says on standard error what went wrong, if anything did,
+/// and gives the exit status.
+fn answer_script<R: AllocGlobal + Eprint, S: Source, K: Sink>(
+    rt: &R,
+    source: &mut S,
+    sink: &mut K,
+) -> ExitCode
+    ensures statuses { exit_status result ≤ 2 }
+
+    // The answers to the whole script are written.
+    ensures answered { exit_status result ≡ 0 → IsAnswered MAX_SCRIPT_BYTES (S.remaining source.old) (K.contents sink.old) (K.contents sink.new) }
+
+    // A read failed or the script is too long, and nothing is written; or a write failed behind a front of the answers.
+    ensures faulted { exit_status result ≡ 1 →
+        IsUnread MAX_SCRIPT_BYTES (S.remaining source.old) (S.failures source.old) (S.failures source.new) (K.contents sink.old) (K.contents sink.new)
+        ⊎ IsUnwritten (S.remaining source.old) (K.refusals sink.old) (K.refusals sink.new) (K.contents sink.old) (K.contents sink.new) }
+
+    // Memory was refused behind a front of the answers.
+    ensures refused { exit_status result ≡ 2 → IsFronted (S.remaining source.old) (K.contents sink.old) (K.contents sink.new) }
+{
+    let outcome = run(rt, source, sink);
+    ExitCode::from(finish(rt, outcome))
+}
+
 fn main(rt: HostRuntime) -> ExitCode {
-    let mut reader = Watched::new(rt.reader());
-    let mut writer = Watched::new(io::writer(&rt));
-    let outcome = run(&rt, &mut reader, &mut writer);
-    ExitCode::from(finish(&rt, outcome))
+    answer_script(
+        &rt,
+        &mut Watched::new(rt.reader()),
+        &mut Watched::new(io::writer(&rt)),
+    )
 }

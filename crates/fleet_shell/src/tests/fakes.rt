@@ -1,4 +1,4 @@
-//! Fake readers, writers and a fake standard error.
+//! Fake readers, writers and a fake runtime.
 use std::alloc::Global;
 use std::cell::Cell;
 use std::fmt::Display;
@@ -35,18 +35,16 @@ impl Read for Slow<'_> {
     }
 }
 
-/// Gives that many letters, as many as there is room for at each read.
+/// Gives as many letters as there is room for, at each read.
 #[derive(Drop)]
-pub struct Repeated(pub usize);
+pub struct Endless;
 
-impl Read for Repeated {
+impl Read for Endless {
     fn read(&mut self, buf: &mut [u8]) -> io::Result<usize> {
-        let count = self.0.min(buf.len());
-        for b in buf[..count].iter_mut() {
+        for b in buf.iter_mut() {
             *b = b'x';
         }
-        self.0 -= count;
-        Ok(count)
+        Ok(buf.len())
     }
 }
 
@@ -79,17 +77,24 @@ impl Write for Narrow {
     }
 }
 
-/// Keeps the last line of standard error.
+/// Keeps the last line of standard error, and refuses what is no line.
 #[derive(Drop)]
 pub struct Noted<'a> {
     pub line: &'a Cell<Option<String>>,
     pub alloc: Global,
 }
 
+impl Alloc for Noted<'_> {
+    type A = Global;
+
+    fn alloc(&self) -> Global {
+        self.alloc
+    }
+}
+
 impl Eprint for Noted<'_> {
-    fn eprint<D: Display + Drop>(&self, value: D) -> io::Result<()> {
-        self.line.set(Some(format!(in self.alloc; "{value}")?));
-        Ok(())
+    fn eprint<D: Display + Drop>(&self, _value: D) -> io::Result<()> {
+        Err(Error::from(ErrorKind::Other))
     }
 
     fn eprintln<D: Display + Drop>(&self, value: D) -> io::Result<()> {

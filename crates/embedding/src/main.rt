@@ -1,0 +1,60 @@
+//! How a program of one's own takes these libraries in: one that answers scripts, and one whose replicas merge.
+#![tactic(auto)]
+
+use fleet_script::{ShellFault, run};
+use join_law::Key;
+use replica_store::{Content, ContentFault, EditFault, Path, PathFault, Replica};
+use script_pipes::Watched;
+use std::alloc::{AllocError, Global};
+use std::io;
+use thiserror::Error;
+
+/// What may go wrong here.
+#[derive(Debug, Drop, Error)]
+enum Fault {
+    #[error("{0}")]
+    Path(#[from] PathFault),
+    #[error("{0}")]
+    Content(#[from] ContentFault),
+    #[error("{0}")]
+    Edit(#[from] EditFault),
+    #[error("{0}")]
+    Script(#[from] ShellFault),
+    #[error("out of memory")]
+    Memory(#[from] AllocError),
+    #[error("{0}")]
+    Output(#[from] io::Error),
+}
+
+// What a script is answered by.
+fn answers_to(rt: &impl AllocGlobal, script: &[u8]) -> Result<Vec<u8>, ShellFault> {
+    let mut source = Watched::new(script);
+    let mut sink = Watched::new(Vec::new(rt.alloc()));
+    run(rt, &mut source, &mut sink)?;
+    Ok(sink.into_inner())
+}
+
+// Two replicas write at one path without knowing of each other, and meet; whether they then hold the same.
+fn meet(alloc: Global) -> Result<bool, Fault> {
+    let path = Path::parse(alloc, b"/etc/systemd/system/x.service")?;
+    let mut a = Replica::new(alloc, 1);
+    let mut b = Replica::new(alloc, 2);
+    a.put(
+        path.try_clone()?,
+        Content::file(Vec::from_slice(alloc, b"A")?)?,
+    )?;
+    b.put(path, Content::file(Vec::from_slice(alloc, b"BB")?)?)?;
+    a.merge(b.store())?;
+    b.merge(a.store())?;
+    Ok(a.store().same(b.store()))
+}
+
+fn main(rt: HostRuntime) -> Result<(), Fault> {
+    let answers = answers_to(
+        &rt,
+        b"node a 1\nput a /etc/systemd/system/x.service A\nfiles a\n",
+    )?;
+    print!(rt; "{}", str::from_utf8(&answers).unwrap_or("no text"))?;
+    println!(rt; "the same: {}", meet(rt.alloc())?)?;
+    Ok(())
+}

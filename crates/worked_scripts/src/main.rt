@@ -1,0 +1,72 @@
+//! Works scripts: reads dialogues from standard input, runs the commands of each as one script, and says of each
+//! whether the answers are those that the dialogue tells.
+//!
+//! `stdin` has the dialogues, and `stdout` a line for each; the gate compares the two. How a dialogue is written
+//! stands in `dialogues.rt`.
+#![tactic(auto)]
+
+mod dialogues;
+
+use dialogues::{Dialogue, Kind, kind_of};
+use fleet_script::run;
+use script_pipes::{Watched, read_all, write_all};
+use script_words::cut_line;
+use std::alloc::AllocError;
+use std::io;
+use std::process::ExitCode;
+
+// Whether these are the answers and the end that a dialogue tells.
+fn is_as_told(dialogue: &Dialogue, written: &[u8], end: &[u8]) -> bool {
+    dialogue.answers() == written && dialogue.end() == end
+}
+
+// Runs a dialogue's commands, and says whether they are answered as it tells; if not, what came is written too.
+fn work<R: AllocGlobal>(rt: &R, dialogue: &Dialogue, out: &mut Vec<u8>) -> Result<(), AllocError> {
+    let mut reader = Watched::new(dialogue.script());
+    let mut writer = Watched::new(Vec::new(rt.alloc()));
+    let end = match run(rt, &mut reader, &mut writer) {
+        Ok(()) => String::new(rt.alloc()),
+        Err(fault) => format!(in rt.alloc(); "{fault}")?,
+    };
+    let written = writer.into_inner();
+    out.extend_from_slice(dialogue.name())?;
+    if is_as_told(dialogue, &written, end.as_bytes()) {
+        return out.extend_from_slice(b": as told\n");
+    }
+    out.extend_from_slice(b": differs\n")?;
+    out.extend_from_slice(&written)?;
+    out.extend_from_slice(end.as_bytes())
+}
+
+// Says of each dialogue whether it is answered as it tells.
+fn work_all<R: AllocGlobal>(rt: &R, text: &[u8]) -> Result<Vec<u8>, AllocError> {
+    let mut out = Vec::new(rt.alloc());
+    let mut dialogue = Dialogue::new(rt.alloc());
+    let mut rest = text;
+    while !rest.is_empty() {
+        let (line, later) = cut_line(rest);
+        if matches!(kind_of(line), Kind::Name) && !dialogue.name().is_empty() {
+            work(rt, &dialogue, &mut out)?;
+            dialogue = Dialogue::new(rt.alloc());
+        }
+        dialogue.add(rt.alloc(), line)?;
+        rest = later;
+    }
+    work(rt, &dialogue, &mut out)?;
+    Ok(out)
+}
+
+fn main(rt: HostRuntime) -> ExitCode {
+    let mut reader = Watched::new(rt.reader());
+    let Ok(text) = read_all(rt.alloc(), &mut reader) else {
+        return ExitCode::from(1);
+    };
+    let Ok(out) = work_all(&rt, &text) else {
+        return ExitCode::from(2);
+    };
+    let mut writer = Watched::new(io::writer(&rt));
+    if write_all(&mut writer, &out).is_err() {
+        return ExitCode::from(1);
+    }
+    ExitCode::from(0)
+}
