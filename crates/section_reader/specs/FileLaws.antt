@@ -5,12 +5,12 @@ use Rattle.std.specs.List.{All, flat_map, starts_with, list_all}
 use Rattle.std.specs.Str.Lines.{lines}
 use Rattle.std.proofs.lemmas.Bool.{cond-false}
 use Rattle.std.proofs.lemmas.List.Elements.{recursion_from_All}
+use Rattle.list_laws.specs.Lines.{IsPlainLine, lines-line_feeds}
 use Rattle.section_reader.specs.declared.assignments.Assignment.{Assignment}
 use Rattle.section_reader.specs.declared.assignments.Note.{Note}
 use Rattle.section_reader.specs.declared.assignments.NoteKind.{NoteKind}
 use Rattle.section_reader.specs.declared.parts.LineForm.TheVariants.{Blank, Comment, Continued, Whole}
 use Rattle.section_reader.specs.Lines.{byte_order_mark, numbered, physical_lines}
-use Rattle.section_reader.specs.LinesLaws.{IsPlainLine, lines-line_feeds}
 use Rattle.section_reader.specs.Parts.{form, is_white}
 use Rattle.section_reader.specs.Sections.{assignments_of, notes_of}
 
