@@ -1,15 +1,15 @@
 //! Values with the specifiers of a unit's name (systemd.unit(5), "Specifiers").
-ghost use Rattle.std.specs.Prelude.{◌≡◌, ◌++◌, IfOk, IfErr, OnOk, MatchOption, Some, None};
+ghost use Rattle.std.specs.Prelude.{◌≡◌, ◌++◌, IfOk, IfErr, OnOk, MatchOption, Some, None, is_some};
 ghost use Rattle.unit_name.specs.Escapes.{unescape};
 ghost use Rattle.unit_name.specs.Specifiers.{specifier, expand, IsExpandFault};
 
 use crate::UnitName;
-use crate::escapes::push_unescaped;
+use crate::escapes::{push_unescaped, spells_bytes};
 use crate::parts::{after_last, stem_of};
 use std::alloc::{AllocError, AllocFailed, Global};
 use thiserror::Error;
 
-/// Why a value isn't expanded. `Memory` may come in place of `BadEscape`.
+/// Why a value isn't expanded. `BadEscape` comes just where it can't be, and `Memory` only where it can.
 #[derive(Clone, Copy, Debug, PartialEq, Eq, Error)]
 pub enum ExpandFault {
     #[error("S1 BadEscape: the part of the name is no escaped text")]
@@ -44,11 +44,15 @@ impl<T: Drop> From<AllocFailed<T>> for ExpandFault {
 /// `%i` by the instance or nothing, `%j` by what stands behind the prefix's last `-` (the whole prefix where there is none),
 /// `%P`, `%I` and `%J` by the unescaped `%p`, `%i` and `%j`, and `%%` by one `%`. Any other pair and a `%` at the end stay.
 ///
-/// `BadEscape` comes where one of `%P`, `%I` and `%J` stands for a text that `unescape` answers None for.
+/// `BadEscape` comes just where one of `%P`, `%I` and `%J` stands for a text that `unescape` answers None for: that is looked
+/// for first, and memory is asked for only where it isn't so. The cost is linear in the value and what it stands for.
 pub fn expand(alloc: Global, value: &[u8], name: &UnitName) -> Result<Vec<u8>, ExpandFault>
     ensures expanded { IfOk result (λ bytes. expand value.now name.now ≡ Some bytes.items) }
     ensures fault { IfErr result (IsExpandFault value.now name.now) }
 {
+    if !can_expand(value, name) {
+        return Err(ExpandFault::BadEscape);
+    }
     let mut expanded = Vec::new(alloc);
     let mut rest = value;
     while let Some((byte, after)) = rest.split_first() {
@@ -62,6 +66,39 @@ pub fn expand(alloc: Global, value: &[u8], name: &UnitName) -> Result<Vec<u8>, E
         }
     }
     Ok(expanded)
+}
+
+// Whether each specifier of a value stands for bytes.
+fn can_expand(value: &[u8], name: &UnitName) -> bool
+    ensures test { result ≡ is_some (expand value.now name.now) }
+{
+    let mut rest = value;
+    while let Some((byte, after)) = rest.split_first() {
+        let Some((letter, beyond)) = after.split_first() else {
+            return true;
+        };
+        if *byte != b'%' {
+            rest = after;
+        } else if stands(*letter, name) {
+            rest = beyond;
+        } else {
+            return false;
+        }
+    }
+    true
+}
+
+// Whether a percent sign and this letter stand for bytes.
+#[tactic(auto, unfolding(crate::specs::Specifiers::specifier))]
+fn stands(letter: u8, name: &UnitName) -> bool
+    ensures test { result ≡ is_some (specifier letter name.now) }
+{
+    match letter {
+        b'P' => spells_bytes(name.prefix()),
+        b'I' => spells_bytes(name.instance()),
+        b'J' => spells_bytes(after_last(name.prefix(), b'-')),
+        _ => true,
+    }
 }
 
 // Adds what a percent sign and this letter stand for.
