@@ -1,5 +1,5 @@
 -- Steps of the code: what it finds on its way.
-use Rattle.std.proofs.Common.{◌≡◌, ℕ, ◌+◌, ◌≤◌, ◌-◌, Bool, true, false, cond, ◌&&◌, List, [], ◌∷◌, ◌++◌, length, length-append, append_assoc, ltb, leb, Option, Some, None, is_some, IsSome, refl, sym, ap, ◌∙◌, arith}
+use Rattle.std.proofs.Common.{◌≡◌, ℕ, ◌+◌, ◌≤◌, ◌-◌, Bool, true, false, cond, ◌&&◌, List, [], ◌∷◌, ◌++◌, length, length-append, append_assoc, ltb, leb, Option, Some, None, is_some, refl, sym, ap, ◌∙◌, arith}
 use Rattle.unit_name.specs.declared.names.Shape.{Shape}
 use Rattle.unit_name.specs.declared.names.Shape.TheVariants.{Plain, Template, Instance}
 use Rattle.unit_name.specs.Names.{Name, IsName, prefix, suffix, shape}
@@ -12,10 +12,8 @@ use Rattle.std.proofs.lemmas.Option.{none-some, same_Some}
 use Rattle.std.proofs.lemmas.List.{append-nil, nil_from_length}
 use Rattle.std.proofs.lemmas.List.Sums.{prefix_len-le-length}
 use Rattle.unit_name.specs.Escapes.{put_first}
-use Rattle.unit_name.specs.Specifiers.{expand, specifier, put_before, IsExpandFault}
+use Rattle.unit_name.specs.Specifiers.{expand, specifier, put_before}
 use Rattle.unit_name.specs.SpecifierLaws.{expand-nil, expand-byte, expand-last, pairs_are_replaced}
-use Rattle.unit_name.specs.declared.specifiers.ExpandFault.{ExpandFault}
-use Rattle.unit_name.specs.declared.specifiers.ExpandFault.TheVariants.{BadEscape, Memory}
 
 -- the first place, or the length where there is none
 place_or_length : (t : Bool) (n len : ℕ) → ltb n len ≡ t → n ≤ len → unwrap_or (cond t (Some n) None) len ≡ n
@@ -90,14 +88,16 @@ pushed_before None o now was h = absurd h
 pushed_before (Some a) None now was h = refl
 pushed_before (Some a) (Some v) now was h = ap (λ x. Some x) (ap (λ x. x ++ v) h ∙ append_assoc was a v)
 
--- where one part is malformed, all is
-pub none_before : (sp o : Option (List ℕ)) (was : List ℕ) → sp ≡ None → option_map (λ (v : List ℕ). was ++ v) (put_before sp o) ≡ None
-none_before sp o was h = ap (λ x. option_map (λ (v : List ℕ). was ++ v) (put_before x o)) h
+-- where the whole is there, so is its first part
+pub some_first : (sp o whole : Option (List ℕ)) (was : List ℕ) → option_map (λ (v : List ℕ). was ++ v) (put_before sp o) ≡ whole → is_some whole ≡ true → is_some sp ≡ true
+some_first None o whole was e some = ap is_some e ∙ some
+some_first (Some a) o whole was e some = refl
 
--- a fault of a pair is one of the value, which can be expanded
-pub fault_of : (v : List ℕ) (n : Name) (f : ExpandFault) → (f ≡ BadEscape → expand v n ≡ None) → IsSome (expand v n) → IsExpandFault v n f
-fault_of v n BadEscape h some = h refl
-fault_of v n Memory h some = some
+-- a text that spells bytes was taken whole
+pub spelled : (o : Option (List ℕ)) (is_whole : Bool) (now was : List ℕ) → is_some o ≡ true → MatchOption o (is_whole ≡ false) (λ bytes. (is_whole ≡ true) × (now ≡ was ++ bytes))
+    → MatchOption o ⊥ (λ bytes. now ≡ was ++ bytes)
+spelled None is_whole now was some h = cc (some)
+spelled (Some bytes) is_whole now was some h = h.1
 
 -- a byte stands before others just where there are others
 pub is_some-put_first : (b : ℕ) (o : Option (List ℕ)) → is_some (put_first (Some b) o) ≡ is_some o

@@ -1,7 +1,7 @@
 //! Values with the specifiers of a unit's name (systemd.unit(5), "Specifiers").
-ghost use Rattle.std.specs.Prelude.{◌≡◌, ◌++◌, IfOk, IfErr, OnOk, MatchOption, Some, None, is_some};
+ghost use Rattle.std.specs.Prelude.{◌≡◌, ◌++◌, IfOk, IfErr, OnOk, MatchOption, Some, None, IsSome, is_some};
 ghost use Rattle.unit_name.specs.Escapes.{unescape};
-ghost use Rattle.unit_name.specs.Specifiers.{specifier, expand, IsExpandFault};
+ghost use Rattle.unit_name.specs.Specifiers.{specifier, last_part, expand, IsExpandFault};
 
 use crate::UnitName;
 use crate::escapes::{push_unescaped, spells_bytes};
@@ -88,6 +88,13 @@ fn can_expand(value: &[u8], name: &UnitName) -> bool
     true
 }
 
+// What stands behind the prefix's last dash, or the whole prefix.
+fn last_part(name: &UnitName) -> &[u8]
+    ensures part { result.now ≡ last_part name.now }
+{
+    after_last(name.prefix(), b'-')
+}
+
 // Whether a percent sign and this letter stand for bytes.
 #[tactic(auto, unfolding(crate::specs::Specifiers::specifier))]
 fn stands(letter: u8, name: &UnitName) -> bool
@@ -96,39 +103,37 @@ fn stands(letter: u8, name: &UnitName) -> bool
     match letter {
         b'P' => spells_bytes(name.prefix()),
         b'I' => spells_bytes(name.instance()),
-        b'J' => spells_bytes(after_last(name.prefix(), b'-')),
+        b'J' => spells_bytes(last_part(name)),
         _ => true,
     }
 }
 
 // Adds what a percent sign and this letter stand for.
 #[tactic(auto, unfolding(crate::specs::Specifiers::specifier))]
-fn push_specifier(out: &mut Vec<u8>, letter: u8, name: &UnitName) -> Result<(), ExpandFault>
-    ensures pushed { IfOk result (λ _. MatchOption (specifier letter name.now) ⊥ (λ bytes. out.new.items ≡ out.old.items ++ bytes)) }
-    ensures fault { result ≡ Err ExpandFault.BadEscape → specifier letter name.now ≡ None }
+fn push_specifier(out: &mut Vec<u8>, letter: u8, name: &UnitName) -> Result<(), AllocError>
+    requires some { IsSome (specifier letter name.now) }
+    ensures pushed { OnOk result (MatchOption (specifier letter name.now) ⊥ (λ bytes. out.new.items ≡ out.old.items ++ bytes)) }
 {
     match letter {
         b'n' => out.extend_from_slice(name.bytes())?,
         b'N' => out.extend_from_slice(stem_of(name.bytes()))?,
         b'p' => out.extend_from_slice(name.prefix())?,
         b'i' => out.extend_from_slice(name.instance())?,
-        b'j' => out.extend_from_slice(after_last(name.prefix(), b'-'))?,
-        b'P' => push_unescaped_or_fault(out, name.prefix())?,
-        b'I' => push_unescaped_or_fault(out, name.instance())?,
-        b'J' => push_unescaped_or_fault(out, after_last(name.prefix(), b'-'))?,
+        b'j' => out.extend_from_slice(last_part(name))?,
+        b'P' => push_spelled(out, name.prefix())?,
+        b'I' => push_spelled(out, name.instance())?,
+        b'J' => push_spelled(out, last_part(name))?,
         b'%' => out.push(b'%')?,
         _ => out.extend_from_slice(&[b'%', letter])?,
     }
     Ok(())
 }
 
-fn push_unescaped_or_fault(out: &mut Vec<u8>, text: &[u8]) -> Result<(), ExpandFault>
-    ensures pushed { IfOk result (λ _. MatchOption (unescape text.now) ⊥ (λ bytes. out.new.items ≡ out.old.items ++ bytes)) }
-    ensures fault { result ≡ Err ExpandFault.BadEscape → unescape text.now ≡ None }
+// Adds the bytes that a text spells.
+fn push_spelled(out: &mut Vec<u8>, text: &[u8]) -> Result<(), AllocError>
+    requires some { IsSome (unescape text.now) }
+    ensures pushed { OnOk result (MatchOption (unescape text.now) ⊥ (λ bytes. out.new.items ≡ out.old.items ++ bytes)) }
 {
-    if push_unescaped(out, text)? {
-        Ok(())
-    } else {
-        Err(ExpandFault::BadEscape)
-    }
+    push_unescaped(out, text)?;
+    Ok(())
 }

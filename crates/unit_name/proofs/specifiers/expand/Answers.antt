@@ -1,20 +1,16 @@
-use Rattle.std.proofs.Common.{◌≡◌, ◌++◌, ◌∷◌, ◌∙◌, [], Some, Err, List, ℕ, ap, sym, append-nil}
+use Rattle.std.proofs.Common.{◌≡◌, ◌++◌, ◌∷◌, ◌∙◌, [], Some, List, ℕ, ap, sym, append-nil}
 use Rattle.std.specs.Option.{option_map}
-use Rattle.std.proofs.lemmas.Result.{err_from_is_err_and}
 use Rattle.std.proofs.lemmas.List.{nil_from_length}
 use Rattle.unit_name.specs.Specifiers.{expand, specifier, put_before}
 use Rattle.unit_name.specs.SpecifierLaws.{expand-nil}
-use Rattle.unit_name.proofs.Steps.{pushed_before, none_before, fault_of, pair_expands, byte_expands, last_expands}
+use Rattle.unit_name.proofs.Steps.{pushed_before, some_first, pair_expands, byte_expands, last_expands}
 use Rattle.unit_name.proofs.specifiers.expand.Goals as goal
 use Rattle.unit_name.proofs.specifiers.expand.Goals.{in_default-split_first-via-in-Some-split_first+else-byte-eq37, in_default-split_first-via-in_default-split_first}
 
-pub returns-in_err-push_specifier-in-Some-split_first-clause-fault : goal.returns-in_err-push_specifier-in-Some-split_first-clause-fault
-returns-in_err-push_specifier-in-Some-split_first-clause-fault c =
-    let p = err_from_is_err_and c.from_residual.result c.from_residual.ensures.1 in
+pub push_specifier-requires : goal.push_specifier-requires
+push_specifier-requires c =
     let pair = pair_expands c.loop-byte.rest.now c.in-Some.after.now c.in-Some-split_first.beyond.now c.in-Some.byte.now c.in-Some-split_first.letter.now c.args.name.now c.in-Some.ensures.cases.0 c.in-Some-split_first.ensures.cases.0 c.if-byte-eq37.true in
-    rw (p.1, p.2) (fault_of c.args.value.now c.args.name.now _ (λ e.
-    sym c.loop-byte.invariant ∙ ap (option_map (λ (v : List ℕ). c.loop-byte.expanded.items ++ v)) pair
-    ∙ none_before _ _ c.loop-byte.expanded.items (c.in_err-push_specifier-in-Some-split_first.ensures.fault (ap (λ f. Err f) e))) (sym c.if-not-can_expand.ensures.test))
+    record { some = some_first (specifier c.in-Some-split_first.letter.now c.args.name.now) (expand c.in-Some-split_first.beyond.now c.args.name.now) (expand c.args.value.now c.args.name.now) c.loop-byte.expanded.items (sym (ap (option_map (λ (v : List ℕ). c.loop-byte.expanded.items ++ v)) pair) ∙ c.loop-byte.invariant) (sym c.if-not-can_expand.ensures.test) }
 
 pub loop-byte-preserved-then-byte-eq37 : goal.loop-byte-preserved-then-byte-eq37
 loop-byte-preserved-then-byte-eq37 c =
