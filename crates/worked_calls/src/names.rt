@@ -1,6 +1,6 @@
 //! Calls on unit names, escapes and specifiers.
 use crate::calls::{CallFault, Words, append_text};
-use crate::orders::{append_same, append_signs};
+use crate::orders::{append_signs, same_word};
 use std::alloc::{AllocError, Global};
 use unit_name::{ExpandFault, NameFault, UnitName, escape, expand, unescape};
 
@@ -84,7 +84,7 @@ fn clone(alloc: Global, words: &mut Words) -> Result<Vec<u8>, CallFault> {
     let mut out = Vec::new(alloc);
     append_text(&mut out, copy.bytes())?;
     out.push(b' ')?;
-    append_same(&mut out, &copy, &name)?;
+    out.extend_from_slice(same_word(copy == name))?;
     Ok(out)
 }
 

@@ -31,11 +31,7 @@ pub fn append_signs<T: Ord>(out: &mut Vec<u8>, values: &[T]) -> Result<(), Alloc
     Ok(())
 }
 
-/// Writes whether two values are the same.
-pub fn append_same<T: PartialEq>(out: &mut Vec<u8>, x: &T, y: &T) -> Result<(), AllocError> {
-    if x == y {
-        out.extend_from_slice(b"same")
-    } else {
-        out.extend_from_slice(b"other")
-    }
+/// The word for whether two values are the same.
+pub fn same_word(is_same: bool) -> &'static [u8] {
+    if is_same { b"same" } else { b"other" }
 }

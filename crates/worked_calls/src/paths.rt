@@ -1,6 +1,6 @@
 //! Calls on paths of the load path, written in full, and on byte strings.
 use crate::calls::{CallFault, Words, append_path, append_text};
-use crate::orders::{append_same, append_signs};
+use crate::orders::{append_signs, same_word};
 use join_law::Key;
 use load_path::{Bytes, Path, PathFault};
 use std::alloc::{AllocError, Global};
@@ -75,7 +75,7 @@ fn clone(alloc: Global, words: &mut Words) -> Result<Vec<u8>, CallFault> {
     let mut out = Vec::new(alloc);
     append_path(&mut out, &copy)?;
     out.push(b' ')?;
-    append_same(&mut out, &copy, &path)?;
+    out.extend_from_slice(same_word(copy == path))?;
     Ok(out)
 }
 

@@ -2,7 +2,7 @@
 //!
 //! An assignment is told as `LINE:SECTION.KEY=VALUE`, and a note as `LINE:` and its words.
 use crate::calls::{CallFault, Words, append_text};
-use crate::orders::{append_same, append_signs};
+use crate::orders::{append_signs, same_word};
 use section_reader::{Assignment, SectionName, Sections, Text, read};
 use std::alloc::{AllocError, Global};
 
@@ -77,56 +77,77 @@ fn codes(alloc: Global, words: &mut Words) -> Result<Vec<u8>, CallFault> {
     Ok(out)
 }
 
-// How many assignments stand in a file with one value of so many bytes, and whether the value is read back.
+// A file with one value.
+fn file_with(alloc: Global, value: &[u8]) -> Result<Vec<u8>, AllocError> {
+    let mut file = Vec::from_slice(alloc, b"[A]\nk=")?;
+    file.extend_from_slice(value)?;
+    Ok(file)
+}
+
+// Whether what a file says is one assignment of this value.
+fn is_read(sections: &Sections, value: &[u8]) -> bool {
+    match sections.items.as_slice() {
+        [item] => item.value.as_slice() == value,
+        _ => false,
+    }
+}
+
+// Whether a file with one value of so many bytes is read as that value alone.
 fn long(alloc: Global, words: &mut Words) -> Result<Vec<u8>, CallFault> {
     let count = usize::try_from(words.number()?).map_err(|_| CallFault::Line)?;
     let value = vec![in alloc; b'v'; count]?;
-    let mut file = Vec::from_slice(alloc, b"[A]\nk=")?;
-    file.extend_from_slice(&value)?;
+    let file = file_with(alloc, &value)?;
     let sections = read(alloc, &file)?;
-    let items = sections.items.as_slice();
-    let first = items.first().ok_or(CallFault::Line)?;
-    let number = items.len();
-    let mut out = Vec::new(alloc);
-    out.extend_from_slice(format!(in alloc; "{number} ")?.as_bytes())?;
-    append_same(&mut out, &first.value.as_slice(), &value.as_slice())?;
-    Ok(out)
+    Ok(Vec::from_slice(alloc, same_word(is_read(&sections, &value)))?)
 }
 
-// Writes whether clones of the parts of what a file says are the same as these.
-fn append_part_clones(out: &mut Vec<u8>, sections: &Sections) -> Result<(), AllocError> {
-    out.extend_from_slice(b" items ")?;
-    append_same(out, &sections.items.try_clone()?, &sections.items)?;
-    out.extend_from_slice(b" notes ")?;
-    append_same(out, &sections.notes.try_clone()?, &sections.notes)?;
+// Whether clones of all assignments are the same as these.
+fn are_items_same(sections: &Sections) -> Result<bool, AllocError> {
+    let mut are_same = sections.items.try_clone()? == sections.items;
     for item in sections.items.as_slice() {
-        out.push(b' ')?;
-        append_same(out, &item.try_clone()?, item)?;
+        are_same = are_same && item.try_clone()? == *item;
     }
-    Ok(())
+    Ok(are_same)
+}
+
+// Whether a clone of the notes is the same as these.
+fn are_notes_same(sections: &Sections) -> Result<bool, AllocError> {
+    Ok(sections.notes.try_clone()? == sections.notes)
+}
+
+// Writes whether all, the assignments and the notes are the same.
+fn append_verdict(
+    out: &mut Vec<u8>,
+    is_same: bool,
+    are_items_same: bool,
+    are_notes_same: bool,
+) -> Result<(), AllocError> {
+    out.extend_from_slice(b"all ")?;
+    out.extend_from_slice(same_word(is_same))?;
+    out.extend_from_slice(b" items ")?;
+    out.extend_from_slice(same_word(are_items_same))?;
+    out.extend_from_slice(b" notes ")?;
+    out.extend_from_slice(same_word(are_notes_same))
 }
 
 // A clone of what a file says, and whether it and clones of the parts are the same.
 fn clone(alloc: Global, words: &mut Words) -> Result<Vec<u8>, CallFault> {
     let sections = read_next(alloc, words)?;
     let copy = sections.try_clone()?;
+    let are_items = are_items_same(&sections)?;
+    let are_notes = are_notes_same(&sections)?;
     let mut out = told(alloc, &copy)?;
-    out.extend_from_slice(b" all ")?;
-    append_same(&mut out, &copy, &sections)?;
-    append_part_clones(&mut out, &sections)?;
+    out.push(b' ')?;
+    append_verdict(&mut out, copy == sections, are_items, are_notes)?;
     Ok(out)
 }
 
 // Whether two files say the same, and whether a part of it is.
 fn compare(alloc: Global, words: &mut Words) -> Result<Vec<u8>, CallFault> {
-    let first = read_next(alloc, words)?;
-    let second = read_next(alloc, words)?;
-    let mut out = Vec::from_slice(alloc, b"all ")?;
-    append_same(&mut out, &first, &second)?;
-    out.extend_from_slice(b" items ")?;
-    append_same(&mut out, &first.items, &second.items)?;
-    out.extend_from_slice(b" notes ")?;
-    append_same(&mut out, &first.notes, &second.notes)?;
+    let x = read_next(alloc, words)?;
+    let y = read_next(alloc, words)?;
+    let mut out = Vec::new(alloc);
+    append_verdict(&mut out, x == y, x.items == y.items, x.notes == y.notes)?;
     Ok(out)
 }
 
