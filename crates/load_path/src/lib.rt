@@ -5,8 +5,6 @@
 mod bytes;
 mod laws;
 mod paths;
-#[cfg(test)]
-mod tests;
 mod texts;
 
 pub use bytes::Bytes;

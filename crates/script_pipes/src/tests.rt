@@ -1,8 +1,8 @@
 //! Fake readers and writers.
 use super::*;
+use std::alloc::Global;
 use std::io;
 use std::io::{Error, ErrorKind, Read, Write};
-use std::test::Fail;
 
 /// Gives a byte a read, each behind an interrupted read, and fails for good at a read.
 #[derive(Drop)]
@@ -67,54 +67,55 @@ impl Write for Full {
     }
 }
 
-#[test]
-fn reads_to_the_end(rt: HostRuntime) -> Result<(), Fail> {
-    for (reads_left, want) in [
-        (8, Ok(b"abc".as_slice())),
-        (7, Err(ReadFault::Failed)),
-        (0, Err(ReadFault::Failed)),
-    ] {
-        let mut source = Watched::new(Slow {
-            bytes: b"abc",
-            is_interrupted: false,
-            reads_left,
-        });
-        let script = read_all(rt.alloc(), &mut source);
-        assert_eq!(rt;
-            script
-                .as_ref()
-                .map(|script| script.as_slice())
-                .map_err(|fault| *fault),
-            want,
-            "{reads_left}"
-        );
+// Whether a script of three bytes is read as this within so many reads, or fails.
+fn is_read(alloc: Global, reads_left: usize, want: Option<&[u8]>) -> bool {
+    let mut source = Watched::new(Slow {
+        bytes: b"abc",
+        is_interrupted: false,
+        reads_left,
+    });
+    match read_all(alloc, &mut source) {
+        Ok(script) => want == Some(script.as_slice()),
+        Err(fault) => want.is_none() && fault == ReadFault::Failed,
     }
-    Ok(())
 }
 
 #[test]
-fn keeps_the_limit(rt: HostRuntime) -> Result<(), Fail> {
-    for (bytes, want) in [
-        (0, Ok(0)),
-        (16_777_216, Ok(16_777_216)),
-        (16_777_217, Err(ReadFault::Failed)),
-    ] {
-        let script = read_all(rt.alloc(), &mut Watched::new(Zeros(bytes)));
-        assert_eq!(rt; script.map(|script| script.len()), want, "{bytes}");
+fn reads_to_the_end(rt: HostRuntime) {
+    assert!(rt; is_read(rt.alloc(), 8, Some(b"abc")));
+    assert!(rt; is_read(rt.alloc(), 7, None));
+    assert!(rt; is_read(rt.alloc(), 0, None));
+}
+
+// Whether so many bytes are read, or fail.
+fn is_within(alloc: Global, bytes: usize, want: bool) -> bool {
+    match read_all(alloc, &mut Watched::new(Zeros(bytes))) {
+        Ok(script) => want && script.len() == bytes,
+        Err(fault) => !want && fault == ReadFault::Failed,
     }
-    Ok(())
 }
 
 #[test]
-fn writes_a_front(rt: HostRuntime) -> Result<(), Fail> {
-    for (writes_left, want) in [(0, b"".as_slice()), (2, b"ok"), (3, b"ok\n"), (4, b"ok\n")] {
-        let mut sink = Watched::new(Full {
-            held: Vec::new(rt.alloc()),
-            writes_left,
-        });
-        let outcome = write_all(&mut sink, b"ok\n");
-        assert_eq!(rt; outcome.is_ok(), writes_left >= 3, "{writes_left}");
-        assert_eq!(rt; sink.into_inner().held.as_slice(), want, "{writes_left}");
-    }
-    Ok(())
+fn keeps_the_limit(rt: HostRuntime) {
+    assert!(rt; is_within(rt.alloc(), 0, true));
+    assert!(rt; is_within(rt.alloc(), 16_777_216, true));
+    assert!(rt; is_within(rt.alloc(), 16_777_217, false));
+}
+
+// Whether three bytes are written, or so many writes leave this front of them.
+fn is_written(alloc: Global, writes_left: usize, is_whole: bool, want: &[u8]) -> bool {
+    let mut sink = Watched::new(Full {
+        held: Vec::new(alloc),
+        writes_left,
+    });
+    let outcome = write_all(&mut sink, b"ok\n");
+    outcome.is_ok() == is_whole && sink.into_inner().held.as_slice() == want
+}
+
+#[test]
+fn writes_a_front(rt: HostRuntime) {
+    assert!(rt; is_written(rt.alloc(), 0, false, b""));
+    assert!(rt; is_written(rt.alloc(), 2, false, b"ok"));
+    assert!(rt; is_written(rt.alloc(), 3, true, b"ok\n"));
+    assert!(rt; is_written(rt.alloc(), 4, true, b"ok\n"));
 }

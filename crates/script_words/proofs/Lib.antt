@@ -1,4 +1,3 @@
-pub mod CutLemmas
 pub mod NumberLemmas
 pub mod TextLemmas
 pub mod WordLemmas

@@ -4,9 +4,9 @@ use Rattle.std.specs.List.{prefix_len, position_or_len}
 use Rattle.std.proofs.lemmas.Bool.{cond-true, cases_Bool, cases_lt, eqb-true, eqb-false}
 use Rattle.std.proofs.lemmas.List.{nil_from_length, take_all, drop_all, drop_more, length-take-le, length-drop}
 use Rattle.std.proofs.lemmas.List.Sums.{prefix_len-le-length, fails_before_first, passes_at_first}
+use Rattle.list_laws.specs.Cuts.{All-take_before, cut_around}
 use Rattle.script_words.specs.Words.{is_space, words_of, skip_spaces, skip_word, after_word, IsWord}
 use Rattle.script_words.specs.WordsLaws.{words_of-nil, words_of-space, words_of-word, words_of-word_space, skip_spaces-space, skip_spaces-other}
-use Rattle.script_words.proofs.CutLemmas.{All-take_before, cut_around}
 
 words_of-skip : (line : List ℕ) → words_of line ≡ words_of (skip_spaces line)
 words_of-skip [] = refl

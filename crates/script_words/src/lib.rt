@@ -17,6 +17,3 @@ pub use names::is_name;
 pub use numbers::parse_number;
 pub use text::unescape;
 pub use words::{cut_word, text_of_rest};
-
-#[cfg(test)]
-mod tests;

@@ -1,6 +1,5 @@
 pub mod Alike
 pub mod Comments
-pub mod CutLemmas
 pub mod JoinLemmas
 pub mod OneLine
 pub mod PartLemmas

@@ -4,11 +4,11 @@ use Rattle.std.specs.List.{AllByRecursion, flat_map}
 use Rattle.std.proofs.lemmas.Bool.{cond-false, false≢true}
 use Rattle.std.proofs.lemmas.List.Elements.{recursion_from_All, All-from_recursion, All-cons, All-push, All-append}
 use Rattle.std.proofs.lemmas.List.{get_or_push}
+use Rattle.list_laws.specs.Lines.{EndsInReturn, IsPlainLine}
 use Rattle.section_reader.specs.declared.assignments.Assignment.{Assignment}
 use Rattle.section_reader.specs.declared.assignments.Note.{Note}
 use Rattle.section_reader.specs.declared.assignments.NoteKind.TheVariants.{OutsideSection, BadHeader}
 use Rattle.section_reader.specs.Lines.{Line, numbered}
-use Rattle.section_reader.specs.LinesLaws.{EndsInReturn, IsPlainLine}
 use Rattle.section_reader.specs.Parts.{is_white, header_name}
 use Rattle.section_reader.specs.Logical.{logical_lines, logical_of}
 use Rattle.section_reader.specs.Sections.{note, assigned, unassigned, up_to_bracket, assignments_in, notes_behind, notes_in, assignments_of, notes_of}

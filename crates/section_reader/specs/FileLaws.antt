@@ -1,16 +1,16 @@
--- Files that are put together from lines: comments and blank lines in them change the numbers of lines and nothing else.
+-- Files that are put together from lines: comments change the numbers of lines and nothing else, and so do blank lines that end no continued line.
 use Rattle.std.proofs.Common.{◌≡◌, ℕ, true, false, List, [], ◌∷◌, ◌++◌, map, sym, ap, ◌∙◌, ◌⊎◌, append-nil}
 use Rattle.std.specs.Prelude.{nat_eq}
 use Rattle.std.specs.List.{All, flat_map, starts_with, list_all}
 use Rattle.std.specs.Str.Lines.{lines}
 use Rattle.std.proofs.lemmas.Bool.{cond-false}
 use Rattle.std.proofs.lemmas.List.Elements.{recursion_from_All}
+use Rattle.list_laws.specs.Lines.{IsPlainLine, lines-line_feeds}
 use Rattle.section_reader.specs.declared.assignments.Assignment.{Assignment}
 use Rattle.section_reader.specs.declared.assignments.Note.{Note}
 use Rattle.section_reader.specs.declared.assignments.NoteKind.{NoteKind}
 use Rattle.section_reader.specs.declared.parts.LineForm.TheVariants.{Blank, Comment, Continued, Whole}
 use Rattle.section_reader.specs.Lines.{byte_order_mark, numbered, physical_lines}
-use Rattle.section_reader.specs.LinesLaws.{IsPlainLine, lines-line_feeds}
 use Rattle.section_reader.specs.Parts.{form, is_white}
 use Rattle.section_reader.specs.Sections.{assignments_of, notes_of}
 
@@ -43,7 +43,7 @@ CommentsChangeNumbersAlone =
     (front back : List (List ℕ)) (comment : List ℕ) → form comment ≡ Comment → ArePlainLines (front ++ comment ∷ back) → ArePlainLines (front ++ back)
     → SameButNumbers (file_of (front ++ comment ∷ back)) (file_of (front ++ back))
 
--- A blank line may be put behind any line that isn't continued: behind a whole one or a blank one.
+-- A blank line may be put behind a whole line or a blank one. Behind a continued line it ends what goes on, and behind a comment too if that stands in what goes on.
 abbrev pub BlankLinesChangeNumbersAlone : Type 0
 BlankLinesChangeNumbersAlone =
     (front back : List (List ℕ)) (line blank : List ℕ) → (form line ≡ Whole) ⊎ (form line ≡ Blank) → form blank ≡ Blank

@@ -1,5 +1,4 @@
 pub mod Lines
-pub mod LinesLaws
 pub mod Parts
 pub mod Logical
 pub mod LogicalLaws

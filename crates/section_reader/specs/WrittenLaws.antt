@@ -2,9 +2,9 @@
 use Rattle.std.proofs.Common.{◌≡◌, ◌≢◌, ◌<◌, ◌+◌, ◌-◌, ℕ, false, List, [], ◌∷◌, ◌++◌, length, map}
 use Rattle.std.specs.Prelude.{slice_index}
 use Rattle.std.specs.List.{All, flat_map}
+use Rattle.list_laws.specs.Lines.{HasNoLineFeed}
 use Rattle.section_reader.specs.declared.assignments.Assignment.{Assignment}
 use Rattle.section_reader.specs.Lines.{numbered}
-use Rattle.section_reader.specs.LinesLaws.{HasNoLineFeed}
 use Rattle.section_reader.specs.Parts.{is_white}
 use Rattle.section_reader.specs.Logical.{logical_of}
 use Rattle.section_reader.specs.FileLaws.{file_of}

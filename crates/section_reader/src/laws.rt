@@ -2,9 +2,10 @@
 ghost use Rattle.section_reader.specs.FileLaws.{CommentsChangeNumbersAlone, BlankLinesChangeNumbersAlone, FirstBlankLineChangesNumbersAlone, ContinuedLinesAreJoined, CommentsAreMarked, WhitespaceIsBlank, MarksChangeNothing};
 ghost use Rattle.section_reader.specs.WrittenLaws.{LinesAreReadOneByOne, SectionsAreReadBack};
 
-/// Comments and blank lines change the numbers of lines and nothing else: a comment anywhere, also where a line goes on, and
-/// a blank line before the first line and behind each that isn't continued. So does a line feed behind a backslash, where a
-/// space might stand.
+/// Some lines change the numbers of lines and nothing else: a comment anywhere, also where a line goes on; and a blank line
+/// before the first line, behind a blank line, and behind a whole one. Behind a comment or a continued line it may end a line
+/// that goes on, and then changes what is said. A line that is continued by a whole one says what one line says that has a
+/// space in place of the backslash and the line feed.
 pub fn reading_laws()
     ensures marked { CommentsAreMarked }
     ensures white { WhitespaceIsBlank }

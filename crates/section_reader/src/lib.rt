@@ -23,6 +23,3 @@ pub use reader::read;
 pub use section_names::SectionName;
 pub use sections::Sections;
 pub use text::Text;
-
-#[cfg(test)]
-mod tests;

@@ -7,13 +7,13 @@ use Rattle.unit_name.specs.Forms.{instance_name, template_name, template_at, tem
 use Rattle.unit_name.specs.NameLaws.{templates_keep_parts, instance_has_parts, template_parts, name_short}
 use Rattle.std.specs.Option.{unwrap_or, option_map, MatchOption}
 use Rattle.std.specs.List.{position, position_or_len}
-use Rattle.std.proofs.lemmas.Bool.{ltb-false, leb-true, leb-false, le-leb, lt-leb}
+use Rattle.std.proofs.lemmas.Bool.{ne_eqb, ltb-false, leb-true, leb-false, le-leb, lt-leb}
 use Rattle.std.proofs.lemmas.Option.{none-some, same_Some}
-use Rattle.std.proofs.lemmas.List.{append-nil}
+use Rattle.std.proofs.lemmas.List.{append-nil, nil_from_length}
 use Rattle.std.proofs.lemmas.List.Sums.{prefix_len-le-length}
-use Rattle.unit_name.specs.Specifiers.{expand, put_before, IsExpandFault}
-use Rattle.unit_name.specs.declared.specifiers.ExpandFault.{ExpandFault}
-use Rattle.unit_name.specs.declared.specifiers.ExpandFault.TheVariants.{BadEscape, Memory}
+use Rattle.unit_name.specs.Escapes.{put_first}
+use Rattle.unit_name.specs.Specifiers.{expand, specifier, put_before}
+use Rattle.unit_name.specs.SpecifierLaws.{expand-nil, expand-byte, expand-last, pairs_are_replaced}
 
 -- the first place, or the length where there is none
 place_or_length : (t : Bool) (n len : ℕ) → ltb n len ≡ t → n ≤ len → unwrap_or (cond t (Some n) None) len ≡ n
@@ -88,15 +88,42 @@ pushed_before None o now was h = absurd h
 pushed_before (Some a) None now was h = refl
 pushed_before (Some a) (Some v) now was h = ap (λ x. Some x) (ap (λ x. x ++ v) h ∙ append_assoc was a v)
 
--- where one part is malformed, all is
-pub none_before : (sp o : Option (List ℕ)) (was : List ℕ) → sp ≡ None → option_map (λ (v : List ℕ). was ++ v) (put_before sp o) ≡ None
-none_before sp o was h = ap (λ x. option_map (λ (v : List ℕ). was ++ v) (put_before x o)) h
+-- where the whole is there, so is its first part
+pub some_first : (sp o whole : Option (List ℕ)) (was : List ℕ) → option_map (λ (v : List ℕ). was ++ v) (put_before sp o) ≡ whole → is_some whole ≡ true → is_some sp ≡ true
+some_first None o whole was e some = ap is_some e ∙ some
+some_first (Some a) o whole was e some = refl
 
-pub nil_of : (xs : List ℕ) → length xs ≡ 0 → xs ≡ []
-nil_of [] h = refl
-nil_of (x ∷ xs) h = absurd (omega arith)
+-- a text that spells bytes was taken whole
+pub spelled : (o : Option (List ℕ)) (is_whole : Bool) (now was : List ℕ) → is_some o ≡ true → MatchOption o (is_whole ≡ false) (λ bytes. (is_whole ≡ true) × (now ≡ was ++ bytes))
+    → MatchOption o ⊥ (λ bytes. now ≡ was ++ bytes)
+spelled None is_whole now was some h = cc (some)
+spelled (Some bytes) is_whole now was some h = h.1
 
--- a fault of a pair is one of the value
-pub fault_of : (v : List ℕ) (n : Name) (f : ExpandFault) → (f ≡ BadEscape → expand v n ≡ None) → IsExpandFault v n f
-fault_of v n BadEscape h = h refl
-fault_of v n Memory h = tt
+-- a byte stands before others just where there are others
+pub is_some-put_first : (b : ℕ) (o : Option (List ℕ)) → is_some (put_first (Some b) o) ≡ is_some o
+is_some-put_first b None = refl
+is_some-put_first b (Some v) = refl
+
+-- what is there stands before others just where there are others
+pub is_some-put_before : (sp o : Option (List ℕ)) → is_some sp ≡ true → is_some (put_before sp o) ≡ is_some o
+is_some-put_before None o h = cc
+is_some-put_before (Some a) None h = refl
+is_some-put_before (Some a) (Some v) h = refl
+
+-- what isn't there stands before nothing
+pub is_some-put_nothing : (sp o : Option (List ℕ)) → is_some sp ≡ false → is_some (put_before sp o) ≡ false
+is_some-put_nothing None o h = refl
+is_some-put_nothing (Some a) o h = cc
+
+-- a value that begins with a pair, with another byte, or with its last byte
+pub pair_expands : (v after beyond : List ℕ) (b c : ℕ) (n : Name) → v ≡ b ∷ after → after ≡ c ∷ beyond → b ≡ 37 → expand v n ≡ put_before (specifier c n) (expand beyond n)
+pair_expands v after beyond b c n first second percent =
+    ap (λ x. expand x n) (first ∙ ap (λ x. b ∷ x) second ∙ ap (λ x. x ∷ c ∷ beyond) percent) ∙ pairs_are_replaced c beyond n
+
+pub byte_expands : (v after : List ℕ) (b : ℕ) (n : Name) → v ≡ b ∷ after → (b ≡ 37 → ⊥) → expand v n ≡ put_before (Some (b ∷ [])) (expand after n)
+byte_expands v after b n first other = ap (λ x. expand x n) first ∙ expand-byte b after n (ne_eqb b 37 other)
+
+pub last_expands : (v after : List ℕ) (b : ℕ) (n : Name) → v ≡ b ∷ after → length after ≡ 0 → expand v n ≡ put_before (Some (b ∷ [])) (expand after n)
+last_expands v after b n first end =
+    let nil = nil_from_length after end in
+    ap (λ x. expand x n) (first ∙ ap (λ x. b ∷ x) nil) ∙ expand-last b n ∙ sym (ap (λ x. put_before (Some (b ∷ [])) (expand x n)) nil ∙ ap (put_before (Some (b ∷ []))) (expand-nil n))

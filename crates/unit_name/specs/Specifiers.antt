@@ -1,5 +1,5 @@
 -- Values with the specifiers of a unit's name.
-use Rattle.std.specs.Prelude.{◌≡◌, ℕ, ◌==◌, Bool, if◌then◌else◌, Option, Some, None, List, [], ◌∷◌, ◌++◌}
+use Rattle.std.specs.Prelude.{◌≡◌, ℕ, ◌==◌, Bool, if◌then◌else◌, Option, Some, None, IsSome, List, [], ◌∷◌, ◌++◌}
 use Rattle.unit_name.specs.declared.specifiers.ExpandFault.{ExpandFault}
 use Rattle.unit_name.specs.declared.specifiers.ExpandFault.TheVariants.{BadEscape, Memory}
 use Rattle.std.specs.List.{after_last}
@@ -39,7 +39,7 @@ expand (b ∷ c ∷ rest) n =
     if b == 37 then put_before (specifier c n) (expand rest n) else put_before (Some (b ∷ [])) (expand (c ∷ rest) n)
 expand (b ∷ []) n = Some (b ∷ [])
 
--- where an escape is at fault, one in the name is malformed; memory says nothing
+-- an escape is at fault where the value can't be expanded, and memory only where it can
 abbrev pub IsExpandFault : List ℕ → Name → ExpandFault → Type 0
 IsExpandFault v n BadEscape = expand v n ≡ None
-IsExpandFault v n Memory = Unit {0}
+IsExpandFault v n Memory = IsSome (expand v n)

@@ -1,5 +1,5 @@
 //! Bytes that are spelled by the bytes of names (systemd.unit(5), "String Escaping for Inclusion in Unit Names").
-ghost use Rattle.std.specs.Prelude.{◌≡◌, ◌<◌, ◌≤◌, ◌∷◌, ◌++◌, [], length, true, false, IfOk, OnOk, IfSome, MatchOption};
+ghost use Rattle.std.specs.Prelude.{◌≡◌, ◌<◌, ◌≤◌, ◌∷◌, ◌++◌, [], length, true, false, is_some, IfOk, OnOk, IfSome, MatchOption};
 ghost use Rattle.std.specs.Char.{digit_char};
 ghost use Rattle.unit_name.specs.Escapes.{is_kept, hex_escape, escaped_byte, escaped_first, escape, hex_byte, put_first, unescape};
 
@@ -99,6 +99,20 @@ pub(crate) fn push_unescaped(out: &mut Vec<u8>, text: &[u8]) -> Result<bool, All
         rest = after;
     }
     Ok(true)
+}
+
+/// Whether a text spells bytes. It takes no memory.
+pub(crate) fn spells_bytes(text: &[u8]) -> bool
+    ensures test { result ≡ is_some (unescape text.now) }
+{
+    let mut rest = text;
+    while !rest.is_empty() {
+        let Some((_byte, after)) = first_unescaped(rest) else {
+            return false;
+        };
+        rest = after;
+    }
+    true
 }
 
 // The first byte that a text spells, and the text behind what spells it.

@@ -13,6 +13,3 @@ pub use kinds::Kind;
 pub use laws::{escape_laws, name_laws, specifier_laws, template_laws};
 pub use names::{NameFault, Shape, UnitName};
 pub use specifiers::{ExpandFault, expand};
-
-#[cfg(test)]
-mod tests;

@@ -6,7 +6,11 @@
 
 mod calls;
 mod edits;
+mod names;
+mod orders;
 mod paths;
+mod script_lines;
+mod sections;
 
 use calls::{CallFault, Words};
 use script_pipes::{Watched, read_all, write_all};
@@ -21,6 +25,9 @@ fn answer(alloc: Global, line: &[u8]) -> Result<Vec<u8>, CallFault> {
     let mut words = Words::new(alloc, rest);
     match subject {
         b"path" => paths::answer(alloc, &mut words),
+        b"name" => names::answer(alloc, &mut words),
+        b"section" => sections::answer(alloc, &mut words),
+        b"script" => script_lines::answer(alloc, &mut words),
         _ => Err(CallFault::Line),
     }
 }

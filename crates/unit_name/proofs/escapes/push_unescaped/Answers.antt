@@ -1,12 +1,13 @@
 use Rattle.std.proofs.Common.{◌++◌, ◌∙◌, List, ℕ, ap, sym, eqb-true}
 use Rattle.std.specs.Option.{option_map}
+use Rattle.std.proofs.lemmas.List.{nil_from_length}
 use Rattle.unit_name.specs.Escapes.{unescape}
 use Rattle.unit_name.specs.EscapeLaws.{unescape-nil}
-use Rattle.unit_name.proofs.Steps.{all_there, nil_of}
+use Rattle.unit_name.proofs.Steps.{all_there}
 use Rattle.unit_name.proofs.escapes.push_unescaped.Goals as goal
 
 pub returns : goal.returns
 returns c =
-    let nil = nil_of c.loop-rest.rest.now (eqb-true _ _ (sym c.loop-rest-test.ensures)) in
+    let nil = nil_from_length c.loop-rest.rest.now (eqb-true _ _ (sym c.loop-rest-test.ensures)) in
     let end = ap (λ r. option_map (λ (v : List ℕ). c.loop-rest.out.items ++ v) (unescape r)) nil in
     record { unescaped = all_there (unescape c.args.text.now) c.loop-rest.out.items c.args.out.now.items (sym (end ∙ ap (option_map (λ (v : List ℕ). c.loop-rest.out.items ++ v)) unescape-nil) ∙ c.loop-rest.invariant) }

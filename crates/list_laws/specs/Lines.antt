@@ -1,12 +1,14 @@
--- Which physical lines a file has, said by how files are put together from lines.
-use Rattle.std.proofs.Common.{◌≡◌, ◌≢◌, ◌<◌, ◌+◌, ◌-◌, ◌==◌, ℕ, zero, suc, List, [], ◌∷◌, ◌++◌, length, take, get_or, refl, ap, ◌∙◌, append_assoc, length-append, add-zero, arith}
+-- Which lines a text has, said by how texts are put together from lines. A line ends at a line feed, and one carriage return directly before that is dropped.
+-- The last line needs no line feed: then a carriage return at its end belongs to it.
+use Rattle.std.proofs.Common.{◌≡◌, ◌≢◌, ◌<◌, ◌+◌, ◌-◌, ◌==◌, ℕ, zero, suc, List, [], ◌∷◌, ◌++◌, length, take, drop, get_or, refl, ap, ◌∙◌, append_assoc, length-append, add-zero, arith}
 use Rattle.std.specs.List.{All, AllByRecursion, flat_map, slice_split}
 use Rattle.std.specs.Str.Lines.{lines, lines_of_parts, strip_carriage_return}
 use Rattle.std.proofs.lemmas.Bool.{cond-true, cond-false, eq-eqb, ne_eqb}
 use Rattle.std.proofs.lemmas.List.Splits.{slice_split_at, slice_split_none, length-slice_split}
-use Rattle.std.proofs.lemmas.List.Elements.{All-weaker, All-push}
+use Rattle.std.proofs.lemmas.List.Elements.{All-weaker, All-push, All-from_get_or}
 use Rattle.std.proofs.lemmas.List.Prefix.{end_from_reads}
 use Rattle.std.proofs.lemmas.List.{get_or_push, take_at}
+use Rattle.list_laws.specs.Cuts.{All-take_before, cut_around}
 
 -- no byte of the line is a line feed
 abbrev pub HasNoLineFeed : List ℕ → Type 0
@@ -16,7 +18,7 @@ HasNoLineFeed line = All (λ b. b ≢ 10) line
 abbrev pub EndsInReturn : List ℕ → Type 0
 EndsInReturn line = (front : List ℕ) × (line ≡ front ++ 13 ∷ [])
 
--- The line may stand in a file as it is: it has no line feed, and no carriage return at its end, which would belong to the line's end.
+-- The line may stand in a text as it is: it has no line feed, and no carriage return at its end, which would be dropped.
 abbrev pub IsPlainLine : List ℕ → Type 0
 IsPlainLine line = HasNoLineFeed line × ¬ (EndsInReturn line)
 
@@ -34,7 +36,7 @@ lines-line_feed line rest none =
 one_part : (line : List ℕ) → 0 < length line → lines_of_parts (line ∷ []) ≡ line ∷ []
 one_part line some = cond-false _ _ _ (ne_eqb (length line) 0 (λ e. omega arith))
 
--- a file without a line feed is one line
+-- a text without a line feed is one line
 pub lines-last : (line : List ℕ) → 0 < length line → HasNoLineFeed line → lines line ≡ line ∷ []
 lines-last line some none =
     ap lines_of_parts (slice_split_none (λ b. b == 10) line (All-weaker _ _ (λ b. ne_eqb b 10) line none)) ∙ one_part line some
@@ -52,7 +54,7 @@ strip_carriage_return-plain (b ∷ rest) plain =
     at_last is zero lt = rw add-zero is
     at_last is (suc i) lt = absurd (omega arith)
 
--- Lines that are each followed by a line feed are the first lines of that file.
+-- Lines that are each followed by a line feed are the first lines of that text.
 pub lines-line_feeds : (texts : List (List ℕ)) (rest : List ℕ) → AllByRecursion IsPlainLine texts → lines (flat_map (λ line. line ++ 10 ∷ []) texts ++ rest) ≡ texts ++ lines rest
 lines-line_feeds [] rest plain = refl
 lines-line_feeds (line ∷ texts) rest plain =
@@ -70,7 +72,7 @@ strip_carriage_return-return line =
     cond-true _ _ _ (eq-eqb _ 13 (ap (λ k. get_or (line ++ 13 ∷ []) k 0) long ∙ get_or_push line 13 0 (length line) refl))
     ∙ ap (λ k. take k (line ++ 13 ∷ [])) long ∙ take_at line (13 ∷ []) (length line) refl
 
--- Lines that are each followed by a carriage return and a line feed are the first lines of that file.
+-- Lines that are each followed by a carriage return and a line feed are the first lines of that text.
 pub lines-returns : (texts : List (List ℕ)) (rest : List ℕ) → AllByRecursion HasNoLineFeed texts → lines (flat_map (λ line. line ++ 13 ∷ 10 ∷ []) texts ++ rest) ≡ texts ++ lines rest
 lines-returns [] rest none = refl
 lines-returns (line ∷ texts) rest none =
@@ -80,3 +82,13 @@ lines-returns (line ∷ texts) rest none =
     ∙ lines-line_feed (line ++ 13 ∷ []) later (All-push (λ b. b ≢ 10) line 13 none.0 (λ e. omega arith))
     ∙ ap (λ v. v ∷ lines later) (strip_carriage_return-return line)
     ∙ ap (λ v. line ∷ v) (lines-returns texts rest none.1)
+
+-- a text in which a search finds no line feed is one line
+pub lines-cut_nowhere : (bytes : List ℕ) → 0 < length bytes → ((k : ℕ) → k < length bytes → get_or bytes k 0 ≢ 10) → lines bytes ≡ bytes ∷ lines []
+lines-cut_nowhere bytes some none = lines-last bytes some (All-from_get_or (λ b. b ≢ 10) bytes 0 none)
+
+-- a text that is cut where a search finds the first line feed
+pub lines-cut_at : (bytes : List ℕ) (end : ℕ) → end < length bytes → get_or bytes end 0 ≡ 10 → ((k : ℕ) → k < end → get_or bytes k 0 ≢ 10)
+    → lines bytes ≡ strip_carriage_return (take end bytes) ∷ lines (drop (end + 1) bytes)
+lines-cut_at bytes end lt is before =
+    ap lines (cut_around bytes end 10 lt is) ∙ lines-line_feed (take end bytes) (drop (end + 1) bytes) (All-take_before (λ b. b ≢ 10) bytes end (omega arith) before)

@@ -1,0 +1,5 @@
+use Rattle.std.proofs.Common.{rules}
+use Rattle.unit_name.proofs.names.UnitName.is_template.Goals as goal
+
+pub returns-clause-template : goal.returns-clause-template
+returns-clause-template c = search rules
