@@ -1,12 +1,12 @@
 -- Maps of sorted pairs.
-use Rattle.std.proofs.Common.{◌≡◌, length, true, false, Bool, List, [], ◌∷◌, ◌++◌, IsTrue, refl, sym, ap, subst, ◌∙◌}
+use Rattle.std.proofs.Common.{◌≡◌, length, true, false, Bool, Option, List, [], ◌∷◌, ◌++◌, IsTrue, IsSome, refl, sym, ap, subst, ◌∙◌}
 use Rattle.std.specs.Prelude.{T}
 use Rattle.std.specs.FinMap as finmap
 use Rattle.std.specs.FinMap.Entries.{find, put, is_sorted, below_all, is_sorted-put}
 use Rattle.load_path.specs.Paths.{PathParts, path_cmp}
 use Rattle.load_path.specs.PathLaws.{path_cmp_total}
 use Rattle.edit_sums.specs.declared.entries.Entry.{Entry}
-use Rattle.edit_sums.specs.Sums.{sum_of}
+use Rattle.edit_sums.specs.Sums.{EntryMap, sum_of}
 use Rattle.sorted_pairs.specs.PlaceLaws.{both_second}
 use Rattle.replica_store.specs.Merges.{Pair, map_of}
 use Rattle.std.specs.FinMap.Entries.{is_sorted-where_key}
@@ -23,6 +23,10 @@ from_T false t = absurd t
 
 pub get-map_of : (ps : List Pair) (q : PathParts) → IsTrue (is_sorted path_cmp ps) → finmap.get (map_of ps) q ≡ find path_cmp q ps
 get-map_of ps q s = finmap.get-from_sorted path_cmp ps q (to_T _ s)
+
+-- what the map holds is found
+pub held_found : (ps : List Pair) (s : EntryMap) (q : PathParts) → IsTrue (is_sorted path_cmp ps) → map_of ps ≡ s → IsSome (finmap.get s q) → IsSome (find path_cmp q ps)
+held_found ps s q sorted is held = subst (λ (y : Option Entry). IsSome y) (ap (λ (m : EntryMap). finmap.get m q) (sym is) ∙ get-map_of ps q sorted) held
 
 pub entries-map_of : (ps : List Pair) → IsTrue (is_sorted path_cmp ps) → finmap.entries (map_of ps) ≡ ps
 entries-map_of ps s = finmap.entries-from_sorted path_cmp ps (to_T _ s)

@@ -16,7 +16,7 @@ use Rattle.world_law.specs.declared.events.Event.{Event}
 use Rattle.world_law.specs.declared.events.Event.TheVariants.{Put, Ask, Cut, Give}
 use Rattle.world_law.specs.Worlds.{Node, Asked, Piece, World, taken, changed_at, asked_by, cut_for, edits_with, given_to, after, blank, took, took_by}
 use Rattle.world_law.specs.WorldLaws.{node_count, piece_stays, took_stays, slice_get_last}
-use Rattle.world_law.specs.Took.{world_of, WasCut, IsAskOf, Took, IsSumOf, HoldsTheSum}
+use Rattle.world_law.specs.Took.{world_of, WasCut, IsAskOf, Took, IsSumOf, HoldsTheSum, TookAsTold}
 use Rattle.world_law.specs.Took.Took.{put, entry, whole, stays}
 
 -- one node changes
@@ -244,6 +244,10 @@ module _ (n : ℕ) where
 
   after_is : (events : List Event) → after events (blank n) ≡ world_of n (reverse events)
   after_is events = after_onto events [] ∙ ap (world_of n) (append-nothing (reverse events))
+
+  pub took_as_told : (events : List Event) → TookAsTold n events
+  took_as_told events k e =
+      subst (λ (w : World). IsAmong e (took w k) ↔ Took n (reverse events) k e) (sym (after_is events)) (took_is (reverse events) k e)
 
   IfSome_from : (o : Option Node) (P : Node → Type 0) → ((node : Node) → o ≡ Some node → P node) → IfSome o P
   IfSome_from None P h = tt
