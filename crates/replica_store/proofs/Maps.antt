@@ -7,10 +7,10 @@ use Rattle.load_path.specs.Paths.{PathParts, path_cmp}
 use Rattle.load_path.specs.PathLaws.{path_cmp_total}
 use Rattle.edit_sums.specs.declared.entries.Entry.{Entry}
 use Rattle.edit_sums.specs.Sums.{EntryMap, sum_of}
-use Rattle.sorted_pairs.specs.PlaceLaws.{both_second}
 use Rattle.replica_store.specs.Merges.{Pair, map_of}
 use Rattle.std.specs.FinMap.Entries.{is_sorted-where_key}
 use Rattle.std.proofs.Common.{filter}
+use Rattle.std.proofs.lemmas.Bool.{and_parts}
 
 -- tests as facts
 
@@ -40,7 +40,7 @@ nothing_is_empty = finmap.empty_of_len _ (finmap.len-entries _ ∙ ap length (fi
 -- what stands behind is in order
 pub sorted_behind : (xs ys : List Pair) → IsTrue (is_sorted path_cmp (xs ++ ys)) → IsTrue (is_sorted path_cmp ys)
 sorted_behind [] ys s = s
-sorted_behind (x ∷ xs) ys s = sorted_behind xs ys (both_second (below_all path_cmp x.0 (xs ++ ys)) _ s)
+sorted_behind (x ∷ xs) ys s = sorted_behind xs ys (and_parts (below_all path_cmp x.0 (xs ++ ys)) _ s).1
 
 -- what is left out leaves the rest in order
 pub sorted_among : (p : PathParts → Bool) (es : List Pair) → IsTrue (is_sorted path_cmp es) → IsTrue (is_sorted path_cmp (filter (λ (e : Pair). p e.0) es))

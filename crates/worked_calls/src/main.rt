@@ -5,8 +5,14 @@
 #![tactic(auto)]
 
 mod calls;
+mod contents;
 mod edits;
+mod joins;
 mod paths;
+mod pieces;
+mod replicas;
+mod stores;
+mod worlds;
 
 use calls::{CallFault, Words};
 use script_pipes::{Watched, read_all, write_all};
@@ -21,6 +27,13 @@ fn answer(alloc: Global, line: &[u8]) -> Result<Vec<u8>, CallFault> {
     let mut words = Words::new(alloc, rest);
     match subject {
         b"path" => paths::answer(alloc, &mut words),
+        b"version" => joins::answer(alloc, &mut words),
+        b"content" => contents::answer(alloc, &mut words),
+        b"store" => stores::answer(alloc, &mut words),
+        b"replica" => replicas::answer(alloc, &mut words),
+        b"piece" => pieces::answer(alloc, &mut words),
+        b"digest" => pieces::answer_digest(alloc, &mut words),
+        b"world" => worlds::answer(alloc, &mut words),
         _ => Err(CallFault::Line),
     }
 }
