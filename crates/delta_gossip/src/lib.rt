@@ -10,8 +10,6 @@ mod exchanges;
 mod laws;
 mod steps;
 mod sweeps;
-#[cfg(test)]
-mod tests;
 mod worlds;
 
 pub use delta_pieces::{Digest, Piece, Rest, TakeFault, delta_at, delta_for, digest, take};

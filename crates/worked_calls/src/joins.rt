@@ -56,7 +56,11 @@ fn compared(alloc: Global, words: &mut Words) -> Result<Vec<u8>, CallFault> {
         Ordering::Equal => b" equal",
         Ordering::Greater => b" greater",
     })?;
-    out.extend_from_slice(if are_same(&left, &right) { b" same" } else { b"" })?;
+    out.extend_from_slice(if are_same(&left, &right) {
+        b" same"
+    } else {
+        b""
+    })?;
     Ok(out)
 }
 

@@ -128,10 +128,7 @@ fn visible_at(alloc: Global, words: &mut Words) -> Result<Vec<u8>, CallFault> {
 }
 
 // A path with its content, or nothing.
-fn placed_told(
-    alloc: Global,
-    placed: Option<(&Path, &Content)>,
-) -> Result<Vec<u8>, CallFault> {
+fn placed_told(alloc: Global, placed: Option<(&Path, &Content)>) -> Result<Vec<u8>, CallFault> {
     let Some((path, content)) = placed else {
         return Ok(Vec::from_slice(alloc, b"nothing")?);
     };
