@@ -8,15 +8,7 @@ use Rattle.std.specs.FinMap.{FinMap}
 use Rattle.std.specs.FinMap.Entries.{is_sorted, below_all}
 use Rattle.load_path.specs.Paths.{PathParts, path_cmp}
 use Rattle.std.proofs.lemmas.Bool.{and_parts, and_from}
-
--- tests as facts
-
-pub to_T : (b : Bool) → IsTrue b → T b
-to_T b h = subst T (sym h) tt
-
-from_T : (b : Bool) → T b → IsTrue b
-from_T true t = refl
-from_T false t = absurd t
+use Rattle.list_laws.specs.Truths.{to_T, from_T}
 
 module _ {X : Type 0} where
   pub entries_rise : (m : FinMap path_cmp X) → IsTrue (is_sorted path_cmp (finmap.entries m))

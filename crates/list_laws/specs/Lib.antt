@@ -1,3 +1,4 @@
 pub mod Cuts
 pub mod Orderings
 pub mod Searches
+pub mod Truths

@@ -11,15 +11,7 @@ use Rattle.replica_store.specs.Merges.{Pair, map_of}
 use Rattle.std.specs.FinMap.Entries.{is_sorted-where_key}
 use Rattle.std.proofs.Common.{filter}
 use Rattle.std.proofs.lemmas.Bool.{and_parts}
-
--- tests as facts
-
-to_T : (b : Bool) → IsTrue b → T b
-to_T b h = subst T (sym h) tt
-
-from_T : (b : Bool) → T b → IsTrue b
-from_T true t = refl
-from_T false t = absurd t
+use Rattle.list_laws.specs.Truths.{to_T, from_T}
 
 pub get-map_of : (ps : List Pair) (q : PathParts) → IsTrue (is_sorted path_cmp ps) → finmap.get (map_of ps) q ≡ find path_cmp q ps
 get-map_of ps q s = finmap.get-from_sorted path_cmp ps q (to_T _ s)
