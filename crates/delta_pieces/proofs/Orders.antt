@@ -1,14 +1,14 @@
 -- What keeps pairs in path order.
 use Rattle.std.proofs.lemmas.List.{take-append-drop}
 use Rattle.std.proofs.Common.{◌≡◌, ℕ, Bool, true, false, cond, List, [], ◌∷◌, ◌++◌, IsTrue, take, drop, map, refl, sym, ap, subst}
-use Rattle.std.specs.Prelude.{T, filter, ◌&&◌}
+use Rattle.std.specs.Prelude.{filter, ◌&&◌}
 use Rattle.std.specs.Ordering.{is_lt}
 use Rattle.std.specs.FinMap as finmap
 use Rattle.std.specs.FinMap.{FinMap}
 use Rattle.std.specs.FinMap.Entries.{is_sorted, below_all}
 use Rattle.load_path.specs.Paths.{PathParts, path_cmp}
 use Rattle.std.proofs.lemmas.Bool.{and_parts, and_from}
-use Rattle.list_laws.specs.Truths.{to_T, from_T}
+use Rattle.list_laws.specs.Truths.{from_T}
 
 module _ {X : Type 0} where
   pub entries_rise : (m : FinMap path_cmp X) → IsTrue (is_sorted path_cmp (finmap.entries m))

@@ -1,5 +1,5 @@
 -- Tests that hold, in the two forms in which facts name them.
-use Rattle.std.proofs.Common.{◌≡◌, Bool, true, false, IsTrue, refl, sym, subst}
+use Rattle.std.proofs.Common.{Bool, true, false, IsTrue, refl, sym, subst}
 use Rattle.std.specs.Prelude.{T, ◌&&◌}
 
 pub to_T : (b : Bool) → IsTrue b → T b

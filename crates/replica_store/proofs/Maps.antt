@@ -1,6 +1,5 @@
 -- Maps of sorted pairs.
-use Rattle.std.proofs.Common.{◌≡◌, length, true, false, Bool, Option, List, [], ◌∷◌, ◌++◌, IsTrue, IsSome, refl, sym, ap, subst, ◌∙◌}
-use Rattle.std.specs.Prelude.{T}
+use Rattle.std.proofs.Common.{◌≡◌, length, Bool, Option, List, [], ◌∷◌, ◌++◌, IsTrue, IsSome, sym, ap, subst, ◌∙◌}
 use Rattle.std.specs.FinMap as finmap
 use Rattle.std.specs.FinMap.Entries.{find, put, is_sorted, below_all, is_sorted-put}
 use Rattle.load_path.specs.Paths.{PathParts, path_cmp}
