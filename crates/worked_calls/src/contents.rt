@@ -1,15 +1,14 @@
 //! Calls on contents, and on edits that are copied.
 use crate::calls::{CallFault, Words};
 use crate::edits::{append_content, append_edit, edit_of};
-use join_law::Key;
 use replica_store::{Content, ContentFault, Edit};
 use std::alloc::Global;
 
 /// What a call on contents answers.
 pub fn answer(alloc: Global, words: &mut Words) -> Result<Vec<u8>, CallFault> {
     match words.word()? {
-        b"file" => Ok(made(alloc, Content::file(last_text(words)?))?),
-        b"link" => Ok(made(alloc, Content::link(last_text(words)?))?),
+        b"file" => made(alloc, Content::file(last_text(words)?)),
+        b"link" => made(alloc, Content::link(last_text(words)?)),
         b"filled_file" => counted(alloc, Content::file(filled(alloc, words)?)),
         b"filled_link" => counted(alloc, Content::link(filled(alloc, words)?)),
         b"copy" => copied(alloc, words),
@@ -52,22 +51,15 @@ fn counted(alloc: Global, content: Result<Content, ContentFault>) -> Result<Vec<
     Ok(format!(in alloc; "{count} bytes")?.into_bytes())
 }
 
-// An edit, its path and its content copied one by one.
+// A copy of an edit.
 fn copied(alloc: Global, words: &mut Words) -> Result<Vec<u8>, CallFault> {
     let edit = edit_of(alloc, words.word()?)?;
-    words.end()?;
-    let copy = copy_of(&edit)?;
-    let mut out = Vec::new(alloc);
-    append_edit(alloc, &mut out, &copy)?;
-    Ok(out)
+    edit_told(alloc, &edit.try_clone()?)
 }
 
-// A copy of a copy of an edit, the second one part by part.
-fn copy_of(edit: &Edit) -> Result<Edit, CallFault> {
-    let copy = edit.try_clone()?;
-    Ok(Edit {
-        path: copy.path.try_clone()?,
-        version: copy.version,
-        content: copy.content.try_clone()?,
-    })
+// An edit, as words write it.
+fn edit_told(alloc: Global, edit: &Edit) -> Result<Vec<u8>, CallFault> {
+    let mut out = Vec::new(alloc);
+    append_edit(alloc, &mut out, edit)?;
+    Ok(out)
 }

@@ -22,8 +22,13 @@ pub fn answer(alloc: Global, words: &mut Words) -> Result<Vec<u8>, CallFault> {
 
 // The two replicas of an exchange, and how many paths changed in each.
 fn exchanged(alloc: Global, words: &mut Words) -> Result<Vec<u8>, CallFault> {
-    let mut a = replica(alloc, 1, words)?;
-    let mut b = replica(alloc, 2, words)?;
+    let a = replica(alloc, 1, words)?;
+    let b = replica(alloc, 2, words)?;
+    both(alloc, a, b)
+}
+
+// Two replicas after an exchange, behind how many paths changed in each.
+fn both(alloc: Global, mut a: Replica, mut b: Replica) -> Result<Vec<u8>, CallFault> {
     let (first, second) = exchange(&mut a, &mut b)?;
     let mut out = format!(in alloc; "{first} and {second} changed; ")?.into_bytes();
     append_replicas(alloc, &mut out, &[a, b])?;
