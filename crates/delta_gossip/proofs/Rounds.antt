@@ -6,10 +6,10 @@ use Rattle.std.specs.FinMap as finmap
 use Rattle.load_path.specs.Paths.{path_cmp}
 use Rattle.edit_sums.specs.Entries.{IsBelow}
 use Rattle.edit_sums.specs.Sums.{EntryMap, join, IsStoreBelow}
-use Rattle.edit_sums.specs.SumLaws.{join_assoc, join-left, join-right, join-least, join-nothing}
+use Rattle.edit_sums.specs.SumLaws.{store_below_refl, store_below_trans, store_below_antisym, join_assoc, join-left, join-right, join-least, join-nothing}
 use Rattle.replica_store.specs.Replicas.{Replicated}
 use Rattle.delta_gossip.specs.Sweeps.{join_all, with_store, IsBetween, AreBetween}
-use Rattle.delta_gossip.proofs.Joins.{store_refl, store_trans, below_both, join_below, nothing_first}
+use Rattle.delta_gossip.proofs.Joins.{join_below, nothing_first}
 
 abbrev pub stores_of : List Replicated → List EntryMap
 stores_of rs = map (λ r. r.store) rs
@@ -21,9 +21,9 @@ join_all-append (s ∷ ss) ts = ap (join s) (join_all-append ss ts) ∙ sym (joi
 -- each is below the join of all
 pub below_all : (rs : List Replicated) (s : EntryMap) → IsStoreBelow (join_all (stores_of rs)) s → All (λ r. IsStoreBelow r.store s) rs
 below_all [] s h k d b = absurd (omega arith)
-below_all (r ∷ rs) s h zero d b = store_trans r.store (join_all (stores_of (r ∷ rs))) s (join-left r.store (join_all (stores_of rs))) h
+below_all (r ∷ rs) s h zero d b = store_below_trans r.store (join_all (stores_of (r ∷ rs))) s (join-left r.store (join_all (stores_of rs))) h
 below_all (r ∷ rs) s h (suc k) d b =
-    below_all rs s (store_trans (join_all (stores_of rs)) (join_all (stores_of (r ∷ rs))) s (join-right r.store (join_all (stores_of rs))) h) k d (omega arith)
+    below_all rs s (store_below_trans (join_all (stores_of rs)) (join_all (stores_of (r ∷ rs))) s (join-right r.store (join_all (stores_of rs))) h) k d (omega arith)
 
 -- the first replica's store, once so many of the rest came into it
 abbrev pub gathered : Replicated → List Replicated → ℕ → EntryMap
@@ -62,9 +62,9 @@ pub gathered_between : (f : Replicated) (rs : List Replicated) (i : ℕ) (d new 
     IsBetween (join_all (stores_of (f ∷ rs))) f new
 gathered_between f rs i d new h writer kept within = record {
   writer = writer;
-  kept = store_trans f.store (gathered f rs i) new.store (join-left f.store (join_all (stores_of (take i rs)))) kept;
+  kept = store_below_trans f.store (gathered f rs i) new.store (join-left f.store (join_all (stores_of (take i rs)))) kept;
   within =
-      store_trans new.store (gathered f rs (i + 1)) (join_all (stores_of (f ∷ rs)))
+      store_below_trans new.store (gathered f rs (i + 1)) (join_all (stores_of (f ∷ rs)))
       (subst (λ (s : EntryMap). IsStoreBelow new.store s) (gathered_more f rs i d h) within) (gathered_within f rs (i + 1));
 }
 
@@ -104,7 +104,7 @@ spread_at s (r ∷ rs) (suc i) d h = spread_at s rs i d (omega arith)
 unchanged : (s : EntryMap) (rs : List Replicated) → All (λ r. IsStoreBelow r.store s) rs → AreBetween s rs rs
 unchanged s [] below = tt
 unchanged s (r ∷ rs) below = (
-  record { writer = refl; kept = store_refl r.store; within = below 0 r (omega arith) },
+  record { writer = refl; kept = store_below_refl r.store; within = below 0 r (omega arith) },
   unchanged s rs (λ k d h. below (suc k) d (omega arith)),
 )
 
@@ -114,7 +114,7 @@ pub spread_between : (s : EntryMap) (rs : List Replicated) (i : ℕ) (d new : Re
 spread_between s [] i d new h below between = absurd (omega arith)
 spread_between s (r ∷ rs) zero d new h below between = (between, unchanged s rs (λ k e b. below (suc k) e (omega arith)))
 spread_between s (r ∷ rs) (suc i) d new h below between = (
-  record { writer = refl; kept = below 0 r (omega arith); within = store_refl s },
+  record { writer = refl; kept = below 0 r (omega arith); within = store_below_refl s },
   spread_between s rs i d new (omega arith) (λ k e b. below (suc k) e (omega arith)) between,
 )
 
@@ -162,7 +162,7 @@ swept_second rs f rest new rest_new is done between =
       subst (λ (g : Replicated). IsBetween (join_all (stores_of (f ∷ rest))) f g) (sym done) (record {
         writer = refl;
         kept = join-left f.store (join_all (stores_of rest));
-        within = store_refl (join_all (stores_of (f ∷ rest)));
+        within = store_below_refl (join_all (stores_of (f ∷ rest)));
       }),
       subst (λ (g : Replicated). AreBetween g.store rest rest_new) done between,
     )
@@ -170,13 +170,13 @@ swept_second rs f rest new rest_new is done between =
 -- where all lie between, the join of all is the same
 
 kept_all : (all : EntryMap) (rs ns : List Replicated) → AreBetween all rs ns → IsStoreBelow (join_all (stores_of rs)) (join_all (stores_of ns))
-kept_all all [] [] h = store_refl (join_all [])
+kept_all all [] [] h = store_below_refl (join_all [])
 kept_all all [] (n ∷ ns) h = absurd h
 kept_all all (r ∷ rs) [] h = absurd h
 kept_all all (r ∷ rs) (n ∷ ns) h =
     join-least r.store (join_all (stores_of rs)) (join n.store (join_all (stores_of ns)))
-    (store_trans r.store n.store (join n.store (join_all (stores_of ns))) h.0.kept (join-left n.store (join_all (stores_of ns))))
-    (store_trans (join_all (stores_of rs)) (join_all (stores_of ns)) (join n.store (join_all (stores_of ns))) (kept_all all rs ns h.1) (join-right n.store (join_all (stores_of ns))))
+    (store_below_trans r.store n.store (join n.store (join_all (stores_of ns))) h.0.kept (join-left n.store (join_all (stores_of ns))))
+    (store_below_trans (join_all (stores_of rs)) (join_all (stores_of ns)) (join n.store (join_all (stores_of ns))) (kept_all all rs ns h.1) (join-right n.store (join_all (stores_of ns))))
 
 within_all : (all : EntryMap) (rs ns : List Replicated) → AreBetween all rs ns → IsStoreBelow (join_all (stores_of ns)) all
 within_all all [] [] h = λ q. subst (λ y. IsBelow y (finmap.get all q)) (sym (finmap.get-empty path_cmp q)) tt
@@ -186,4 +186,4 @@ within_all all (r ∷ rs) (n ∷ ns) h = join-least n.store (join_all (stores_of
 
 pub swept_again : (rs ns : List Replicated) → AreBetween (join_all (stores_of rs)) rs ns → join_all (stores_of ns) ≡ join_all (stores_of rs)
 swept_again rs ns h =
-    below_both (join_all (stores_of ns)) (join_all (stores_of rs)) (within_all (join_all (stores_of rs)) rs ns h) (kept_all (join_all (stores_of rs)) rs ns h)
+    store_below_antisym (join_all (stores_of ns)) (join_all (stores_of rs)) (within_all (join_all (stores_of rs)) rs ns h) (kept_all (join_all (stores_of rs)) rs ns h)

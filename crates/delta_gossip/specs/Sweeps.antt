@@ -1,5 +1,5 @@
 -- What a sweep over replicas comes to.
-use Rattle.std.specs.Prelude.{◌≡◌, List, [], ◌∷◌}
+use Rattle.std.specs.Prelude.{◌≡◌, List, [], ◌∷◌, All}
 use Rattle.std.specs.FinMap as finmap
 use Rattle.edit_sums.specs.Sums.{EntryMap, join, IsStoreBelow}
 use Rattle.replica_store.specs.Replicas.{Replicated}
@@ -8,6 +8,11 @@ use Rattle.replica_store.specs.Replicas.{Replicated}
 abbrev pub join_all : List EntryMap → EntryMap
 join_all [] = finmap.empty
 join_all (s ∷ ss) = join s (join_all ss)
+
+-- the least store that is above each of these
+pub record IsLeastAbove (ss : List EntryMap) (all : EntryMap) : Type 0 where
+  pub above : All (λ s. IsStoreBelow s all) ss
+  pub least : (t : EntryMap) → All (λ s. IsStoreBelow s t) ss → IsStoreBelow all t
 
 -- the replica with this store
 abbrev pub with_store : EntryMap → Replicated → Replicated

@@ -7,14 +7,14 @@
 #![tactic(auto)]
 
 mod exchanges;
+mod laws;
 mod steps;
 mod sweeps;
-#[cfg(test)]
-mod tests;
 mod worlds;
 
 pub use delta_pieces::{Digest, Piece, Rest, TakeFault, delta_at, delta_for, digest, take};
 pub use exchanges::exchange;
+pub use laws::joins_of_all;
 pub use sweeps::sweep;
 pub use world_law::{Event, Paths};
 pub use worlds::{World, run_world};

@@ -1,5 +1,6 @@
 //! What each event does in a world. One that names what does not exist does nothing.
 ghost use Rattle.std.specs.Prelude.{◌≡◌, map, IfOk, OnOk};
+ghost use Rattle.edit_sums.specs.Sums.{join};
 ghost use Rattle.world_law.specs.Cuts.{cut};
 ghost use Rattle.world_law.specs.Worlds.{World as Model, happens};
 ghost use Rattle.world_law.specs.declared.events.Event.TheVariants.{Put, Ask, Cut, Give};
@@ -34,7 +35,15 @@ fn put_edit(alloc: Global, world: &mut World, node: usize, edit: &Edit) -> Resul
     let Some(replica) = world.replicas.get_mut(node) else {
         return Ok(());
     };
-    match replica.absorb(Store::from_edits(alloc, from_ref(edit))?) {
+    join_store(replica, Store::from_edits(alloc, from_ref(edit))?)?;
+    Ok(())
+}
+
+// Joins a store into a replica's.
+fn join_store(replica: &mut Replica, store: Store) -> Result<(), AllocError>
+    ensures ok { OnOk result (replica.new ≡ record replica.old { store = join replica.old.store store }) }
+{
+    match replica.absorb(store) {
         Ok(_) => Ok(()),
         Err(_) => Err(AllocError),
     }

@@ -1,22 +1,14 @@
 -- What keeps pairs in path order.
 use Rattle.std.proofs.lemmas.List.{take-append-drop}
 use Rattle.std.proofs.Common.{◌≡◌, ℕ, Bool, true, false, cond, List, [], ◌∷◌, ◌++◌, IsTrue, take, drop, map, refl, sym, ap, subst}
-use Rattle.std.specs.Prelude.{T, filter, ◌&&◌}
+use Rattle.std.specs.Prelude.{filter, ◌&&◌}
 use Rattle.std.specs.Ordering.{is_lt}
 use Rattle.std.specs.FinMap as finmap
 use Rattle.std.specs.FinMap.{FinMap}
 use Rattle.std.specs.FinMap.Entries.{is_sorted, below_all}
 use Rattle.load_path.specs.Paths.{PathParts, path_cmp}
-use Rattle.sorted_pairs.specs.PlaceLaws.{both, both_first, both_second}
-
--- tests as facts
-
-pub to_T : (b : Bool) → IsTrue b → T b
-to_T b h = subst T (sym h) tt
-
-from_T : (b : Bool) → T b → IsTrue b
-from_T true t = refl
-from_T false t = absurd t
+use Rattle.std.proofs.lemmas.Bool.{and_parts, and_from}
+use Rattle.list_laws.specs.Truths.{from_T}
 
 module _ {X : Type 0} where
   pub entries_rise : (m : FinMap path_cmp X) → IsTrue (is_sorted path_cmp (finmap.entries m))
@@ -24,16 +16,16 @@ module _ {X : Type 0} where
 
   front_below : (q : PathParts) (xs ys : List (PathParts × X)) → IsTrue (below_all path_cmp q (xs ++ ys)) → IsTrue (below_all path_cmp q xs)
   front_below q [] ys h = refl
-  front_below q (x ∷ xs) ys h = both _ _ (both_first _ _ h) (front_below q xs ys (both_second _ _ h))
+  front_below q (x ∷ xs) ys h = and_from _ _ (and_parts _ _ h).0 (front_below q xs ys (and_parts _ _ h).1)
 
   front_rises : (xs ys : List (PathParts × X)) → IsTrue (is_sorted path_cmp (xs ++ ys)) → IsTrue (is_sorted path_cmp xs)
   front_rises [] ys s = refl
   front_rises (x ∷ xs) ys s =
-      both _ _ (front_below x.0 xs ys (both_first _ _ s)) (front_rises xs ys (both_second (below_all path_cmp x.0 (xs ++ ys)) _ s))
+      and_from _ _ (front_below x.0 xs ys (and_parts _ _ s).0) (front_rises xs ys (and_parts (below_all path_cmp x.0 (xs ++ ys)) _ s).1)
 
   back_rises : (xs ys : List (PathParts × X)) → IsTrue (is_sorted path_cmp (xs ++ ys)) → IsTrue (is_sorted path_cmp ys)
   back_rises [] ys s = s
-  back_rises (x ∷ xs) ys s = back_rises xs ys (both_second (below_all path_cmp x.0 (xs ++ ys)) _ s)
+  back_rises (x ∷ xs) ys s = back_rises xs ys (and_parts (below_all path_cmp x.0 (xs ++ ys)) _ s).1
 
   whole : (n : ℕ) (es : List (PathParts × X)) → IsTrue (is_sorted path_cmp es) → IsTrue (is_sorted path_cmp (take n es ++ drop n es))
   whole n es s = subst (λ (l : List (PathParts × X)). IsTrue (is_sorted path_cmp l)) (sym (take-append-drop n es)) s
@@ -48,9 +40,9 @@ module _ {X : Type 0} where
   filter_below : (p : PathParts × X → Bool) (q : PathParts) (es : List (PathParts × X)) → IsTrue (below_all path_cmp q es) → IsTrue (below_all path_cmp q (filter p es))
   filter_below p q [] h = refl
   filter_below p q (e ∷ es) h =
-      let rest = filter_below p q es (both_second _ _ h) in
+      let rest = filter_below p q es (and_parts _ _ h).1 in
       elim (p e) as (λ b. IsTrue (below_all path_cmp q (cond b (e ∷ filter p es) (filter p es)))) [
-        | true ↦ both _ _ (both_first _ _ h) rest
+        | true ↦ and_from _ _ (and_parts _ _ h).0 rest
         | false ↦ rest
       ]
 
@@ -58,9 +50,9 @@ module _ {X : Type 0} where
   pub filter_rises : (p : PathParts × X → Bool) (es : List (PathParts × X)) → IsTrue (is_sorted path_cmp es) → IsTrue (is_sorted path_cmp (filter p es))
   filter_rises p [] s = refl
   filter_rises p (e ∷ es) s =
-      let rest = filter_rises p es (both_second (below_all path_cmp e.0 es) _ s) in
+      let rest = filter_rises p es (and_parts (below_all path_cmp e.0 es) _ s).1 in
       elim (p e) as (λ b. IsTrue (is_sorted path_cmp (cond b (e ∷ filter p es) (filter p es)))) [
-        | true ↦ both _ _ (filter_below p e.0 es (both_first _ _ s)) rest
+        | true ↦ and_from _ _ (filter_below p e.0 es (and_parts _ _ s).0) rest
         | false ↦ rest
       ]
 

@@ -4,7 +4,6 @@ use Rattle.std.proofs.lemmas.List.{append-nil}
 use Rattle.std.proofs.lemmas.List.Elements.{filter_more}
 use Rattle.sorted_pairs.specs.Places.{IsNotBelow}
 use Rattle.std.proofs.Common.{◌≡◌, ◌≢◌, ℕ, suc, ◌+◌, ◌<◌, ◌++◌, take, drop, get_or, drop-cons, add-one, Bool, true, false, cond, Some, None, List, [], ◌∷◌, length, IsTrue, refl, sym, ap, ◌∙◌}
-use Rattle.std.specs.declared.cmp.Ordering.{Ordering}
 use Rattle.std.specs.declared.cmp.Ordering.TheVariants.{Less, Equal, Greater}
 use Rattle.std.specs.Ordering.{is_eq, eq_by_cmp, ordering_reverse}
 use Rattle.std.specs.Cmp.{tied_itself}
@@ -14,7 +13,9 @@ use Rattle.load_path.specs.Paths.{PathParts, path_cmp}
 use Rattle.load_path.specs.PathLaws.{path_cmp_total}
 use Rattle.edit_sums.specs.declared.entries.Entry.{Entry}
 use Rattle.edit_sums.specs.GreatestLaws.{tied}
-use Rattle.sorted_pairs.specs.PlaceLaws.{both_first, both_second, is_less, find_before}
+use Rattle.sorted_pairs.specs.PlaceLaws.{find_before}
+use Rattle.std.proofs.lemmas.Bool.{and_parts}
+use Rattle.list_laws.specs.Orderings.{is_less, is_equal, is_greater, turned}
 
 -- what is left of the versions tells the same as all of them, at the path of each of these entries
 abbrev pub TellsTheSame : (left versions : List (PathParts × Version)) → List (PathParts × Entry) → Type 0
@@ -45,11 +46,11 @@ itself x e = let f : path_cmp x x ≡ Equal = tied_itself path_cmp_total x in cc
 pub tells_from : (e : PathParts × Entry) (es : List (PathParts × Entry)) (left further versions : List (PathParts × Version)) → IsTrue (is_sorted path_cmp (e ∷ es)) →
     ((q : PathParts) → path_cmp q e.0 ≢ Less → find path_cmp q further ≡ find path_cmp q left) →
     TellsTheSame left versions (e ∷ es) → TellsTheSame further versions (e ∷ es)
-tells_from e es left further versions s held t = (held e.0 (itself e.0) ∙ t.0, behind es (both_first _ _ s) t.1)
+tells_from e es left further versions s held t = (held e.0 (itself e.0) ∙ t.0, behind es (and_parts _ _ s).0 t.1)
   where
     behind : (fs : List (PathParts × Entry)) → IsTrue (below_all path_cmp e.0 fs) → TellsTheSame left versions fs → TellsTheSame further versions fs
     behind [] b u = tt
-    behind (f ∷ fs) b u = (held f.0 (greater e.0 f.0 (is_less _ (both_first _ _ b))) ∙ u.0, behind fs (both_second _ _ b) u.1)
+    behind (f ∷ fs) b u = (held f.0 (greater e.0 f.0 (is_less _ (and_parts _ _ b).0)) ∙ u.0, behind fs (and_parts _ _ b).1 u.1)
 
 -- ---- one entry more
 
@@ -68,19 +69,6 @@ module _ (p : PathParts × Entry → Bool) (es : List (PathParts × Entry)) (i :
 
 -- ---- the first of the versions, where none is below a path
 
-is_equal : (r : Ordering) → is_eq r ≡ true → r ≡ Equal
-is_equal Less h = cc (h)
-is_equal Equal h = refl
-is_equal Greater h = cc (h)
-
-is_greater : (r : Ordering) → r ≢ Less → is_eq r ≡ false → r ≡ Greater
-is_greater Less n h = absurd (n refl)
-is_greater Equal n h = cc (h)
-is_greater Greater n h = refl
-
-turned : (x k : PathParts) (r : Ordering) → path_cmp x k ≡ r → path_cmp k x ≡ ordering_reverse r
-turned x k r h = path_cmp_total.antisymm k x ∙ ap ordering_reverse h
-
 module _ (k : PathParts) where
   -- it stands at the path
   pub find_first : (es : List (PathParts × Version)) (d : PathParts × Version) → Some d ≡ slice_get es 0 → is_eq (path_cmp d.0 k) ≡ true → find path_cmp k es ≡ Some d.1
@@ -88,7 +76,7 @@ module _ (k : PathParts) where
   find_first (e ∷ es) d is h =
       let one : d ≡ e = cc in
       let tied : path_cmp e.0 k ≡ Equal = ap (λ (p : PathParts × Version). path_cmp p.0 k) (sym one) ∙ is_equal _ h in
-      ap (λ r. cond (is_eq r) (Some e.1) (find path_cmp k es)) (turned e.0 k Equal tied) ∙ ap (λ (p : PathParts × Version). Some p.1) (sym one)
+      ap (λ r. cond (is_eq r) (Some e.1) (find path_cmp k es)) (turned path_cmp path_cmp_total e.0 k Equal tied) ∙ ap (λ (p : PathParts × Version). Some p.1) (sym one)
 
   -- it stands behind the path
   pub find_before_first : (es : List (PathParts × Version)) (d : PathParts × Version) → Some d ≡ slice_get es 0 → IsTrue (is_sorted path_cmp es) → IsNotBelow path_cmp k es → is_eq (path_cmp d.0 k) ≡ false → find path_cmp k es ≡ None
@@ -96,5 +84,5 @@ module _ (k : PathParts) where
   find_before_first (e ∷ es) d is s n h =
       let one : d ≡ e = cc in
       let other : is_eq (path_cmp e.0 k) ≡ false = ap (λ (p : PathParts × Version). is_eq (path_cmp p.0 k)) (sym one) ∙ h in
-      let less : path_cmp k e.0 ≡ Less = turned e.0 k Greater (is_greater _ n other) in
-      ap (λ r. cond (is_eq r) (Some e.1) (find path_cmp k es)) less ∙ find_before path_cmp k path_cmp_total e.0 less es (both_first _ _ s)
+      let less : path_cmp k e.0 ≡ Less = turned path_cmp path_cmp_total e.0 k Greater (is_greater _ n other) in
+      ap (λ r. cond (is_eq r) (Some e.1) (find path_cmp k es)) less ∙ find_before path_cmp k path_cmp_total e.0 less es (and_parts _ _ s).0

@@ -12,7 +12,7 @@ use Rattle.edit_sums.specs.declared.entries.Edit.{Edit}
 use Rattle.edit_sums.specs.Sums.{EntryMap, edit_of, sum_of, join}
 use Rattle.edit_sums.specs.SumLaws.{sum_of-edits_of}
 use Rattle.world_law.specs.Cuts.{VersionMap, digest_of, is_newer, is_wanted, cut}
-use Rattle.delta_pieces.proofs.Orders.{to_T}
+use Rattle.list_laws.specs.Truths.{to_T}
 
 -- the map of sorted versions
 abbrev pub versions_map : List (PathParts × Version) → VersionMap

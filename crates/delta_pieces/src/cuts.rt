@@ -28,8 +28,8 @@ pub fn delta_for(alloc: Global, replica: &Replica, asked: &Digest) -> Result<Pie
 /// The same at these paths alone, which are read as a set.
 ///
 /// For each path a search in the store and one in the digest, and at most one shift of what was
-/// found before, none where the paths rise; only what is carried is copied. It fails for want of
-/// memory alone.
+/// found before, none where the paths rise. An entry that is carried is copied as often as its path
+/// is named, and nothing else is. It fails for want of memory alone.
 pub fn delta_at(
     alloc: Global,
     replica: &Replica,

@@ -13,8 +13,6 @@ mod digests;
 mod newer;
 mod pieces;
 mod takes;
-#[cfg(test)]
-mod tests;
 
 pub use asks::digest;
 pub use cuts::{delta_at, delta_for};

@@ -1,6 +1,6 @@
 -- What sums and joins hold at a path.
 use Rattle.std.proofs.Common.{◌≡◌, Bool, true, false, cond, Option, Some, None, List, [], ◌∷◌, ◌++◌, map, refl, sym, ap, subst, ◌∙◌, ◌⊎◌, inl, inr}
-use Rattle.std.specs.Prelude.{filter, unwrap_or, T, ◌&&◌}
+use Rattle.std.specs.Prelude.{filter, unwrap_or, T}
 use Rattle.std.specs.declared.cmp.Ordering.{Ordering}
 use Rattle.std.specs.declared.cmp.Ordering.TheVariants.{Less, Equal, Greater}
 use Rattle.std.specs.Ordering.{eq_by_cmp, is_eq, is_lt, is_gt}
@@ -15,6 +15,7 @@ use Rattle.edit_sums.specs.declared.entries.Edit.{Edit}
 use Rattle.edit_sums.specs.Entries.{entry_cmp, IsBelow, larger}
 use Rattle.edit_sums.specs.Sums.{EntryMap, entry_of, edit_of, IsAmong, greatest_at, with_edit, sum_of, edits_of, join}
 use Rattle.edit_sums.specs.EntryLaws.{larger_assoc, larger-left, larger-right, larger-least, larger_cases, below_trans}
+use Rattle.list_laws.specs.Truths.{T-both}
 
 is_equal : (r : Ordering) → is_eq r ≡ true → r ≡ Equal
 is_equal Less h = cc
@@ -99,14 +100,6 @@ greatest_at-mono q xs ys within =
 
 -- the edits of a store
 
-both-first : (a b : Bool) → T (a && b) → T a
-both-first true b h = tt
-both-first false b h = h
-
-both-second : (a b : Bool) → T (a && b) → T b
-both-second true b h = h
-both-second false b h = absurd h
-
 not_tied : (r : Ordering) → T (is_lt r) → is_eq r ≡ false
 not_tied Less h = refl
 not_tied Equal h = absurd h
@@ -116,7 +109,7 @@ module _ {X : Type 0} where
   find_below : (q : PathParts) (es : List (PathParts × X)) → T (below_all path_cmp q es) → find path_cmp q es ≡ None
   find_below q [] h = refl
   find_below q (e ∷ es) h =
-      ap (λ b. cond b (Some e.1) (find path_cmp q es)) (not_tied _ (both-first _ _ h)) ∙ find_below q es (both-second _ _ h)
+      ap (λ b. cond b (Some e.1) (find path_cmp q es)) (not_tied _ (T-both _ _ h).0) ∙ find_below q es (T-both _ _ h).1
 
 -- the entry, if its edit passes the test
 abbrev pub passed : (Edit → Bool) → PathParts → Option Entry → Option Entry
@@ -126,11 +119,11 @@ passed p q (Some x) = cond (p (edit_of (q, x))) (Some x) None
 greatest_at-passed : (p : Edit → Bool) (q : PathParts) (es : List (PathParts × Entry)) → T (is_sorted path_cmp es) → greatest_at q (filter p (map edit_of es)) ≡ passed p q (find path_cmp q es)
 greatest_at-passed p q [] h = refl
 greatest_at-passed p q (e ∷ es) h =
-    let rest : greatest_at q (filter p (map edit_of es)) ≡ passed p q (find path_cmp q es) = greatest_at-passed p q es (both-second _ _ h) in
+    let rest : greatest_at q (filter p (map edit_of es)) ≡ passed p q (find path_cmp q es) = greatest_at-passed p q es (T-both _ _ h).1 in
     elim (eq_by_cmp path_cmp q e.0) as (λ b. eq_by_cmp path_cmp q e.0 ≡ b → greatest_at q (cond (p (edit_of e)) (edit_of e ∷ filter p (map edit_of es)) (filter p (map edit_of es))) ≡ passed p q (cond b (Some e.1) (find path_cmp q es))) [
       | true ↦ λ t.
           let here : q ≡ e.0 = tied q e.0 t in
-          let none : find path_cmp q es ≡ None = subst (λ (k : PathParts). find path_cmp k es ≡ None) (sym here) (find_below e.0 es (both-first _ _ h)) in
+          let none : find path_cmp q es ≡ None = subst (λ (k : PathParts). find path_cmp k es ≡ None) (sym here) (find_below e.0 es (T-both _ _ h).0) in
           let gone : greatest_at q (filter p (map edit_of es)) ≡ None = rest ∙ ap (passed p q) none in
           elim (p (edit_of e)) as (λ c. greatest_at q (cond c (edit_of e ∷ filter p (map edit_of es)) (filter p (map edit_of es))) ≡ cond c (Some e.1) None) [
             | true ↦ ap (λ b. cond b (larger (Some e.1) (greatest_at q (filter p (map edit_of es)))) (greatest_at q (filter p (map edit_of es)))) t ∙ ap (larger (Some e.1)) gone
@@ -172,10 +165,10 @@ entry_in e (f ∷ fs) h (inl a) =
     ap (λ (k : PathParts). cond (eq_by_cmp path_cmp e.path k) (Some f.1) (find path_cmp e.path fs)) here ∙
     ap (λ b. cond b (Some f.1) (find path_cmp e.path fs)) (same_path e.path) ∙ ap Some there
 entry_in e (f ∷ fs) h (inr a) =
-    let rest : find path_cmp e.path fs ≡ Some (entry_of e) = entry_in e fs (both-second (below_all path_cmp f.0 fs) (is_sorted path_cmp fs) h) a in
+    let rest : find path_cmp e.path fs ≡ Some (entry_of e) = entry_in e fs (T-both (below_all path_cmp f.0 fs) (is_sorted path_cmp fs) h).1 a in
     elim (eq_by_cmp path_cmp e.path f.0) as (λ b. eq_by_cmp path_cmp e.path f.0 ≡ b → cond b (Some f.1) (find path_cmp e.path fs) ≡ Some (entry_of e)) [
       | true ↦ λ t.
-          let none : find path_cmp e.path fs ≡ None = subst (λ (k : PathParts). find path_cmp k fs ≡ None) (sym (tied e.path f.0 t)) (find_below f.0 fs (both-first _ _ h)) in
+          let none : find path_cmp e.path fs ≡ None = subst (λ (k : PathParts). find path_cmp k fs ≡ None) (sym (tied e.path f.0 t)) (find_below f.0 fs (T-both _ _ h).0) in
           cc
       | false ↦ λ t. rest
     ] refl
@@ -184,7 +177,7 @@ entry_in e (f ∷ fs) h (inr a) =
 pub get_from_edits_of : (e : Edit) (s : EntryMap) → IsAmong e (edits_of s) → finmap.get s e.path ≡ Some (entry_of e)
 get_from_edits_of e s a = finmap.get-entries s e.path ∙ entry_in e (finmap.entries s) (finmap.entries_sorted s) a
 
-passed_was : (p : Edit → Bool) (q : PathParts) (y : Option Entry) (x : Entry) → passed p q y ≡ Some x → y ≡ Some x
+pub passed_was : (p : Edit → Bool) (q : PathParts) (y : Option Entry) (x : Entry) → passed p q y ≡ Some x → y ≡ Some x
 passed_was p q None x h = cc
 passed_was p q (Some y) x h =
     elim (p (edit_of (q, y))) as (λ b. cond b (Some y) None ≡ Some x → Some y ≡ Some x) [ true ↦ λ k. k | false ↦ λ k. cc ] h

@@ -8,12 +8,22 @@ use Rattle.load_path.specs.PathLaws.{path_cmp_total, path_cmp-IsAntisymmetric}
 use Rattle.edit_sums.specs.declared.entries.Edit.{Edit}
 use Rattle.edit_sums.specs.Entries.{IsBelow, larger}
 use Rattle.edit_sums.specs.Sums.{EntryMap, entry_of, IsAmong, greatest_at, with_edit, sum_of, edits_of, join, IsStoreBelow, IsSum}
-use Rattle.edit_sums.specs.EntryLaws.{larger_assoc, larger_comm, larger_idem, larger-None, larger-left, larger-right, larger-least, below_antisym}
+use Rattle.edit_sums.specs.EntryLaws.{larger_assoc, larger_comm, larger_idem, larger-None, larger-left, larger-right, larger-least, below_refl, below_trans, below_antisym}
 use Rattle.edit_sums.specs.GreatestLaws.{get-with_edit, get-sum_of, get-join, greatest_at-append, greatest_at-edits_of, greatest_at-mono, greatest_at-above, greatest_at-found}
 
 -- stores that have the same at each path are the same
 pub same_store : (s t : EntryMap) → ((q : PathParts) → finmap.get s q ≡ finmap.get t q) → s ≡ t
 same_store s t is = same_map path_cmp_total path_cmp-IsAntisymmetric s t is
+
+pub store_below_refl : (s : EntryMap) → IsStoreBelow s s
+store_below_refl s q = below_refl (finmap.get s q)
+
+pub store_below_trans : (s t u : EntryMap) → IsStoreBelow s t → IsStoreBelow t u → IsStoreBelow s u
+store_below_trans s t u h k q = below_trans (finmap.get s q) (finmap.get t q) (finmap.get u q) (h q) (k q)
+
+-- stores that are below each other are the same
+pub store_below_antisym : (s t : EntryMap) → IsStoreBelow s t → IsStoreBelow t s → s ≡ t
+store_below_antisym s t h k = same_store s t (λ q. below_antisym (finmap.get s q) (finmap.get t q) (h q) (k q))
 
 pub sum_of-append : (xs ys : List Edit) → sum_of (xs ++ ys) ≡ join (sum_of xs) (sum_of ys)
 sum_of-append xs ys =

@@ -11,6 +11,14 @@ pub fn sums_of_edits()
         → ((e : Edit) → IsAmong e ys → IsAmong e xs) → sum_of xs ≡ sum_of ys }
 {}
 
+/// To be below is an order of stores: each is below itself, what is below one that is below a third
+/// is below the third, and two that are below each other are equal.
+pub fn order_of_stores()
+    ensures reflexive { (s : EntryMap) → IsStoreBelow s s }
+    ensures transitive { (s t u : EntryMap) → IsStoreBelow s t → IsStoreBelow t u → IsStoreBelow s u }
+    ensures antisymmetric { (s t : EntryMap) → IsStoreBelow s t → IsStoreBelow t s → s ≡ t }
+{}
+
 /// The join of two stores is their least upper bound. It is commutative, associative and
 /// idempotent.
 pub fn joins_of_stores()

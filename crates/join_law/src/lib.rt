@@ -8,8 +8,6 @@
 
 mod joins;
 mod keys;
-#[cfg(test)]
-mod tests;
 mod versions;
 
 pub use joins::{Join, Rest};

@@ -1,2 +1,5 @@
 pub mod Cuts
 pub mod Lines
+pub mod Orderings
+pub mod Searches
+pub mod Truths

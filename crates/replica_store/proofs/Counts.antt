@@ -11,9 +11,11 @@ use Rattle.edit_sums.specs.declared.entries.Entry.{Entry}
 use Rattle.edit_sums.specs.Sums.{is_other}
 use Rattle.edit_sums.specs.GreatestLaws.{same_path}
 use Rattle.sorted_pairs.specs.Places.{AreBelow, IsNotBelow}
-use Rattle.sorted_pairs.specs.PlaceLaws.{both_first, both_second, is_less, put_behind}
+use Rattle.sorted_pairs.specs.PlaceLaws.{put_behind}
 use Rattle.replica_store.specs.Merges.{Pair, is_rise, changes_from}
 use Rattle.replica_store.proofs.Rises.{rise_other, itself_no_other}
+use Rattle.std.proofs.lemmas.Bool.{and_parts}
+use Rattle.list_laws.specs.Orderings.{is_less}
 
 -- p is one of these
 abbrev IsIn : Pair → List Pair → Type 0
@@ -56,13 +58,13 @@ module _ (first : List Pair) where
 
 own_below : (k : PathParts) (es : List Pair) → IsTrue (below_all path_cmp k es) → (p : Pair) → IsIn p es → eq_by_cmp path_cmp p.0 k ≡ false
 own_below k [] b p h = absurd h
-own_below k (e ∷ es) b p (inl h) = ap (λ (r : Pair). eq_by_cmp path_cmp r.0 k) (sym h) ∙ ap is_eq (path_cmp_total.antisymm e.0 k ∙ ap ordering_reverse (is_less _ (both_first _ _ b)))
-own_below k (e ∷ es) b p (inr h) = own_below k es (both_second _ _ b) p h
+own_below k (e ∷ es) b p (inl h) = ap (λ (r : Pair). eq_by_cmp path_cmp r.0 k) (sym h) ∙ ap is_eq (path_cmp_total.antisymm e.0 k ∙ ap ordering_reverse (is_less _ (and_parts _ _ b).0))
+own_below k (e ∷ es) b p (inr h) = own_below k es (and_parts _ _ b).1 p h
 
 pub find_own : (es : List Pair) → IsTrue (is_sorted path_cmp es) → (p : Pair) → IsIn p es → find path_cmp p.0 es ≡ Some p.1
 find_own [] s p h = absurd h
 find_own (e ∷ es) s p (inl h) = ap (λ (r : Pair). cond (eq_by_cmp path_cmp r.0 e.0) (Some e.1) (find path_cmp r.0 es)) (sym h) ∙ ap (λ b. cond b (Some e.1) (find path_cmp e.0 es)) (same_path e.0) ∙ ap (λ (r : Pair). Some r.1) h
-find_own (e ∷ es) s p (inr h) = ap (λ b. cond b (Some e.1) (find path_cmp p.0 es)) (own_below e.0 es (both_first _ _ s) p h) ∙ find_own es (both_second (below_all path_cmp e.0 es) _ s) p h
+find_own (e ∷ es) s p (inr h) = ap (λ b. cond b (Some e.1) (find path_cmp p.0 es)) (own_below e.0 es (and_parts _ _ s).0 p h) ∙ find_own es (and_parts (below_all path_cmp e.0 es) _ s).1 p h
 
 pub none_changed : (first es : List Pair) → ((p : Pair) → IsIn p es → find path_cmp p.0 first ≡ Some p.1) → changes_from first es ≡ 0
 none_changed first [] h = refl

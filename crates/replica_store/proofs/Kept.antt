@@ -2,14 +2,12 @@
 use Rattle.std.proofs.lemmas.List.{take-append-drop}
 use Rattle.std.proofs.Common.{◌≡◌, take, drop, ℕ, List, [], ◌∷◌, IsTrue, sym, ap, ◌∙◌, arith}
 use Rattle.std.specs.Prelude.{max}
-use Rattle.std.specs.FinMap as finmap
 use Rattle.std.specs.FinMap.Entries.{is_sorted}
 use Rattle.load_path.specs.Paths.{path_cmp}
-use Rattle.edit_sums.specs.EntryLaws.{below_trans, below_antisym}
 use Rattle.edit_sums.specs.declared.entries.Edit.{Edit}
 use Rattle.edit_sums.specs.Sums.{EntryMap, join, IsStoreBelow, sum_of, with_edit, greatest_counter, high_of}
 use Rattle.edit_sums.specs.CounterLaws.{high_of-join, high_of-sum_of}
-use Rattle.edit_sums.specs.SumLaws.{same_store, join-left, join-right, join-least, with_edit-join, sum_of-append}
+use Rattle.edit_sums.specs.SumLaws.{store_below_trans, store_below_antisym, join-left, join-right, join-least, with_edit-join, sum_of-append}
 use Rattle.replica_store.specs.Merges.{Pair, map_of, IsKept}
 use Rattle.replica_store.proofs.Maps.{entries-map_of}
 
@@ -37,9 +35,9 @@ kept_edit first now a e p s is = record {
 -- joining again what was joined in part gives the join
 pub join_again : (first other now : EntryMap) → IsStoreBelow first now → IsStoreBelow now (join first other) → join now other ≡ join first other
 join_again first other now kept within =
-    same_store _ _ (λ q. below_antisym _ _
-    (join-least now other (join first other) within (join-right first other) q)
-    (join-least first other (join now other) (λ r. below_trans _ (finmap.get now r) _ (kept r) (join-left now other r)) (join-right now other) q))
+    store_below_antisym (join now other) (join first other)
+    (join-least now other (join first other) within (join-right first other))
+    (join-least first other (join now other) (store_below_trans first now (join now other) kept (join-left now other)) (join-right now other))
 
 pub sum_of_halves : (es : List Edit) (n : ℕ) (front back : EntryMap) → front ≡ sum_of (take n es) → back ≡ sum_of (drop n es) → join front back ≡ sum_of es
 sum_of_halves es n front back f b = (λ i. join (f i) (b i)) ∙ sym (sum_of-append (take n es) (drop n es)) ∙ ap sum_of (take-append-drop n es)

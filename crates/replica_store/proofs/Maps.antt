@@ -1,28 +1,23 @@
 -- Maps of sorted pairs.
-use Rattle.std.proofs.Common.{◌≡◌, length, true, false, Bool, List, [], ◌∷◌, ◌++◌, IsTrue, refl, sym, ap, subst, ◌∙◌}
-use Rattle.std.specs.Prelude.{T}
+use Rattle.std.proofs.Common.{◌≡◌, length, Bool, Option, List, [], ◌∷◌, ◌++◌, IsTrue, IsSome, sym, ap, subst, ◌∙◌}
 use Rattle.std.specs.FinMap as finmap
 use Rattle.std.specs.FinMap.Entries.{find, put, is_sorted, below_all, is_sorted-put}
 use Rattle.load_path.specs.Paths.{PathParts, path_cmp}
 use Rattle.load_path.specs.PathLaws.{path_cmp_total}
 use Rattle.edit_sums.specs.declared.entries.Entry.{Entry}
-use Rattle.edit_sums.specs.Sums.{sum_of}
-use Rattle.sorted_pairs.specs.PlaceLaws.{both_second}
+use Rattle.edit_sums.specs.Sums.{EntryMap, sum_of}
 use Rattle.replica_store.specs.Merges.{Pair, map_of}
 use Rattle.std.specs.FinMap.Entries.{is_sorted-where_key}
 use Rattle.std.proofs.Common.{filter}
-
--- tests as facts
-
-to_T : (b : Bool) → IsTrue b → T b
-to_T b h = subst T (sym h) tt
-
-from_T : (b : Bool) → T b → IsTrue b
-from_T true t = refl
-from_T false t = absurd t
+use Rattle.std.proofs.lemmas.Bool.{and_parts}
+use Rattle.list_laws.specs.Truths.{to_T, from_T}
 
 pub get-map_of : (ps : List Pair) (q : PathParts) → IsTrue (is_sorted path_cmp ps) → finmap.get (map_of ps) q ≡ find path_cmp q ps
 get-map_of ps q s = finmap.get-from_sorted path_cmp ps q (to_T _ s)
+
+-- what the map holds is found
+pub held_found : (ps : List Pair) (s : EntryMap) (q : PathParts) → IsTrue (is_sorted path_cmp ps) → map_of ps ≡ s → IsSome (finmap.get s q) → IsSome (find path_cmp q ps)
+held_found ps s q sorted is held = subst (λ (y : Option Entry). IsSome y) (ap (λ (m : EntryMap). finmap.get m q) (sym is) ∙ get-map_of ps q sorted) held
 
 pub entries-map_of : (ps : List Pair) → IsTrue (is_sorted path_cmp ps) → finmap.entries (map_of ps) ≡ ps
 entries-map_of ps s = finmap.entries-from_sorted path_cmp ps (to_T _ s)
@@ -36,7 +31,7 @@ nothing_is_empty = finmap.empty_of_len _ (finmap.len-entries _ ∙ ap length (fi
 -- what stands behind is in order
 pub sorted_behind : (xs ys : List Pair) → IsTrue (is_sorted path_cmp (xs ++ ys)) → IsTrue (is_sorted path_cmp ys)
 sorted_behind [] ys s = s
-sorted_behind (x ∷ xs) ys s = sorted_behind xs ys (both_second (below_all path_cmp x.0 (xs ++ ys)) _ s)
+sorted_behind (x ∷ xs) ys s = sorted_behind xs ys (and_parts (below_all path_cmp x.0 (xs ++ ys)) _ s).1
 
 -- what is left out leaves the rest in order
 pub sorted_among : (p : PathParts → Bool) (es : List Pair) → IsTrue (is_sorted path_cmp es) → IsTrue (is_sorted path_cmp (filter (λ (e : Pair). p e.0) es))

@@ -1,6 +1,5 @@
 -- Equal lists of pairs.
 use Rattle.std.proofs.lemmas.List.{take_more}
-use Rattle.replica_store.proofs.Heads.{is_equal}
 use Rattle.std.proofs.Common.{◌≡◌, length, take, get_or, zero, suc, ℕ, ◌+◌, ◌<◌, true, List, [], ◌∷◌, ◌++◌, refl, sym, ap, ◌∙◌, arith}
 use Rattle.std.specs.Ordering.{is_eq}
 use Rattle.std.specs.Cmp.{tied_itself}
@@ -9,6 +8,7 @@ use Rattle.load_path.specs.PathLaws.{path_cmp_total, path_cmp-IsAntisymmetric}
 use Rattle.edit_sums.specs.Entries.{entry_cmp}
 use Rattle.edit_sums.specs.EntryLaws.{entry_cmp_total, entry_cmp-IsAntisymmetric}
 use Rattle.replica_store.specs.Merges.{Pair}
+use Rattle.list_laws.specs.Orderings.{is_equal}
 
 pub same_pair : (x y : Pair) → is_eq (path_cmp x.0 y.0) ≡ true → is_eq (entry_cmp x.1 y.1) ≡ true → x ≡ y
 same_pair x y p e =

@@ -7,13 +7,15 @@ use Rattle.std.specs.Cmp.Lexicographic.{slice_cmp, nat_list_cmp_total}
 use Rattle.std.specs.Ordering.{nat_cmp, ordering_then, is_eq, is_lt, is_le, is_gt}
 use Rattle.std.specs.declared.cmp.Ordering.{Ordering}
 use Rattle.std.specs.declared.cmp.Ordering.TheVariants.{Less, Equal, Greater}
-use Rattle.std.specs.FinMap.Entries.{is_sorted, below_all}
+use Rattle.std.specs.FinMap.Entries.{is_sorted}
 use Rattle.std.proofs.lemmas.Bool.Decides.{nat_tests}
 use Rattle.std.proofs.lemmas.Map.Text.{is_eq-slice_cmp}
 use Rattle.load_path.specs.Paths.{PathParts, path_cmp}
-use Rattle.sorted_pairs.specs.PlaceLaws.{both_first, both_second, is_less}
 use Rattle.replica_store.specs.Folders.{is_in, place_by}
 use Rattle.replica_store.specs.Merges.{Pair}
+use Rattle.std.proofs.lemmas.Bool.{and_parts}
+use Rattle.list_laws.specs.Orderings.{is_less}
+use Rattle.list_laws.specs.Searches.{below_at}
 
 -- what passes a test up to a place and fails it from there on
 module _ {X : Type 0} (p : X → Bool) where
@@ -80,18 +82,13 @@ gt_le Less h = refl
 gt_le Equal h = refl
 gt_le Greater h = cc (h)
 
-pub below_at : (x : PathParts) (es : List Pair) (j : ℕ) (d : Pair) → IsTrue (below_all path_cmp x es) → j < length es → path_cmp x (get_or es j d).0 ≡ Less
-below_at x [] j d h lt = absurd (omega arith)
-below_at x (e ∷ es) zero d h lt = is_less _ (both_first _ _ h)
-below_at x (e ∷ es) (suc j) d h lt = below_at x es j d (both_second _ _ h) (omega arith)
-
 -- a later path is in no earlier folder
 folders_rise : (es : List Pair) (i j : ℕ) (d : Pair) → IsTrue (is_sorted path_cmp es) → i ≤ j → j < length es → is_gt (folder_cmp (get_or es i d).0 (get_or es j d).0) ≡ false
 folders_rise [] i j d s le within = absurd (omega arith)
 folders_rise (e ∷ es) (suc i) zero d s le within = absurd (omega arith)
 folders_rise (e ∷ es) zero zero d s le within = ap is_gt (tied_itself folder_total e.0)
-folders_rise (e ∷ es) zero (suc j) d s le within = below_folder e.0 _ (below_at e.0 es j d (both_first _ _ s) (omega arith))
-folders_rise (e ∷ es) (suc i) (suc j) d s le within = folders_rise es i j d (both_second _ _ s) (omega arith) (omega arith)
+folders_rise (e ∷ es) zero (suc j) d s le within = below_folder e.0 _ (below_at path_cmp e.0 es j d (and_parts _ _ s).0 (omega arith))
+folders_rise (e ∷ es) (suc i) (suc j) d s le within = folders_rise es i j d (and_parts _ _ s).1 (omega arith) (omega arith)
 
 same_number : (a b : ℕ) (r : Ordering) → is_eq (ordering_then (nat_cmp a b) r) ≡ ((a == b) && is_eq r)
 same_number a b r = by (nat_cmp a b) refl

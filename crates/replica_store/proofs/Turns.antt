@@ -14,38 +14,40 @@ use Rattle.edit_sums.specs.Sums.{join, IsStoreBelow}
 use Rattle.edit_sums.specs.GreatestLaws.{get-join, same_path, tied}
 use Rattle.edit_sums.specs.SumLaws.{same_store}
 use Rattle.sorted_pairs.specs.Places.{AreBelow, IsNotBelow}
-use Rattle.sorted_pairs.specs.PlaceLaws.{both_first, both_second, is_less, below_append, below_further, find_behind, find_before}
+use Rattle.sorted_pairs.specs.PlaceLaws.{below_append, below_further, find_behind, find_before}
 use Rattle.replica_store.specs.Merges.{Pair, map_of, is_rise, IsBefore, changes_from, Merges}
 use Rattle.replica_store.proofs.Maps.{get-map_of, put_sorted}
 use Rattle.replica_store.proofs.Rises.{not_rise_below, rise_below}
 use Rattle.replica_store.proofs.Counts.{changed_more}
+use Rattle.std.proofs.lemmas.Bool.{and_parts}
+use Rattle.list_laws.specs.Orderings.{is_less}
 
 module _ (k : PathParts) (v : Entry) (left : List Pair) (s : IsTrue (is_sorted path_cmp ((k, v) ∷ left))) where
   -- what is left has nothing at the path
   not_left : find path_cmp k left ≡ None
-  not_left = by left (both_first _ _ s) (both_second (below_all path_cmp k left) _ s)
+  not_left = by left (and_parts _ _ s).0 (and_parts (below_all path_cmp k left) _ s).1
     where
       by : (es : List Pair) → IsTrue (below_all path_cmp k es) → IsTrue (is_sorted path_cmp es) → find path_cmp k es ≡ None
       by [] b t = refl
       by (e ∷ es) b t =
-          let less : path_cmp k e.0 ≡ Less = is_less _ (both_first _ _ b) in
-          ap (λ r. cond (is_eq r) (Some e.1) (find path_cmp k es)) less ∙ find_before path_cmp k path_cmp_total e.0 less es (both_first _ _ t)
+          let less : path_cmp k e.0 ≡ Less = is_less _ (and_parts _ _ b).0 in
+          ap (λ r. cond (is_eq r) (Some e.1) (find path_cmp k es)) less ∙ find_before path_cmp k path_cmp_total e.0 less es (and_parts _ _ t).0
 
   -- what is left is further on
   further : (passed : List Pair) → AreBelow path_cmp k passed → IsBefore passed left
-  further passed b = by left (both_first _ _ s)
+  further passed b = by left (and_parts _ _ s).0
     where
       by : (es : List Pair) → IsTrue (below_all path_cmp k es) → IsBefore passed es
       by [] h = tt
-      by (e ∷ es) h = below_further path_cmp path_cmp_total k e.0 (is_less _ (both_first _ _ h)) passed b
+      by (e ∷ es) h = below_further path_cmp path_cmp_total k e.0 (is_less _ (and_parts _ _ h).0) passed b
 
   further_with : (passed : List Pair) → AreBelow path_cmp k passed → IsBefore (passed ++ (k, v) ∷ []) left
-  further_with passed b = by left (both_first _ _ s)
+  further_with passed b = by left (and_parts _ _ s).0
     where
       by : (es : List Pair) → IsTrue (below_all path_cmp k es) → IsBefore (passed ++ (k, v) ∷ []) es
       by [] h = tt
       by (e ∷ es) h =
-          let less : path_cmp k e.0 ≡ Less = is_less _ (both_first _ _ h) in
+          let less : path_cmp k e.0 ≡ Less = is_less _ (and_parts _ _ h).0 in
           below_append path_cmp e.0 passed ((k, v) ∷ []) (below_further path_cmp path_cmp_total k e.0 less passed b) (less, tt)
 
   -- a path that is left is another one
@@ -75,7 +77,7 @@ module _ (k : PathParts) (v : Entry) (left : List Pair) (s : IsTrue (is_sorted p
     whole_without : is_rise (find path_cmp k es) v ≡ false → join (map_of es) (map_of left) ≡ join (map_of es) (map_of ((k, v) ∷ left))
     whole_without h = same_store _ _ (λ q.
         get-join (map_of es) (map_of left) q
-        ∙ (λ i. larger (get-map_of es q t i) (get-map_of left q (both_second (below_all path_cmp k left) _ s) i))
+        ∙ (λ i. larger (get-map_of es q t i) (get-map_of left q (and_parts (below_all path_cmp k left) _ s).1 i))
         ∙ at q (eq_by_cmp path_cmp q k) refl
         ∙ (λ i. larger (sym (get-map_of es q t) i) (sym (get-map_of ((k, v) ∷ left) q s) i))
         ∙ sym (get-join (map_of es) (map_of ((k, v) ∷ left)) q))
@@ -93,7 +95,7 @@ module _ (k : PathParts) (v : Entry) (left : List Pair) (s : IsTrue (is_sorted p
     whole_with : is_rise (find path_cmp k es) v ≡ true → join (map_of (put path_cmp k v es)) (map_of left) ≡ join (map_of es) (map_of ((k, v) ∷ left))
     whole_with h = same_store _ _ (λ q.
         get-join (map_of (put path_cmp k v es)) (map_of left) q
-        ∙ (λ i. larger ((get-map_of (put path_cmp k v es) q (put_sorted k v es t) ∙ find-put path_cmp path_cmp_total q k v es) i) (get-map_of left q (both_second (below_all path_cmp k left) _ s) i))
+        ∙ (λ i. larger ((get-map_of (put path_cmp k v es) q (put_sorted k v es t) ∙ find-put path_cmp path_cmp_total q k v es) i) (get-map_of left q (and_parts (below_all path_cmp k left) _ s).1 i))
         ∙ at q (eq_by_cmp path_cmp q k) refl
         ∙ (λ i. larger (sym (get-map_of es q t) i) (sym (get-map_of ((k, v) ∷ left) q s) i))
         ∙ sym (get-join (map_of es) (map_of ((k, v) ∷ left)) q))
@@ -143,7 +145,7 @@ module _ (first other passed rest : List Pair) (k : PathParts) (v : Entry) (left
       let small : is_rise (find path_cmp k (passed ++ rest)) v ≡ false = ap (λ y. is_rise y v) (sym found_here) ∙ h in
       record {
         sorted = subst (λ es. IsTrue (is_sorted path_cmp es)) (sym same) m.sorted;
-        left_sorted = both_second (below_all path_cmp k left) _ m.left_sorted;
+        left_sorted = (and_parts (below_all path_cmp k left) _ m.left_sorted).1;
         before = further k v left m.left_sorted passed' below;
         kept = subst (λ es. IsStoreBelow (map_of first) (map_of es)) (sym same) m.kept;
         whole = ap (λ es. join (map_of es) (map_of left)) same ∙ whole_without k v left m.left_sorted (passed ++ rest) m.sorted small ∙ m.whole;
@@ -159,7 +161,7 @@ module _ (first other passed rest : List Pair) (k : PathParts) (v : Entry) (left
       let great_first : is_rise (find path_cmp k first) v ≡ true = ap (λ y. is_rise y v) (sym found_first) ∙ great in
       record {
         sorted = subst (λ es. IsTrue (is_sorted path_cmp es)) (sym now) (put_sorted k v (passed ++ rest) m.sorted);
-        left_sorted = both_second (below_all path_cmp k left) _ m.left_sorted;
+        left_sorted = (and_parts (below_all path_cmp k left) _ m.left_sorted).1;
         before = subst (λ es. IsBefore es left) (sym is) (further_with k v left m.left_sorted passed' below);
         kept = subst (λ es. IsStoreBelow (map_of first) (map_of es)) (sym now) (λ q. below_trans _ (finmap.get (map_of (passed ++ rest)) q) _ (m.kept q) (kept_with k v left m.left_sorted (passed ++ rest) m.sorted great q));
         whole = ap (λ es. join (map_of es) (map_of left)) now ∙ whole_with k v left m.left_sorted (passed ++ rest) m.sorted great ∙ m.whole;

@@ -11,8 +11,6 @@ mod merges;
 mod replicas;
 mod scans;
 mod stores;
-#[cfg(test)]
-mod tests;
 
 pub use edit_sums::{Content, ContentFault, Edit, Entry, FileBytes, LinkTarget};
 pub use join_law::{Rest, Version};

@@ -1,5 +1,5 @@
 //! One pass that joins the entries of another store.
-ghost use Rattle.std.specs.Prelude.{◌≡◌, ◌+◌, ◌≤◌, ◌++◌, [], ◌∷◌, length, vec_len, vec_capacity, IsTrue, IfOk, OnOk, OnErr, IfErr, List, ℕ};
+ghost use Rattle.std.specs.Prelude.{◌≡◌, ◌+◌, ◌≤◌, ◌++◌, [], ◌∷◌, length, vec_len, vec_capacity, IsTrue, IsSome, IsOk, IfOk, OnOk, OnErr, IfErr, List, ℕ};
 ghost use Rattle.std.specs.VecDeque.{deque_len};
 ghost use Rattle.std.specs.FinMap.{is_sorted, find, put};
 ghost use Rattle.load_path.specs.Paths.{path_cmp};
@@ -16,7 +16,7 @@ use std::alloc::AllocError;
 use std::collections::VecDeque;
 use std::mem;
 
-// Joins one entry.
+// Joins one entry. Where its path is held, it takes no memory.
 pub fn join_one(
     entries: &mut Vec<(Path, Entry)>,
     path: Path,
@@ -26,6 +26,7 @@ pub fn join_one(
     ensures sorted { IsTrue (is_sorted path_cmp entries.new.items) }
     ensures ok { OnOk result (map_of entries.new.items ≡ with_edit (map_of entries.old.items) (edit_of (path, entry))) }
     ensures err { OnErr result (entries.new.items ≡ entries.old.items) }
+    ensures held { IsSome (find path_cmp path entries.old.items) → IsOk result }
 {
     match seek(entries, &path) {
         Ok(at) => {

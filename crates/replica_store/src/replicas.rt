@@ -95,12 +95,13 @@ impl Replica {
     /// written whether or not anything is visible. A search and at most one shift of the entries.
     ///
     /// It is refused as `VersionsSpent` exactly where `high` is the greatest counter, and else for
-    /// want of memory alone. A refusal changes nothing.
+    /// want of memory alone, and not even that at a path that is held. A refusal changes nothing.
     pub fn put(&mut self, path: Path, content: Content) -> Result<Version, EditFault>
         ensures version { IfOk result (λ version. version ≡ next_version self.old) }
         ensures joined { OnOk result (self.new ≡ with_put self.old (record { path = path; version = next_version self.old; content = content })) }
         ensures spent { IsErrOf result EditFault.VersionsSpent ↔ (high_of self.old.store ≡ u64.MAX) }
         ensures always { IsErrOf result EditFault.Nothing → ⊥ }
+        ensures held { IsSome (finmap.get self.old.store path) → IsErrOf result EditFault.Memory → ⊥ }
         ensures refused { OnErr result (self.new ≡ self.old) }
     {
         let Some(counter) = self.store.high().checked_add(1) else {
@@ -124,13 +125,14 @@ impl Replica {
     /// Removes what is visible at a path, under the next version. The removal is an entry that
     /// stays.
     ///
-    /// It is refused as `Nothing` exactly where nothing is visible, else as `put` is. A refusal
-    /// changes nothing.
+    /// It is refused as `Nothing` exactly where nothing is visible, else as `put` is. It takes no
+    /// memory, since the path is held. A refusal changes nothing.
     pub fn remove(&mut self, path: Path) -> Result<Version, EditFault>
         ensures version { IfOk result (λ version. version ≡ next_version self.old) }
         ensures joined { OnOk result (self.new ≡ with_put self.old (record { path = path; version = next_version self.old; content = Gone })) }
         ensures nothing { IsErrOf result EditFault.Nothing ↔ (visible_at self.old.store path ≡ None) }
         ensures spent { IsErrOf result EditFault.VersionsSpent ↔ (IsSome (visible_at self.old.store path) × (high_of self.old.store ≡ u64.MAX)) }
+        ensures without_memory { IsErrOf result EditFault.Memory → ⊥ }
         ensures refused { OnErr result (self.new ≡ self.old) }
     {
         if self.store.visible(&path).is_none() {

@@ -1,5 +1,5 @@
 //! Stores.
-ghost use Rattle.std.specs.Prelude.{◌≡◌, ◌↔◌, IsTrue, IfOk, OnOk, OnErr, IfErr, filter};
+ghost use Rattle.std.specs.Prelude.{◌≡◌, ◌↔◌, IsTrue, IsSome, IsOk, IfOk, OnOk, OnErr, IfErr, filter};
 ghost use Rattle.std.specs.Option.{option_copied, option_map, IfSome};
 ghost use Rattle.std.specs.FinMap as finmap;
 ghost use Rattle.std.specs.FinMap.{is_sorted};
@@ -173,10 +173,11 @@ impl Store {
     }
 
     /// Joins one edit. A search and at most one shift of the entries. Where memory is refused,
-    /// nothing has changed.
+    /// nothing has changed; at a path that is held it takes none.
     pub fn join_edit(&mut self, edit: Edit) -> Result<(), AllocError>
         ensures ok { OnOk result (self.new ≡ with_edit self.old edit) }
         ensures err { OnErr result (self.new ≡ self.old) }
+        ensures held { IsSome (finmap.get self.old edit.path) → IsOk result }
     {
         let Edit {
             path,

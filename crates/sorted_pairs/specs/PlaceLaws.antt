@@ -1,33 +1,15 @@
 -- What an edit at a place does to the pairs.
-use Rattle.std.specs.Prelude.{◌≡◌, ℕ, zero, suc, ◌<◌, ◌≤◌, List, [], ◌∷◌, ◌++◌, Some, None, Bool, true, false, cond, refl, length, ◌&&◌, IsTrue}
+use Rattle.std.specs.Prelude.{◌≡◌, ℕ, zero, suc, ◌<◌, ◌≤◌, List, [], ◌∷◌, ◌++◌, Some, None, false, cond, refl, length, IsTrue}
 use Rattle.std.specs.List.{insert}
 use Rattle.std.specs.Cmp.{IsTotalOrder}
-use Rattle.std.specs.Ordering.{is_eq, is_lt, ordering_reverse}
+use Rattle.std.specs.Ordering.{is_eq, is_lt}
 use Rattle.std.proofs.Common.{ap, sym, ◌∙◌, set, get_or, take, arith}
 use Rattle.std.specs.declared.cmp.Ordering.{Ordering}
-use Rattle.std.specs.declared.cmp.Ordering.TheVariants.{Less, Equal, Greater}
+use Rattle.std.specs.declared.cmp.Ordering.TheVariants.{Less}
 use Rattle.std.specs.FinMap.Entries.{find, put, is_sorted, by_order, below_all}
 use Rattle.sorted_pairs.specs.Places.{IsAt, IsGap, AreBelow, IsNotBelow}
-
-pub both_first : (a b : Bool) → IsTrue (a && b) → IsTrue a
-both_first true b p = refl
-both_first false b p = p
-
-pub both_second : (a b : Bool) → IsTrue (a && b) → IsTrue b
-both_second true b p = p
-both_second false b p = cc (p)
-
-pub both : (a b : Bool) → IsTrue a → IsTrue b → IsTrue (a && b)
-both true b p q = q
-both false b p q = cc (p)
-
-pub is_less : (r : Ordering) → IsTrue (is_lt r) → r ≡ Less
-is_less Less p = refl
-is_less Equal p = cc (p)
-is_less Greater p = cc (p)
-
-turned : {K : Type 0} (R : K → K → Ordering) (o : IsTotalOrder R) (k x : K) → R x k ≡ Less → R k x ≡ Greater
-turned R o k x h = o.antisymm k x ∙ ap ordering_reverse h
+use Rattle.std.proofs.lemmas.Bool.{and_parts}
+use Rattle.list_laws.specs.Orderings.{is_less, turned}
 
 module _ {K V : Type 0} (R : K → K → Ordering) (k : K) where
   pub at_within : (es : List (K × V)) (i : ℕ) → IsAt R k es i → i < length es
@@ -63,24 +45,24 @@ module _ {K V : Type 0} (R : K → K → Ordering) (k : K) where
   module _ (o : IsTotalOrder R) where
     pub find_before : (x : K) → R k x ≡ Less → (es : List (K × V)) → IsTrue (below_all R x es) → find R k es ≡ None
     find_before x p [] h = refl
-    find_before x p (e ∷ es) h = ap (λ r. cond (is_eq r) (Some e.1) (find R k es)) (o.trans k x e.0 p (is_less _ (both_first _ _ h))) ∙ find_before x p es (both_second _ _ h)
+    find_before x p (e ∷ es) h = ap (λ r. cond (is_eq r) (Some e.1) (find R k es)) (o.trans k x e.0 p (is_less _ (and_parts _ _ h).0)) ∙ find_before x p es (and_parts _ _ h).1
 
     -- nothing is found at a gap
     pub find_gap : (es : List (K × V)) (i : ℕ) → IsTrue (is_sorted R es) → IsGap R k es i → find R k es ≡ None
     find_gap [] i s g = refl
-    find_gap (e ∷ es) zero s g = ap (λ r. cond (is_eq r) (Some e.1) (find R k es)) g ∙ find_before e.0 g es (both_first _ _ s)
-    find_gap (e ∷ es) (suc i) s g = ap (λ r. cond (is_eq r) (Some e.1) (find R k es)) g.0 ∙ find_gap es i (both_second _ _ s) g.1
+    find_gap (e ∷ es) zero s g = ap (λ r. cond (is_eq r) (Some e.1) (find R k es)) g ∙ find_before e.0 g es (and_parts _ _ s).0
+    find_gap (e ∷ es) (suc i) s g = ap (λ r. cond (is_eq r) (Some e.1) (find R k es)) g.0 ∙ find_gap es i (and_parts _ _ s).1 g.1
 
     -- behind lesser pairs the place is that in what follows
     pub put_behind : (xs ys : List (K × V)) (v : V) → AreBelow R k xs → put R k v (xs ++ ys) ≡ xs ++ put R k v ys
     put_behind [] ys v b = refl
     put_behind (x ∷ xs) ys v b =
-        ap (λ r. by_order r ((k, v) ∷ x ∷ xs ++ ys) ((x.0, v) ∷ (xs ++ ys)) (x ∷ put R k v (xs ++ ys))) (turned R o k x.0 b.0) ∙
+        ap (λ r. by_order r ((k, v) ∷ x ∷ xs ++ ys) ((x.0, v) ∷ (xs ++ ys)) (x ∷ put R k v (xs ++ ys))) (turned R o x.0 k Less b.0) ∙
         ap (λ (l : List (K × V)). x ∷ l) (put_behind xs ys v b.1)
 
     pub find_behind : (xs ys : List (K × V)) → AreBelow R k xs → find R k (xs ++ ys) ≡ find R k ys
     find_behind [] ys b = refl
-    find_behind (x ∷ xs) ys b = ap (λ r. cond (is_eq r) (Some x.1) (find R k (xs ++ ys))) (turned R o k x.0 b.0) ∙ find_behind xs ys b.1
+    find_behind (x ∷ xs) ys b = ap (λ r. cond (is_eq r) (Some x.1) (find R k (xs ++ ys))) (turned R o x.0 k Less b.0) ∙ find_behind xs ys b.1
 
   pub below_append : (xs ys : List (K × V)) → AreBelow R k xs → AreBelow R k ys → AreBelow R k (xs ++ ys)
   below_append [] ys b c = c

@@ -61,6 +61,18 @@ pub fn edits(alloc: Global, words: &mut Words) -> Result<Vec<Edit>, CallFault> {
     Ok(edits)
 }
 
+/// The paths that words write, up to the word `+` or to the end.
+pub fn paths(alloc: Global, words: &mut Words) -> Result<Vec<Path>, CallFault> {
+    let mut paths = Vec::new(alloc);
+    for _ in 0..words.count() {
+        if words.takes(b"+") {
+            break;
+        }
+        paths.push(words.path()?)?;
+    }
+    Ok(paths)
+}
+
 /// The store of edits that words write, up to the word `+` or to the end.
 pub fn store(alloc: Global, words: &mut Words) -> Result<Store, CallFault> {
     let edits = edits(alloc, words)?;
@@ -93,6 +105,14 @@ pub fn append_content(out: &mut Vec<u8>, content: &Content) -> Result<(), AllocE
     }
 }
 
+/// Writes an edit.
+pub fn append_edit(alloc: Global, out: &mut Vec<u8>, edit: &Edit) -> Result<(), AllocError> {
+    append_version(alloc, out, edit.version)?;
+    out.push(b':')?;
+    append_path(out, &edit.path)?;
+    append_content(out, &edit.content)
+}
+
 // Writes an entry with its path.
 fn append_entry(
     alloc: Global,
@@ -120,6 +140,13 @@ pub fn append_store(alloc: Global, out: &mut Vec<u8>, store: &Store) -> Result<(
         append_entry(alloc, out, path, entry)?;
     }
     Ok(())
+}
+
+/// What a store holds, as an answer.
+pub fn told(alloc: Global, store: &Store) -> Result<Vec<u8>, CallFault> {
+    let mut out = Vec::new(alloc);
+    append_store(alloc, &mut out, store)?;
+    Ok(out)
 }
 
 /// Writes paths, parted by spaces.

@@ -5,12 +5,18 @@
 #![tactic(auto)]
 
 mod calls;
+mod contents;
 mod edits;
 mod names;
 mod orders;
 mod paths;
 mod script_lines;
 mod sections;
+mod joins;
+mod pieces;
+mod replicas;
+mod stores;
+mod worlds;
 
 use calls::{CallFault, Words};
 use script_pipes::{Watched, read_all, write_all};
@@ -28,6 +34,13 @@ fn answer(alloc: Global, line: &[u8]) -> Result<Vec<u8>, CallFault> {
         b"name" => names::answer(alloc, &mut words),
         b"section" => sections::answer(alloc, &mut words),
         b"script" => script_lines::answer(alloc, &mut words),
+        b"version" => joins::answer(alloc, &mut words),
+        b"content" => contents::answer(alloc, &mut words),
+        b"store" => stores::answer(alloc, &mut words),
+        b"replica" => replicas::answer(alloc, &mut words),
+        b"piece" => pieces::answer(alloc, &mut words),
+        b"digest" => pieces::answer_digest(alloc, &mut words),
+        b"world" => worlds::answer(alloc, &mut words),
         _ => Err(CallFault::Line),
     }
 }

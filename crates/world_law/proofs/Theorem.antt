@@ -9,7 +9,7 @@ use Rattle.world_law.specs.declared.events.Event.TheVariants.{Put, Ask, Cut, Giv
 use Rattle.world_law.specs.Worlds.{Node, after, blank, puts_of, EachStoreIsItsSum, SameTookSameStore, AreSameEdits}
 use Rattle.world_law.specs.SoundLaws.{IsSound, blank_sound, after_keeps}
 
-IfSome_from : (o : Option Node) (P : Node → Type 0) → ((n : Node) → o ≡ Some n → P n) → IfSome o P
+pub IfSome_from : (o : Option Node) (P : Node → Type 0) → ((n : Node) → o ≡ Some n → P n) → IfSome o P
 IfSome_from None P h = tt
 IfSome_from (Some n) P h = h n refl
 

@@ -3,11 +3,12 @@ use Rattle.std.proofs.Common.{◌≡◌, ℕ, zero, suc, ◌<◌, ◌≤◌, ◌
 use Rattle.std.specs.Prelude.{slice_get, replicate, ◌==◌, IsSome, IfSome, filter, reverse}
 use borrow.Author.Tests.{eqb-true, eq-eqb}
 use Rattle.std.proofs.lemmas.Grind.{reverse_onto}
+use Rattle.std.proofs.lemmas.List.{append-nil}
 use Rattle.std.specs.FinMap as finmap
 use Rattle.edit_sums.specs.declared.entries.Entry.{Entry}
 use Rattle.edit_sums.specs.declared.entries.Edit.{Edit}
 use Rattle.edit_sums.specs.Entries.{IsBelow}
-use Rattle.world_law.proofs.Theorem.{each_store_is_its_sum}
+use Rattle.world_law.proofs.Theorem.{each_store_is_its_sum, IfSome_from}
 use Rattle.load_path.specs.Paths.{PathParts}
 use Rattle.edit_sums.specs.Sums.{EntryMap, IsAmong, edits_of, entry_of, edit_of, sum_of}
 use Rattle.world_law.specs.Cuts.{is_asked, at_paths, cut}
@@ -16,7 +17,7 @@ use Rattle.world_law.specs.declared.events.Event.{Event}
 use Rattle.world_law.specs.declared.events.Event.TheVariants.{Put, Ask, Cut, Give}
 use Rattle.world_law.specs.Worlds.{Node, Asked, Piece, World, taken, changed_at, asked_by, cut_for, edits_with, given_to, after, blank, took, took_by}
 use Rattle.world_law.specs.WorldLaws.{node_count, piece_stays, took_stays, slice_get_last}
-use Rattle.world_law.specs.Took.{world_of, WasCut, IsAskOf, Took, IsSumOf, HoldsTheSum}
+use Rattle.world_law.specs.Took.{world_of, WasCut, IsAskOf, Took, IsSumOf, HoldsTheSum, TookAsTold}
 use Rattle.world_law.specs.Took.Took.{put, entry, whole, stays}
 
 -- one node changes
@@ -86,10 +87,6 @@ asked_pieces w i (Some n) = refl
 given_pieces : (w : World) (k : ℕ) (o : Option Piece) → (given_to w k o).pieces ≡ w.pieces
 given_pieces w k None = refl
 given_pieces w k (Some p) = refl
-
-append-nothing : (es : List Event) → es ++ [] ≡ es
-append-nothing [] = refl
-append-nothing (e ∷ es) = ap (λ (xs : List Event). e ∷ xs) (append-nothing es)
 
 reverse-onto : (event : Event) (events history : List Event) → reverse (event ∷ events) ++ history ≡ reverse events ++ event ∷ history
 reverse-onto event events history = ap (λ es. es ++ history) (reverse_onto events event []) ∙ append_assoc (reverse events) (event ∷ []) history
@@ -243,11 +240,11 @@ module _ (n : ℕ) where
       after_onto events (event ∷ history) ∙ ap (world_of n) (sym (reverse-onto event events history))
 
   after_is : (events : List Event) → after events (blank n) ≡ world_of n (reverse events)
-  after_is events = after_onto events [] ∙ ap (world_of n) (append-nothing (reverse events))
+  after_is events = after_onto events [] ∙ ap (world_of n) (append-nil (reverse events))
 
-  IfSome_from : (o : Option Node) (P : Node → Type 0) → ((node : Node) → o ≡ Some node → P node) → IfSome o P
-  IfSome_from None P h = tt
-  IfSome_from (Some node) P h = h node refl
+  pub took_as_told : (events : List Event) → TookAsTold n events
+  took_as_told events k e =
+      subst (λ (w : World). IsAmong e (took w k) ↔ Took n (reverse events) k e) (sym (after_is events)) (took_is (reverse events) k e)
 
   IfSome_at : (o : Option Node) (P : Node → Type 0) (node : Node) → o ≡ Some node → IfSome o P → P node
   IfSome_at o P node is h = let Q : Option Node → Type 0 = λ x. IfSome x P in subst Q is h

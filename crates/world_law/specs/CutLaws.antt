@@ -15,7 +15,7 @@ use Rattle.edit_sums.specs.Contents.{content_cmp}
 use Rattle.edit_sums.specs.Entries.{IsBelow, larger}
 use Rattle.edit_sums.specs.EntryLaws.{below_refl, larger-absorb}
 use Rattle.edit_sums.specs.Sums.{EntryMap, entry_of, edit_of, IsHonest, greatest_at, edits_of, join}
-use Rattle.edit_sums.specs.GreatestLaws.{tied, passed, get-sum_of, get-join, greatest_at-filter, IsAmong-append_left, IsAmong-append_right}
+use Rattle.edit_sums.specs.GreatestLaws.{tied, passed, get-sum_of, get-join, greatest_at-filter, IsAmong-append_left, IsAmong-append_right, passed_was}
 use Rattle.edit_sums.specs.SumLaws.{same_store}
 use Rattle.edit_sums.specs.CounterLaws.{edits_of-found}
 use Rattle.world_law.specs.Cuts.{VersionMap, digest_of, is_newer, is_asked, at_paths, is_wanted, cut, only_at}
@@ -56,11 +56,6 @@ greatest_at-at_paths paths q (e ∷ es) =
         | false ↦ refl
       ] ∙ rest
     ] refl
-
-passed_was : (p : Edit → Bool) (q : PathParts) (y : Option Entry) (x : Entry) → passed p q y ≡ Some x → y ≡ Some x
-passed_was p q None x h = cc
-passed_was p q (Some y) x h =
-    elim (p (edit_of (q, y))) as (λ b. cond b (Some y) None ≡ Some x → Some y ≡ Some x) [ true ↦ λ k. k | false ↦ λ k. cc ] h
 
 -- a cut has nothing that the store has not
 pub get_from_cut : (s : EntryMap) (ask : VersionMap) (paths : Option (List PathParts)) (q : PathParts) (x : Entry) → finmap.get (cut s ask paths) q ≡ Some x → finmap.get s q ≡ Some x

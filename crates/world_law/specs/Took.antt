@@ -1,5 +1,5 @@
 -- What a node took, told from the events alone.
-use Rattle.std.specs.Prelude.{◌≡◌, ℕ, ◌<◌, true, Option, Some, List, [], ◌∷◌, ◌++◌, length, reverse, slice_get, IsSome, IfSome}
+use Rattle.std.specs.Prelude.{◌≡◌, ℕ, ◌<◌, true, Option, Some, List, [], ◌∷◌, ◌++◌, ◌↔◌, length, reverse, slice_get, IsSome, IfSome}
 use Rattle.std.specs.FinMap as finmap
 use Rattle.edit_sums.specs.declared.entries.Entry.{Entry}
 use Rattle.edit_sums.specs.declared.entries.Edit.{Edit}
@@ -9,7 +9,7 @@ use Rattle.edit_sums.specs.Sums.{EntryMap, IsAmong, IsHonest, edits_of, edit_of,
 use Rattle.world_law.specs.Cuts.{is_asked}
 use Rattle.world_law.specs.declared.events.Event.{Event}
 use Rattle.world_law.specs.declared.events.Event.TheVariants.{Put, Cut, Give}
-use Rattle.world_law.specs.Worlds.{World, Asked, Piece, happens, after, blank, puts_of}
+use Rattle.world_law.specs.Worlds.{World, Asked, Piece, happens, after, blank, puts_of, took}
 
 -- a world of so many nodes after a history: its events, the newest first
 abbrev pub world_of : ℕ → List Event → World
@@ -49,3 +49,7 @@ pub record IsSumOf (T : Edit → Type 0) (s : EntryMap) : Type 0 where
 abbrev pub HoldsTheSum : ℕ → List Event → Type 0
 HoldsTheSum n events =
     IsHonest (puts_of n events) → (k : ℕ) → IfSome (slice_get (after events (blank n)).nodes k) (λ node. IsSumOf (Took n (reverse events) k) node.store)
+
+-- what node k took is the same, told as a list and as a relation
+abbrev pub TookAsTold : ℕ → List Event → Type 0
+TookAsTold n events = (k : ℕ) (e : Edit) → IsAmong e (took (after events (blank n)) k) ↔ Took n (reverse events) k e

@@ -4,7 +4,7 @@ ghost use Rattle.edit_sums.specs.Sums.{EntryMap, IsHonest, edits_of, join};
 ghost use Rattle.world_law.specs.declared.events.Event.{Event};
 ghost use Rattle.world_law.specs.Cuts.{cut, digest_of};
 ghost use Rattle.world_law.specs.Worlds.{EachStoreIsItsSum, SameTookSameStore};
-ghost use Rattle.world_law.specs.Took.{HoldsTheSum};
+ghost use Rattle.world_law.specs.Took.{HoldsTheSum, TookAsTold};
 
 /// Whatever happens, each node's store is the sum of what it took, and nodes that took the same
 /// hold the same, at any two moments: if the edits that are put are honest, which is to say that no
@@ -20,4 +20,10 @@ pub fn converges()
 /// Where no version stands for two edits, a whole answer to one's own ask has all that one lacks.
 pub fn whole_answers()
     ensures whole { (s t : EntryMap) → IsHonest (edits_of s ++ edits_of t) → join s (cut t (digest_of s) None) ≡ join s t }
+{}
+
+/// What a node took is told in two ways, and both say the same: as a list that grows with each
+/// event, and as a relation on the events.
+pub fn took_as_told()
+    ensures same { (nodes : ℕ) (events : List Event) → TookAsTold nodes events }
 {}

@@ -10,4 +10,4 @@ mod events;
 mod laws;
 
 pub use events::{Event, Paths};
-pub use laws::{converges, whole_answers};
+pub use laws::{converges, took_as_told, whole_answers};

@@ -1,11 +1,11 @@
 use Rattle.edit_sums.specs.Sums.{join}
-use Rattle.edit_sums.specs.SumLaws.{join-left}
-use Rattle.delta_gossip.proofs.Joins.{on_err, store_refl, join_again, joined_within, joined_again}
+use Rattle.edit_sums.specs.SumLaws.{store_below_refl, join-left}
+use Rattle.delta_gossip.proofs.Joins.{on_err, join_again, joined_within, joined_again}
 use Rattle.edit_sums.specs.SumLaws.{join-right}
 use Rattle.delta_gossip.proofs.exchanges.exchange.Goals as goal
 
 pub returns-in_err-first-clause-second_kept : goal.returns-in_err-first-clause-second_kept
-returns-in_err-first-clause-second_kept c = on_err _ (store_refl c.args.b.now.store)
+returns-in_err-first-clause-second_kept c = on_err _ (store_below_refl c.args.b.now.store)
 
 pub returns-in_err-first-clause-second_within : goal.returns-in_err-first-clause-second_within
 returns-in_err-first-clause-second_within c = on_err _ (join-right c.args.a.now.store c.args.b.now.store)
@@ -16,7 +16,7 @@ returns-in_err-second-clause-first_kept c =
 
 pub returns-in_err-second-clause-first_within : goal.returns-in_err-second-clause-first_within
 returns-in_err-second-clause-first_within c =
-    rw (c.in_ok-first.ensures.ok, c.store.ensures.store) (on_err _ (store_refl (join c.args.a.now.store c.args.b.now.store)))
+    rw (c.in_ok-first.ensures.ok, c.store.ensures.store) (on_err _ (store_below_refl (join c.args.a.now.store c.args.b.now.store)))
 
 pub returns-in_err-second-clause-second_within : goal.returns-in_err-second-clause-second_within
 returns-in_err-second-clause-second_within c =

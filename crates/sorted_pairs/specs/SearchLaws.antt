@@ -1,0 +1,32 @@
+-- What a binary search among sorted pairs finds.
+use Rattle.std.proofs.Common.{◌≡◌, ℕ, zero, suc, ◌<◌, ◌≤◌, List, [], ◌∷◌, length, get_or, Result, Ok, Err, IfOk, IfErr, IsTrue, arith}
+use Rattle.std.proofs.lemmas.Bool.{and_parts}
+use Rattle.std.specs.List.{AllWithin}
+use Rattle.std.specs.List.Sorted.{IsSearchInRange, IsBinarySearchResult}
+use Rattle.std.specs.Cmp.{IsTotalOrder}
+use Rattle.std.specs.declared.cmp.Ordering.{Ordering}
+use Rattle.std.specs.declared.cmp.Ordering.TheVariants.{Less, Equal, Greater}
+use Rattle.std.specs.FinMap.Entries.{is_sorted}
+use Rattle.list_laws.specs.Orderings.{turned}
+use Rattle.list_laws.specs.Searches.{below_at, above_lesser, comparisons_rise}
+use Rattle.sorted_pairs.specs.Places.{IsAt, IsGap}
+
+module _ {K V : Type 0} (R : K → K → Ordering) (o : IsTotalOrder R) (k : K) where
+  at_from : (es : List (K × V)) (i : ℕ) → IsTrue (is_sorted R es) → i < length es → ((d : K × V) → R (get_or es i d).0 k ≡ Equal) → IsAt R k es i
+  at_from [] i s lt h = absurd (omega arith)
+  at_from (e ∷ es) zero s lt h = turned R o e.0 k Equal (h e)
+  at_from (e ∷ es) (suc i) s lt h =
+      (above_lesser R o k e.0 (get_or es i e).0 (below_at R e.0 es i e (and_parts _ _ s).0 (omega arith)) (h e), at_from es i (and_parts _ _ s).1 (omega arith) h)
+
+  gap_from : (es : List (K × V)) (i : ℕ) → i ≤ length es → AllWithin (λ (e : K × V). R e.0 k ≡ Less) es 0 i → AllWithin (λ (e : K × V). R e.0 k ≡ Greater) es i (length es) → IsGap R k es i
+  gap_from [] zero le a b = tt
+  gap_from [] (suc i) le a b = absurd (omega arith)
+  gap_from (e ∷ es) zero le a b = turned R o e.0 k Greater (b 0 e (omega arith) (omega arith))
+  gap_from (e ∷ es) (suc i) le a b = (
+    turned R o e.0 k Less (a 0 e (omega arith) (omega arith)),
+    gap_from es i (omega arith) (λ j d lo hi. a (suc j) d (omega arith) (omega arith)) (λ j d lo hi. b (suc j) d (omega arith) (omega arith)),
+  )
+
+  pub search_finds : (es : List (K × V)) (r : Result ℕ ℕ) → IsTrue (is_sorted R es) → IsSearchInRange r (length es) → IsBinarySearchResult (λ (e : K × V). R e.0 k) es r → IfOk r (IsAt R k es) × IfErr r (IsGap R k es)
+  search_finds es (Ok i) s range found = (at_from es i s range found, tt)
+  search_finds es (Err i) s range parted = let p = parted (comparisons_rise R o k es s) in (tt, gap_from es i range p.0 p.1)
