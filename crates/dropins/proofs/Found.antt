@@ -19,7 +19,8 @@ use Rattle.replica_store.specs.Folders.{is_in}
 use Rattle.dropins.specs.declared.takes.Candidate.{Candidate}
 use Rattle.dropins.specs.declared.takes.Search.{Search}
 use Rattle.dropins.specs.Taken.{as_found, candidate_at}
-use Rattle.dropins.specs.Walks.{path, first_said}
+use Rattle.list_laws.specs.FirstSaid.{first_said}
+use Rattle.dropins.specs.Walks.{path}
 use Rattle.dropins.proofs.Firsts.{said_among}
 
 is_equal : (r : Ordering) → is_eq r ≡ true → r ≡ Equal

@@ -1,7 +1,7 @@
 -- Laws of the walk: what it finds first for a file name is what is taken for it, and nothing else is.
 use Rattle.std.proofs.Common.{◌≡◌, ℕ, zero, suc, ◌<◌, ◌≤◌, Bool, true, false, cond, Option, Some, None, List, [], ◌∷◌, length, get_or, refl, ap, sym, ◌∙◌, subst, inl, inr, arith}
 use Rattle.std.specs.Prelude.{◌↔◌, ◌⊎◌, slice_get}
-use Rattle.std.specs.Option.{option_or, option_and_then}
+use Rattle.std.specs.Option.{option_and_then}
 use Rattle.std.proofs.lemmas.Bool.{cases_lt}
 use Rattle.std.proofs.lemmas.Option.{none-some, same_Some, slice_get-get_or, get_or_from_slice_get, slice_get_within}
 use Rattle.load_path.specs.Paths.{PathParts}
@@ -13,39 +13,8 @@ use Rattle.dropins.specs.declared.takes.Candidate.TheVariants.{Mask, At}
 use Rattle.dropins.specs.declared.takes.Search.{Search}
 use Rattle.dropins.specs.declared.takes.Search.TheVariants.{DropIns, Links}
 use Rattle.dropins.specs.Taken.{is_conf, is_null, content_as_drop_in, as_found, candidate_at, Stands, IsTaken, TakenFor}
-use Rattle.dropins.specs.Walks.{path, first_said, taken_in, ranks, taken}
-
--- ---- the first of a list that has something to say, by its place
-
-pub record IsFirst {A B : Type 0} (g : A → Option B) (xs : List A) (d : A) (v : B) : Type 0 where
-  pub place : ℕ
-  pub within : place < length xs
-  pub says : g (get_or xs place d) ≡ Some v
-  pub before : (i : ℕ) → i < place → g (get_or xs i d) ≡ None
-
-pub first_is : {A B : Type 0} (g : A → Option B) (xs : List A) (d : A) (v : B) → first_said g xs ≡ Some v → IsFirst g xs d v
-first_is g [] d v h = absurd (none-some _ h)
-first_is {A} {B} g (x ∷ xs) d v h = step (g x) refl (first_is g xs d v) h
-  where
-    later : g x ≡ None → IsFirst g xs d v → IsFirst g (x ∷ xs) d v
-    later e m = record { place = suc m.place; within = omega (arith, m.within); says = m.says; before = before }
-      where
-        before : (i : ℕ) → i < suc m.place → g (get_or (x ∷ xs) i d) ≡ None
-        before zero l = e
-        before (suc i) l = m.before i (omega arith)
-
-    step : (o : Option B) → g x ≡ o → (first_said g xs ≡ Some v → IsFirst g xs d v) → option_or o (first_said g xs) ≡ Some v → IsFirst g (x ∷ xs) d v
-    step None e more t = later e (more t)
-    step (Some w) e more t = record { place = 0; within = omega arith; says = e ∙ t; before = λ i l. absurd (omega arith) }
-
-pub none_says : {A B : Type 0} (g : A → Option B) (xs : List A) (d : A) → first_said g xs ≡ None → (i : ℕ) → i < length xs → g (get_or xs i d) ≡ None
-none_says g [] d h i l = absurd (omega arith)
-none_says {A} {B} g (x ∷ xs) d h i l = step (g x) refl (none_says g xs d) h i l
-  where
-    step : (o : Option B) → g x ≡ o → (first_said g xs ≡ None → (j : ℕ) → j < length xs → g (get_or xs j d) ≡ None) → option_or o (first_said g xs) ≡ None → (j : ℕ) → j < length (x ∷ xs) → g (get_or (x ∷ xs) j d) ≡ None
-    step None e more t zero m = e
-    step None e more t (suc j) m = more t j (omega arith)
-    step (Some w) e more t j m = absurd (none-some _ (sym t))
+use Rattle.dropins.specs.Walks.{path, taken_in, ranks, taken}
+use Rattle.list_laws.specs.FirstSaid.{IsFirst, first_is, none_says}
 
 rank_is : (r : ℕ) → r < 4 → get_or ranks r 0 ≡ r
 rank_is zero h = refl

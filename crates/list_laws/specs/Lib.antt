@@ -1,1 +1,4 @@
 pub mod Cuts
+pub mod FirstSaid
+pub mod Members
+pub mod Rising

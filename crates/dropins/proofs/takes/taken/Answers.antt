@@ -2,7 +2,8 @@ use Rattle.std.proofs.Common.{arith, None}
 use Rattle.std.specs.BTreeMap.{get}
 use Rattle.unit_name.specs.Names.{name_cmp}
 use Rattle.dropins.specs.Walks.{ranks, taken_in}
-use Rattle.dropins.proofs.Firsts.{said_more, rank_at}
+use Rattle.list_laws.specs.FirstSaid.{said_more}
+use Rattle.dropins.proofs.Firsts.{rank_at}
 use Rattle.dropins.proofs.takes.taken.Goals as goal
 
 pub loop-rank-preserved : goal.loop-rank-preserved
