@@ -12,6 +12,3 @@ pub use choices::{Cause, Choice, choose};
 pub use laws::{bad_link_laws, choice_laws, link_laws, resolution_laws, unit_laws};
 pub use names::names_of;
 pub use resolutions::{Resolution, resolve};
-
-#[cfg(test)]
-mod tests;

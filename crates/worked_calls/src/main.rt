@@ -5,8 +5,11 @@
 #![tactic(auto)]
 
 mod calls;
+mod choices;
+mod drop_ins;
 mod edits;
 mod paths;
+mod placed;
 
 use calls::{CallFault, Words};
 use script_pipes::{Watched, read_all, write_all};
@@ -21,6 +24,8 @@ fn answer(alloc: Global, line: &[u8]) -> Result<Vec<u8>, CallFault> {
     let mut words = Words::new(alloc, rest);
     match subject {
         b"path" => paths::answer(alloc, &mut words),
+        b"fragment" => choices::answer(alloc, &mut words),
+        b"dropins" => drop_ins::answer(alloc, &mut words),
         _ => Err(CallFault::Line),
     }
 }
