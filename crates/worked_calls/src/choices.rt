@@ -1,6 +1,7 @@
 //! Calls on what stands for a unit: the store in words, `+`, and the unit's name.
 use crate::calls::{CallFault, Words, append_path};
-use crate::placed::{append_names, store};
+use crate::edits::store;
+use crate::name_lists::append_names;
 use fragment_choice::{Choice, choose, names_of, resolve};
 use replica_store::Store;
 use std::alloc::{AllocError, Global};

@@ -1,7 +1,7 @@
 //! Calls on the folders, the drop-ins and the link folders of units: the store in words, `+`, and the unit's names.
 use crate::calls::{CallFault, Words};
-use crate::edits::append_paths;
-use crate::placed::{append_names, names, store};
+use crate::edits::{append_paths, store};
+use crate::name_lists::{append_names, names};
 use dropins::{Folder, folders, links, order};
 use std::alloc::Global;
 

@@ -8,8 +8,8 @@ mod calls;
 mod choices;
 mod drop_ins;
 mod edits;
+mod name_lists;
 mod paths;
-mod placed;
 
 use calls::{CallFault, Words};
 use script_pipes::{Watched, read_all, write_all};
