@@ -1,8 +1,7 @@
 -- The first that says something.
-use Rattle.std.proofs.Common.{◌≡◌, ℕ, zero, suc, ◌<◌, Bool, true, false, cond, ◌&&◌, ◌||◌, Option, Some, None, List, ◌∷◌, get_or, refl, ap, ◌∙◌, arith}
+use Rattle.std.proofs.Common.{◌≡◌, Bool, true, false, cond, ◌&&◌, ◌||◌, Option, Some, None, List, ◌∷◌, refl, ap, ◌∙◌}
 use Rattle.std.specs.Option.{option_or}
 use Rattle.list_laws.specs.FirstSaid.{first_said, or_none}
-use Rattle.dropins.specs.Walks.{ranks}
 
 module _ {B : Type 0} where
   or_again : (b : Bool) (a : Option B) → option_or a (cond b a None) ≡ a
@@ -16,10 +15,3 @@ module _ {A B : Type 0} where
   said_among g k rest true true a w c says same h = ap (λ o. option_or o (first_said g rest)) (says ∙ same refl refl) ∙ ap (option_or c) h ∙ or_again a c
   said_among g k rest true false a w c says same h = ap (λ o. option_or o (first_said g rest)) says ∙ h
   said_among g k rest false n a w c says same h = h
-
-pub rank_at : (r : ℕ) → r < 4 → r ≡ get_or ranks r r
-rank_at zero h = refl
-rank_at (suc zero) h = refl
-rank_at (suc (suc zero)) h = refl
-rank_at (suc (suc (suc zero))) h = refl
-rank_at (suc (suc (suc (suc r)))) h = absurd (omega arith)

@@ -16,12 +16,13 @@ use Rattle.dropins.specs.Taken.{is_conf, is_null, content_as_drop_in, as_found, 
 use Rattle.dropins.specs.Walks.{path, taken_in, ranks, taken}
 use Rattle.list_laws.specs.FirstSaid.{IsFirst, first_is, none_says}
 
-rank_is : (r : ℕ) → r < 4 → get_or ranks r 0 ≡ r
-rank_is zero h = refl
-rank_is (suc zero) h = refl
-rank_is (suc (suc zero)) h = refl
-rank_is (suc (suc (suc zero))) h = refl
-rank_is (suc (suc (suc (suc r)))) h = absurd (omega arith)
+-- each rank stands at its own place
+pub rank_is : (r d : ℕ) → r < 4 → get_or ranks r d ≡ r
+rank_is zero d h = refl
+rank_is (suc zero) d h = refl
+rank_is (suc (suc zero)) d h = refl
+rank_is (suc (suc (suc zero))) d h = refl
+rank_is (suc (suc (suc (suc r)))) d h = absurd (omega arith)
 
 -- ---- a candidate that is a path stands at that path
 
@@ -74,7 +75,7 @@ module _ (s : EntryMap) (x : Search) (ds : List (List ℕ)) where
   pub none_stands : (f : List ℕ) → taken s x ds f ≡ None → (c : Candidate) (p : PathParts) (i : ℕ) → Stands s x ds c p i → p.name ≡ f → ⊥
   none_stands f h c p i st e =
       let folder = get_or_from_slice_get ds i p.folder [] st.folder_is in
-      let none = none_says (λ d. candidate_at s x (path p.rank d f)) ds [] (ap (taken_in s x ds f) (sym (rank_is p.rank st.rank_within)) ∙ none_says (taken_in s x ds f) ranks 0 h p.rank st.rank_within) i (slice_get_within ds i p.folder st.folder_is) in
+      let none = none_says (λ d. candidate_at s x (path p.rank d f)) ds [] (ap (taken_in s x ds f) (sym (rank_is p.rank 0 st.rank_within)) ∙ none_says (taken_in s x ds f) ranks 0 h p.rank st.rank_within) i (slice_get_within ds i p.folder st.folder_is) in
       none-some _ (sym none ∙ ap (candidate_at s x) (sym (parts p p.rank (get_or ds i []) f refl (sym folder) e)) ∙ st.says)
 
 -- what is found first is taken
@@ -83,10 +84,10 @@ module _ (s : EntryMap) (x : Search) (ds : List (List ℕ)) (f : List ℕ) (c : 
   first_rank = first_is (taken_in s x ds f) ranks 0 c h
 
   first_folder : IsFirst (λ d. candidate_at s x (path first_rank.place d f)) ds [] c
-  first_folder = first_is (λ d. candidate_at s x (path first_rank.place d f)) ds [] c (ap (taken_in s x ds f) (sym (rank_is first_rank.place first_rank.within)) ∙ first_rank.says)
+  first_folder = first_is (λ d. candidate_at s x (path first_rank.place d f)) ds [] c (ap (taken_in s x ds f) (sym (rank_is first_rank.place 0 first_rank.within)) ∙ first_rank.says)
 
   lesser_rank : (r i : ℕ) → r < first_rank.place → i < length ds → candidate_at s x (path r (get_or ds i []) f) ≡ None
-  lesser_rank r i l w = none_says (λ d. candidate_at s x (path r d f)) ds [] (ap (taken_in s x ds f) (sym (rank_is r (omega (arith, first_rank.within, l)))) ∙ first_rank.before r l) i w
+  lesser_rank r i l w = none_says (λ d. candidate_at s x (path r d f)) ds [] (ap (taken_in s x ds f) (sym (rank_is r 0 (omega (arith, first_rank.within, l)))) ∙ first_rank.before r l) i w
 
   module _ (d : Candidate) (q : PathParts) (i : ℕ) (st : Stands s x ds d q i) (n : q.name ≡ f) where
     clash : {C : Type 0} (r : ℕ) → q.rank ≡ r → candidate_at s x (path r (get_or ds i []) f) ≡ None → C

@@ -3,7 +3,7 @@ use Rattle.std.proofs.Common.{◌≡◌, ◌≢◌, ℕ, ◌<◌, ◌≤◌, Boo
 use Rattle.std.specs.Prelude.{◌↔◌, ◌⊎◌}
 use Rattle.std.specs.Option.{option_and_then}
 use Rattle.std.specs.Str.{bytes_eq}
-use Rattle.std.proofs.lemmas.Bool.{true≢false, cases_lt, leb-true}
+use Rattle.std.proofs.lemmas.Bool.{true≢false, cases_lt, leb-true, false_from_ne_true}
 use Rattle.std.proofs.lemmas.Option.{none-some, same_Some}
 use Rattle.std.proofs.lemmas.Slice.Eq.{bytes_eq-Decides}
 use Rattle.edit_sums.specs.declared.contents.Content.TheVariants.{Link}
@@ -94,15 +94,11 @@ heeded : (o t : Name) → IsName t → is_self o t ≡ false → IsHeeded o t
 heeded o t h e = record { name = h; other = λ k. not_itself o t e (inl k); no_template = λ k. not_itself o t e (inr k) }
 
 is_heeded : (o t : Name) → IsHeeded o t → is_self o t ≡ false
-is_heeded o t h = by (is_self o t) refl
+is_heeded o t h = false_from_ne_true (is_self o t) (λ e. neither (leads_to_itself o t e))
   where
     neither : (t ≡ o) ⊎ (template_of o ≡ Some t) → ⊥
     neither (inl e) = h.other e
     neither (inr e) = h.no_template e
-
-    by : (b : Bool) → is_self o t ≡ b → b ≡ false
-    by true e = absurd (neither (leads_to_itself o t e))
-    by false e = refl
 
 without_aliases : (k : UnitKind) → has_no_alias k ≡ true → HasNoAliases k
 without_aliases Service h = cc (h)
@@ -165,11 +161,7 @@ no_clash : (o t : Name) → IsName o → IsName t → is_bad_kind (kind o) (kind
 no_clash o t h g e c = true≢false (sym (are_bad_kinds o t h g c) ∙ e)
 
 kinds_fit : (o t : Name) → IsName o → IsName t → (KindsClash o t → ⊥) → is_bad_kind (kind o) (kind t) ≡ false
-kinds_fit o t h g c = by (is_bad_kind (kind o) (kind t)) refl
-  where
-    by : (b : Bool) → is_bad_kind (kind o) (kind t) ≡ b → b ≡ false
-    by true e = absurd (c (kinds_clash o t h g e))
-    by false e = refl
+kinds_fit o t h g c = false_from_ne_true (is_bad_kind (kind o) (kind t)) (λ e. c (kinds_clash o t h g e))
 
 abbrev agree : Name → Name → Bool
 agree o t = shapes_agree (shape o) (instance o) (shape t) (instance t)
@@ -205,11 +197,7 @@ shapes_differ o t (template a b) = by (shape t) refl
     by Template e = absurd (b e)
     by Instance e = agreed o t Template Instance a e
 shapes_differ o t (instance_to_plain a b) = agreed o t Instance Plain a b
-shapes_differ o t (other_instance a b c) = agreed o t Instance Instance a b ∙ by (bytes_eq (instance o) (instance t)) refl
-  where
-    by : (x : Bool) → bytes_eq (instance o) (instance t) ≡ x → x ≡ false
-    by true e = absurd (c ((bytes_eq-Decides (instance o) (instance t)).0 e))
-    by false e = refl
+shapes_differ o t (other_instance a b c) = agreed o t Instance Instance a b ∙ false_from_ne_true (bytes_eq (instance o) (instance t)) (λ e. c ((bytes_eq-Decides (instance o) (instance t)).0 e))
 
 shapes_fit : (o t : Name) → (ShapesClash o t → ⊥) → agree o t ≡ true
 shapes_fit o t c = by (agree o t) refl
@@ -326,13 +314,6 @@ shapes_make_bad s n o t rank lawful stands = (there, back)
         said_link s n o t rank stands
         ∙ told_by (is_name t) (is_self o t) (is_bad_kind (kind o) (kind t)) (agree o t) true false false false (alias_of (shape n) n (shape t) t) k.name (is_heeded o t k) (kinds_fit o t lawful k.name c) (shapes_differ o t d)
 
-no_name : (t : Name) → (IsName t → ⊥) → is_name t ≡ false
-no_name t h = by (is_name t) refl
-  where
-    by : (b : Bool) → is_name t ≡ b → b ≡ false
-    by true e = absurd (h e)
-    by false e = refl
-
 pub targets_make_bad : TargetsMakeBad
 targets_make_bad s n o t rank named lawful stands = (there, back)
   where
@@ -358,7 +339,7 @@ targets_make_bad s n o t rank named lawful stands = (there, back)
     back : (IsName t → ⊥) ⊎ GrowsTooLong n o t → says s n o rank ≡ Some (Bad Target)
     back (inl h) =
         said_link s n o t rank stands
-        ∙ told_by (is_name t) (is_self o t) (is_bad_kind (kind o) (kind t)) (agree o t) false (is_self o t) (is_bad_kind (kind o) (kind t)) (agree o t) (alias_of (shape n) n (shape t) t) (no_name t h) refl refl refl
+        ∙ told_by (is_name t) (is_self o t) (is_bad_kind (kind o) (kind t)) (agree o t) false (is_self o t) (is_bad_kind (kind o) (kind t)) (agree o t) (alias_of (shape n) n (shape t) t) (false_from_ne_true (is_name t) h) refl refl refl
     back (inr k) =
         said_link s n o t rank stands
         ∙ told_by (is_name t) (is_self o t) (is_bad_kind (kind o) (kind t)) (agree o t) true false false true (alias_of (shape n) n (shape t) t) k.heeded.name (is_heeded o t k.heeded) (kinds_fit o t lawful k.heeded.name k.kinds) (shapes_fit o t k.shapes)

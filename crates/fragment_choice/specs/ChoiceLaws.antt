@@ -1,16 +1,14 @@
 -- Laws of choices: lesser ranks come first, and only what is visible counts.
 use Rattle.std.proofs.Common.{◌≡◌, ◌≢◌, ℕ, zero, suc, ◌+◌, ◌<◌, ◌≤◌, Option, Some, None, [], ◌∷◌, drop, refl, ap, sym, ◌∙◌, cond, IsTrue, arith, unwrap_or}
 use Rattle.std.specs.Option.{option_and_then, option_or}
-use Rattle.std.specs.declared.cmp.Ordering.{Ordering}
-use Rattle.std.specs.declared.cmp.Ordering.TheVariants.{Less, Equal, Greater}
 use Rattle.load_path.specs.Paths.{PathParts, path_cmp}
 use Rattle.load_path.specs.PathLaws.{path_cmp_total, path_cmp-IsAntisymmetric}
-use Rattle.std.specs.Cmp.{tied_itself}
 use Rattle.edit_sums.specs.declared.contents.Content.{Content}
 use Rattle.edit_sums.specs.declared.contents.Content.TheVariants.{Gone, Link, File}
 use Rattle.edit_sums.specs.Sums.{EntryMap, visible_at}
 use Rattle.unit_name.specs.Names.{Name}
 use Rattle.unit_name.specs.Forms.{template_of}
+use Rattle.list_laws.specs.Agreements.{agree_everywhere}
 use Rattle.list_laws.specs.FirstSaid.{first_said, first_same, none_says}
 use Rattle.fragment_choice.specs.declared.choices.Choice.{Choice}
 use Rattle.fragment_choice.specs.declared.choices.Choice.TheVariants.{NotFound, Masked}
@@ -131,12 +129,4 @@ only_visible_counts s t same n =
     by (Some o) = own_same s t same n o
 
 pub removals_give_back : RemovalsGiveBack
-removals_give_back s t p removed absent same = only_visible_counts s t (λ q. by q (path_cmp q p) refl)
-  where
-    unequal : (q : PathParts) (r : Ordering) → path_cmp q p ≡ r → (r ≡ Equal → ⊥) → q ≢ p
-    unequal q r e differ h = differ (sym e ∙ ap (λ x. path_cmp x p) h ∙ tied_itself path_cmp_total p)
-
-    by : (q : PathParts) (r : Ordering) → path_cmp q p ≡ r → visible_at s q ≡ visible_at t q
-    by q Less e = same q (unequal q Less e (λ h. cc (h)))
-    by q Equal e = let h = path_cmp-IsAntisymmetric q p e in ap (visible_at s) h ∙ removed ∙ sym (ap (visible_at t) h ∙ absent)
-    by q Greater e = same q (unequal q Greater e (λ h. cc (h)))
+removals_give_back s t p removed absent same = only_visible_counts s t (agree_everywhere path_cmp path_cmp_total path_cmp-IsAntisymmetric (visible_at s) (visible_at t) p (removed ∙ sym absent) same)

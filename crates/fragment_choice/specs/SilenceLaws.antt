@@ -3,13 +3,12 @@ use Rattle.std.proofs.Common.{◌≡◌, ℕ, ◌<◌, Bool, true, false, cond, 
 use Rattle.std.specs.Prelude.{◌↔◌, ◌⊎◌}
 use Rattle.std.specs.Option.{option_and_then, option_or}
 use Rattle.std.specs.Ordering.{is_eq}
-use Rattle.std.specs.declared.cmp.Ordering.{Ordering}
-use Rattle.std.specs.declared.cmp.Ordering.TheVariants.{Less, Equal, Greater}
 use Rattle.std.specs.Cmp.Lexicographic.{nat_list_cmp_total}
 use Rattle.std.proofs.lemmas.Cmp.{tied_itself}
 use Rattle.std.proofs.lemmas.Bool.{true≢false, or_right}
 use Rattle.std.proofs.lemmas.Option.{none-some, same_Some}
 use Rattle.std.proofs.lemmas.Slice.Eq.{bytes_eq-Decides}
+use Rattle.list_laws.specs.Orderings.{is_equal}
 use Rattle.load_path.specs.Paths.{PathParts}
 use Rattle.edit_sums.specs.declared.contents.Content.{Content}
 use Rattle.edit_sums.specs.declared.contents.Content.TheVariants as content
@@ -44,11 +43,6 @@ abbrev pub SilenceIsNotFound : Type 0
 SilenceIsNotFound = (s : EntryMap) (n : Name) → (choice s n ≡ NotFound) ↔ (NothingSpeaks s n × ((o : Name) → template_of n ≡ Some o → NothingSpeaks s o))
 
 -- ---- links to themselves
-
-is_equal : (r : Ordering) → is_eq r ≡ true → r ≡ Equal
-is_equal Less h = cc (h)
-is_equal Equal h = refl
-is_equal Greater h = cc (h)
 
 same_name : (o t : Name) → is_same o t ≡ true → t ≡ o
 same_name o t h = sym (name_cmp-IsAntisymmetric o t (is_equal _ h))

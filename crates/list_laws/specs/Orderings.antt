@@ -1,0 +1,25 @@
+-- What a comparison answers.
+use Rattle.std.proofs.Common.{◌≡◌, ◌≢◌, true, false, IsTrue, refl, ap, ◌∙◌}
+use Rattle.std.specs.Cmp.{IsTotalOrder}
+use Rattle.std.specs.Ordering.{is_eq, is_lt, ordering_reverse}
+use Rattle.std.specs.declared.cmp.Ordering.{Ordering}
+use Rattle.std.specs.declared.cmp.Ordering.TheVariants.{Less, Equal, Greater}
+
+pub is_less : (r : Ordering) → IsTrue (is_lt r) → r ≡ Less
+is_less Less h = refl
+is_less Equal h = cc (h)
+is_less Greater h = cc (h)
+
+pub is_equal : (r : Ordering) → is_eq r ≡ true → r ≡ Equal
+is_equal Less h = cc (h)
+is_equal Equal h = refl
+is_equal Greater h = cc (h)
+
+pub is_greater : (r : Ordering) → r ≢ Less → is_eq r ≡ false → r ≡ Greater
+is_greater Less n h = absurd (n refl)
+is_greater Equal n h = cc (h)
+is_greater Greater n h = refl
+
+-- the same two compared the other way round
+pub turned : {K : Type 0} (R : K → K → Ordering) (o : IsTotalOrder R) (x y : K) (r : Ordering) → R x y ≡ r → R y x ≡ ordering_reverse r
+turned R o x y r h = o.antisymm y x ∙ ap ordering_reverse h
