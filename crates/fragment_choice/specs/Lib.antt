@@ -6,6 +6,6 @@ pub mod UnitNames
 pub mod LinkedNames
 pub mod LinkLaws
 pub mod SilenceLaws
-pub mod BadLinkLaws
+pub mod LinkCaseLaws
 pub mod UnitNameLaws
 pub mod FragmentLaws

@@ -3,7 +3,7 @@
 ghost use Rattle.fragment_choice.specs.ChoiceLaws.{LeastRankChooses, TemplatesComeLast, GreaterRanksDontCount, MasksHide, OnlyVisibleCounts, RemovalsGiveBack};
 ghost use Rattle.fragment_choice.specs.SilenceLaws.{SilenceIsNotFound};
 ghost use Rattle.fragment_choice.specs.LinkLaws.{AliasesHaveLinks, InstancesKeepTheirPart};
-ghost use Rattle.fragment_choice.specs.BadLinkLaws.{KindsMakeBad, ShapesMakeBad, TargetsMakeBad, NoLinkIsALoop};
+ghost use Rattle.fragment_choice.specs.LinkCaseLaws.{KindsMakeBad, ShapesMakeBad, TargetsMakeBad, NoLinkIsALoop, GoodLinksMakeAliases};
 ghost use Rattle.fragment_choice.specs.ResolutionLaws.{FollowingFindsTheEnd, MainsAreTheirOwn, NoAliasStands};
 ghost use Rattle.fragment_choice.specs.FragmentLaws.{FragmentsAreFiles};
 ghost use Rattle.fragment_choice.specs.UnitNameLaws.{NamesHaveTheMain, NamesDontMeet, OneListOfNames};
@@ -28,13 +28,16 @@ pub fn link_laws()
     ensures instances { InstancesKeepTheirPart }
 {}
 
-/// What makes a link bad: kinds that differ or have no aliases, then shapes that don't agree, and a
-/// target that ends in no unit's name or makes one that is too long. No single link is a loop.
-pub fn bad_link_laws()
+/// What a link says, case by case. Kinds that differ or have no aliases make it bad, then shapes
+/// that don't agree, and a target that ends in no unit's name or makes one that is too long. No
+/// single link is a loop. All others that aren't passed over make an alias: of the target, or of
+/// the target with the instance's part.
+pub fn link_case_laws()
     ensures kinds { KindsMakeBad }
     ensures shapes { ShapesMakeBad }
     ensures targets { TargetsMakeBad }
     ensures loops { NoLinkIsALoop }
+    ensures aliases { GoodLinksMakeAliases }
 {}
 
 /// Following a name's aliases finds the end of their chain, which is its own main and no alias. A

@@ -1,10 +1,10 @@
--- Laws of bad links: what makes one bad, case by case.
+-- Laws of links: what makes one bad, case by case, and what a good one leads to.
 use Rattle.std.proofs.Common.{◌≡◌, ◌≢◌, ℕ, ◌<◌, ◌≤◌, Bool, true, false, cond, not, ◌||◌, leb, Option, Some, None, List, length, codes, refl, ap, sym, ◌∙◌, subst, inl, inr, arith, le-leb}
 use Rattle.std.specs.Prelude.{◌↔◌, ◌⊎◌}
 use Rattle.std.specs.Option.{option_and_then}
 use Rattle.std.specs.Str.{bytes_eq}
 use Rattle.std.proofs.lemmas.Bool.{true≢false, cases_lt, leb-true, false_from_ne_true}
-use Rattle.std.proofs.lemmas.Option.{none-some, same_Some}
+use Rattle.std.proofs.lemmas.Option.{none-some, same_Some, cond_some}
 use Rattle.std.proofs.lemmas.Slice.Eq.{bytes_eq-Decides}
 use Rattle.edit_sums.specs.declared.contents.Content.TheVariants.{Link}
 use Rattle.edit_sums.specs.Sums.{EntryMap, visible_at}
@@ -16,7 +16,7 @@ use Rattle.unit_name.specs.Names.{Name, IsName, is_name, kind, kind_of, word, sh
 use Rattle.unit_name.specs.NameLaws.{fits, kind_of-word, made_of_name, parts_of_names_fit}
 use Rattle.unit_name.specs.Forms.{instance_name, instance_at, is_instance, if_short, template_of, with_instance}
 use Rattle.fragment_choice.specs.declared.choices.Choice.{Choice}
-use Rattle.fragment_choice.specs.declared.choices.Choice.TheVariants.{Masked, Bad}
+use Rattle.fragment_choice.specs.declared.choices.Choice.TheVariants.{Masked, Alias, Bad}
 use Rattle.fragment_choice.specs.declared.choices.Cause.{Cause}
 use Rattle.fragment_choice.specs.declared.choices.Cause.TheVariants.{Kind, Shape, Loop, Target}
 use Rattle.fragment_choice.specs.Choices.{alias_of, alias_to, content_says, has_no_alias, is_bad_kind, is_null, is_self, last_component, link_says, own_path, says, shapes_agree}
@@ -70,6 +70,15 @@ ShapesMakeBad = (s : EntryMap) (n o t : Name) (rank : ℕ) → IsName o → Link
 -- and by its target just where that ends in no unit's name, or makes a name that is too long
 abbrev pub TargetsMakeBad : Type 0
 TargetsMakeBad = (s : EntryMap) (n o t : Name) (rank : ℕ) → IsName n → IsName o → LinkStands s o rank t → (says s n o rank ≡ Some (Bad Target)) ↔ ((IsName t → ⊥) ⊎ GrowsTooLong n o t)
+
+-- what a good link to t makes of n: a template with the part of the instance n, else t itself
+pub data IsAliasOf (n t m : Name) : Type 0 where
+  with_part : shape n ≡ Instance → shape t ≡ Template → m ≡ instance_name (prefix t) (instance n) (suffix t) → length m ≤ 255 → IsAliasOf n t m
+  itself : (shape n ≡ Instance → shape t ≢ Template) → m ≡ t → IsAliasOf n t m
+
+-- a link makes an alias just where it is heeded and neither the kinds nor the shapes clash
+abbrev pub GoodLinksMakeAliases : Type 0
+GoodLinksMakeAliases = (s : EntryMap) (n o t m : Name) (rank : ℕ) → IsName n → IsName o → LinkStands s o rank t → (says s n o rank ≡ Some (Alias m)) ↔ (IsHeeded o t × (KindsClash o t → ⊥) × (ShapesClash o t → ⊥) × IsAliasOf n t m)
 
 -- no single link is a loop
 abbrev pub NoLinkIsALoop : Type 0
@@ -244,8 +253,8 @@ too_long m h = by (leb (length m) 255) refl
     by false e = refl
 
 -- a template's name with the part of an instance, if it is short
-with_part : (n t : Name) → IsName n → shape n ≡ Instance → shape t ≡ Template → with_instance t (instance n) ≡ if_short (instance_name (prefix t) (instance n) (suffix t))
-with_part n t h a b =
+with_part_is : (n t : Name) → IsName n → shape n ≡ Instance → shape t ≡ Template → with_instance t (instance n) ≡ if_short (instance_name (prefix t) (instance n) (suffix t))
+with_part_is n t h a b =
     let fit : is_instance (instance n) ≡ true = sym (ap (λ x. fits x (instance n)) a) ∙ (parts_of_names_fit n h).instance_fits in
     ap (λ x. instance_at x t (instance n)) b ∙ ap (λ x. cond x (if_short (instance_name (prefix t) (instance n) (suffix t))) None) fit
 
@@ -326,7 +335,7 @@ targets_make_bad s n o t rank named lawful stands = (there, back)
           shapes = λ c. true≢false (sym k.3 ∙ shapes_differ o t c);
           of_instance = u.of_instance;
           to_template = u.to_template;
-          long = not_short _ (sym (with_part n t named u.of_instance u.to_template) ∙ u.none);
+          long = not_short _ (sym (with_part_is n t named u.of_instance u.to_template) ∙ u.none);
         }
 
     pick : (is_name t ≡ false) ⊎ IsLast (is_name t) (is_self o t) (is_bad_kind (kind o) (kind t)) (agree o t) (alias_of (shape n) n (shape t) t) → (IsName t → ⊥) ⊎ GrowsTooLong n o t
@@ -345,8 +354,67 @@ targets_make_bad s n o t rank named lawful stands = (there, back)
         ∙ told_by (is_name t) (is_self o t) (is_bad_kind (kind o) (kind t)) (agree o t) true false false true (alias_of (shape n) n (shape t) t) k.heeded.name (is_heeded o t k.heeded) (kinds_fit o t lawful k.heeded.name k.kinds) (shapes_fit o t k.shapes)
         ∙ ap (λ x. Some (alias_of x n (shape t) t)) k.of_instance
         ∙ ap (λ x. Some (alias_of Instance n x t)) k.to_template
-        ∙ ap (λ m. Some (alias_to m)) (with_part n t named k.of_instance k.to_template ∙ too_long _ k.long)
+        ∙ ap (λ m. Some (alias_to m)) (with_part_is n t named k.of_instance k.to_template ∙ too_long _ k.long)
 
 pub no_link_is_a_loop : NoLinkIsALoop
 no_link_is_a_loop s n o t rank stands h =
     loop_told (is_name t) (is_self o t) (is_bad_kind (kind o) (kind t)) (agree o t) (alias_of (shape n) n (shape t) t) (λ e. cc ((unmade n t Loop e).cause)) (sym (said_link s n o t rank stands) ∙ h)
+
+-- ---- good links
+
+abbrev IsGood : Bool → Bool → Bool → Bool → Choice → Name → Type 0
+IsGood a b c d x m = (a ≡ true) × (b ≡ false) × (c ≡ false) × (d ≡ true) × (x ≡ Alias m)
+
+alias_told : (a b c d : Bool) (x : Choice) (m : Name) → told a b c d x ≡ Some (Alias m) → IsGood a b c d x m
+alias_told false b c d x m e = cc (e)
+alias_told true true c d x m e = cc (e)
+alias_told true false true d x m e = cc (e)
+alias_told true false false true x m e = (refl, refl, refl, refl, same_Some _ _ e)
+alias_told true false false false x m e = cc (e)
+
+to_name : (o : Option Name) (m : Name) → alias_to o ≡ Alias m → o ≡ Some m
+to_name None m e = cc (e)
+to_name (Some x) m e = cc (e)
+
+-- the alias that is made, in words
+made_alias : (n t m : Name) → IsName n → alias_of (shape n) n (shape t) t ≡ Alias m → IsAliasOf n t m
+made_alias n t m h e = by (shape n) (shape t) refl refl e
+  where
+    parted : shape n ≡ Instance → shape t ≡ Template → with_instance t (instance n) ≡ Some m → IsAliasOf n t m
+    parted a b k =
+        let short = cond_some (leb (length (instance_name (prefix t) (instance n) (suffix t))) 255) (instance_name (prefix t) (instance n) (suffix t)) m (sym (with_part_is n t h a b) ∙ k) in
+        with_part a b (sym short.1) (subst (λ x. length x ≤ 255) short.1 (leb-true (length (instance_name (prefix t) (instance n) (suffix t))) 255 short.0))
+
+    by : (x y : UnitShape) → shape n ≡ x → shape t ≡ y → alias_of x n y t ≡ Alias m → IsAliasOf n t m
+    by Plain y a b k = itself (λ i. cc (sym a ∙ i)) cc
+    by Template y a b k = itself (λ i. cc (sym a ∙ i)) cc
+    by Instance Plain a b k = itself (λ i j. cc (sym b ∙ j)) cc
+    by Instance Template a b k = parted a b (to_name (with_instance t (instance n)) m k)
+    by Instance Instance a b k = itself (λ i j. cc (sym b ∙ j)) cc
+
+alias_made : (n t m : Name) → IsName n → IsAliasOf n t m → alias_of (shape n) n (shape t) t ≡ Alias m
+alias_made n t m h (with_part a b e l) =
+    ap (λ x. alias_of x n (shape t) t) a ∙ ap (λ x. alias_of Instance n x t) b
+    ∙ ap (λ x. alias_to x) (with_part_is n t h a b ∙ ap (λ x. if_short x) (sym e) ∙ ap (λ x. cond x (Some m) None) (le-leb (length m) 255 l))
+alias_made n t m h (itself d e) = by (shape n) (shape t) refl refl
+  where
+    by : (x y : UnitShape) → shape n ≡ x → shape t ≡ y → alias_of x n y t ≡ Alias m
+    by Plain y a b = ap (λ x. Alias x) (sym e)
+    by Template y a b = ap (λ x. Alias x) (sym e)
+    by Instance Plain a b = ap (λ x. Alias x) (sym e)
+    by Instance Template a b = absurd (d a b)
+    by Instance Instance a b = ap (λ x. Alias x) (sym e)
+
+pub good_links_make_aliases : GoodLinksMakeAliases
+good_links_make_aliases s n o t m rank named lawful stands = (there, back)
+  where
+    there : says s n o rank ≡ Some (Alias m) → IsHeeded o t × (KindsClash o t → ⊥) × (ShapesClash o t → ⊥) × IsAliasOf n t m
+    there h =
+        let k = alias_told (is_name t) (is_self o t) (is_bad_kind (kind o) (kind t)) (agree o t) (alias_of (shape n) n (shape t) t) m (sym (said_link s n o t rank stands) ∙ h) in
+        (heeded o t k.0 k.1, no_clash o t lawful k.0 k.2, λ c. true≢false (sym k.3 ∙ shapes_differ o t c), made_alias n t m named k.4)
+
+    back : IsHeeded o t × (KindsClash o t → ⊥) × (ShapesClash o t → ⊥) × IsAliasOf n t m → says s n o rank ≡ Some (Alias m)
+    back (k, c, d, a) =
+        said_link s n o t rank stands
+        ∙ told_by (is_name t) (is_self o t) (is_bad_kind (kind o) (kind t)) (agree o t) true false false true (alias_of (shape n) n (shape t) t) k.name (is_heeded o t k) (kinds_fit o t lawful k.name c) (shapes_fit o t d)
+        ∙ ap (λ x. Some x) (alias_made n t m named a)
