@@ -4,8 +4,6 @@ use Rattle.std.specs.Option.{option_and_then}
 use Rattle.std.specs.List.{list_any}
 use Rattle.std.specs.Str.{bytes_eq}
 use Rattle.std.specs.Ordering.{eq_by_cmp, is_eq}
-use Rattle.std.specs.declared.cmp.Ordering.{Ordering}
-use Rattle.std.specs.declared.cmp.Ordering.TheVariants.{Less, Equal, Greater}
 use Rattle.std.specs.FinMap as finmap
 use Rattle.std.specs.FinMap.{contains_key-keys}
 use Rattle.std.proofs.lemmas.Cmp.{tied_itself}
@@ -19,13 +17,10 @@ use Rattle.replica_store.specs.Folders.{is_in}
 use Rattle.dropins.specs.declared.takes.Candidate.{Candidate}
 use Rattle.dropins.specs.declared.takes.Search.{Search}
 use Rattle.dropins.specs.Taken.{as_found, candidate_at}
-use Rattle.dropins.specs.Walks.{path, first_said}
+use Rattle.list_laws.specs.FirstSaid.{first_said}
+use Rattle.list_laws.specs.Orderings.{is_equal}
+use Rattle.dropins.specs.Walks.{path}
 use Rattle.dropins.proofs.Firsts.{said_among}
-
-is_equal : (r : Ordering) → is_eq r ≡ true → r ≡ Equal
-is_equal Less h = cc (h)
-is_equal Equal h = refl
-is_equal Greater h = cc (h)
 
 module _ (r : ℕ) (d f : List ℕ) where
   same_path : (k : PathParts) → is_in r d k ≡ true → bytes_eq k.name f ≡ true → k ≡ path r d f

@@ -8,7 +8,7 @@ use Rattle.std.proofs.lemmas.Map.Text.{is_eq-slice_cmp}
 use Rattle.std.proofs.lemmas.Slice.Eq.{bytes_eq-Decides}
 use Rattle.unit_name.specs.Names.{name_cmp}
 use Rattle.dropins.specs.declared.takes.Candidate.{Candidate}
-use Rattle.dropins.proofs.Firsts.{or_none}
+use Rattle.list_laws.specs.FirstSaid.{or_none}
 
 none_is : (o : Option Candidate) → is_some o ≡ false → o ≡ None
 none_is None h = refl

@@ -1,5 +1,5 @@
 -- What is taken, as lists that rise by file name.
-use Rattle.std.proofs.Common.{◌≡◌, ℕ, Bool, true, false, cond, Some, List, [], ◌∷◌, ◌++◌, map, filter, refl, ap, sym, ◌∙◌, subst, inl, inr, arith}
+use Rattle.std.proofs.Common.{◌≡◌, ℕ, Bool, true, false, cond, Some, List, [], ◌∷◌, ◌++◌, map, filter, refl, ap, sym, ◌∙◌, subst, inl, inr}
 use Rattle.std.specs.Prelude.{◌↔◌, ◌⊎◌}
 use Rattle.std.specs.List.{Contains, AllByRecursion}
 use Rattle.std.specs.List.Sorted.{IsStrictlySortedBy}
@@ -7,9 +7,10 @@ use Rattle.std.specs.Map.{keys_of}
 use Rattle.std.specs.BTreeMap.{BTreeMap, get, IsOrdered}
 use Rattle.std.specs.Cmp.Lexicographic.{nat_list_cmp_total}
 use Rattle.std.specs.declared.cmp.Ordering.TheVariants.{Less}
-use Rattle.std.proofs.lemmas.List.Elements.{Contains-append_cases, Contains-append_left, Contains-append_right, Contains-push, Contains-push_cases}
+use Rattle.std.proofs.lemmas.List.Elements.{Contains-append_cases, Contains-append_left, Contains-append_right, Contains-push}
 use Rattle.std.proofs.lemmas.List.Kept.{IsStrictlySortedBy-filter}
 use Rattle.std.proofs.lemmas.Map.Views.{btree_map_get_iff}
+use Rattle.list_laws.specs.Members.{none_there, only_one}
 use Rattle.load_path.specs.Paths.{PathParts}
 use Rattle.edit_sums.specs.Sums.{EntryMap}
 use Rattle.unit_name.specs.Names.{Name, is_name, IsName, name_cmp}
@@ -47,16 +48,6 @@ unfolding IsStrictlySortedBy
 names_rise [] b n = tt
 names_rise ((g, Mask) ∷ es) b n = names_rise es b.1 n.1
 names_rise ((g, At p) ∷ es) b n = (subst (λ f. AllByRecursion (λ y. name_cmp f y ≡ Less) (map file_name (unmasked es))) (sym n.0) (below_names g es b.0 n.1), names_rise es b.1 n.1)
-
-only_one : {X : Type 0} (x y : X) → Contains (x ∷ []) y → x ≡ y
-only_one x y c = pick (Contains-push_cases [] x y c)
-  where
-    pick : Contains [] y ⊎ (x ≡ y) → x ≡ y
-    pick (inl n) = absurd (omega (arith, n.1))
-    pick (inr e) = e
-
-none_there : {X : Type 0} {C : Type 0} (y : X) → Contains [] y → C
-none_there y c = absurd (omega (arith, c.1))
 
 given_there : (es : List (List ℕ × Candidate)) (p : PathParts) → AreNamed es → Contains (unmasked es) p → Contains es (p.name, At p)
 given_there [] p n c = none_there p c

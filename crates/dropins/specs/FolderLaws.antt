@@ -1,17 +1,33 @@
--- Laws of folder lists.
-use Rattle.std.proofs.Common.{◌≡◌, ◌≢◌, ℕ, zero, suc, ◌-◌, false, cond, None, List, [], ◌∷◌, ◌++◌, length, take, fold, refl, ap, ◌∙◌}
+-- Laws of folder lists: each folder is a name and stands there once.
+use Rattle.std.proofs.Common.{◌≡◌, ◌≢◌, ℕ, zero, suc, ◌-◌, ◌<◌, Bool, true, false, cond, Option, Some, None, List, [], ◌∷◌, ◌++◌, length, take, get_or, fold, refl, ap, sym, ◌∙◌, arith}
 use Rattle.std.specs.Prelude.{slice_index}
-use Rattle.std.specs.List.{list_any, flat_map}
+use Rattle.std.specs.List.{All, AllPairs, Contains, list_any, flat_map}
+use Rattle.std.specs.Str.{bytes_eq}
+use Rattle.std.proofs.lemmas.Bool.{true≢false}
+use Rattle.std.proofs.lemmas.Slice.Eq.{bytes_eq-Decides}
+use Rattle.std.proofs.lemmas.List.Elements.{All-nil, All-cons, All-append, All-push, All-head, All-tail}
+use Rattle.std.proofs.lemmas.List.Quantifiers.{all_pairs_push}
+use Rattle.list_laws.specs.Members.{first_there, later_there}
 use Rattle.std.proofs.lemmas.Bool.{or_parts}
 use Rattle.unit_name.specs.declared.names.Shape.{Shape}
 use Rattle.unit_name.specs.declared.names.Shape.TheVariants.{Plain, Template, Instance}
-use Rattle.unit_name.specs.Names.{Name, prefix, shape}
-use Rattle.unit_name.specs.Forms.{template_at}
-use Rattle.dropins.specs.FolderLists.{is_dash, fronts, cuts, with_prefix, listed, with_template, with_name, folders_of, folders}
+use Rattle.unit_name.specs.Names.{Name, IsName, is_empty, prefix, shape}
+use Rattle.unit_name.specs.Forms.{template_at, template_of}
+use Rattle.unit_name.specs.NameLaws.{prefixes_may_be_cut, templates_keep_parts}
+use Rattle.dropins.specs.FolderLists.{is_dash, fronts, cuts, is_among, with_prefix, listed, with_template, with_name, folders_of, folders}
+use Rattle.dropins.specs.CutLaws.{IsDashedFront, cuts_are_dashed_fronts}
 
 -- a name that is no instance and has no dash in its prefix has one folder
 abbrev pub OneFolder : Type 0
 OneFolder = (n : Name) → shape n ≢ Instance → list_any is_dash (prefix n) ≡ false → folders (n ∷ []) ≡ n ∷ []
+
+-- the folders of names are names
+abbrev pub FoldersAreNames : Type 0
+FoldersAreNames = (ns : List Name) → All IsName ns → All IsName (folders ns)
+
+-- and no two of a folder list are the same
+abbrev pub FoldersStandOnce : Type 0
+FoldersStandOnce = (ns : List Name) → AllPairs (λ x y. x ≢ y) (folders ns)
 
 no_dash : (p : List ℕ) (n : ℕ) → list_any is_dash p ≡ false → is_dash (slice_index p n) ≡ false
 no_dash [] n h = refl
@@ -32,3 +48,64 @@ one_folder n s d =
     let a : folders_of n ≡ n ∷ [] =
     ap (λ t. n ∷ listed t ++ flat_map (λ p. with_template (with_prefix n p)) (cuts (prefix n))) (no_template (shape n) n s) ∙ ap (λ ps. n ∷ flat_map (λ p. with_template (with_prefix n p)) ps) (no_fronts (length (prefix n) - 1) (prefix n) d) in
     ap (λ xs. fold with_name [] (xs ++ [])) a
+
+-- ---- names
+
+template_is_name : (n : Name) → IsName n → All IsName (with_template n)
+template_is_name n h = All-cons IsName n (listed (template_of n)) h (by (template_of n) refl)
+  where
+    by : (o : Option Name) → template_of n ≡ o → All IsName (listed o)
+    by None e = All-nil IsName
+    by (Some t) e = All-cons IsName t [] (templates_keep_parts n t h e).2.name (All-nil IsName)
+
+ends_somewhere : (start : List ℕ) (b : ℕ) → is_empty (start ++ b ∷ []) ≡ false
+ends_somewhere [] b = refl
+ends_somewhere (x ∷ start) b = refl
+
+-- a name with a cut of its prefix is a name
+cut_is_name : (n : Name) (c : List ℕ) → IsName n → IsDashedFront (prefix n) c → IsName (with_prefix n c)
+cut_is_name n c h f = (prefixes_may_be_cut n c (f.next ∷ f.rest) h f.proper (ap is_empty f.ends_in_dash ∙ ends_somewhere f.start 45)).2.name
+
+cuts_are_names : (n : Name) → IsName n → (cs : List (List ℕ)) → ((c : List ℕ) → Contains cs c → IsDashedFront (prefix n) c) → All IsName (flat_map (λ p. with_template (with_prefix n p)) cs)
+cuts_are_names n h [] each = All-nil IsName
+cuts_are_names n h (c ∷ cs) each =
+    All-append IsName (with_template (with_prefix n c)) (flat_map (λ p. with_template (with_prefix n p)) cs)
+    (template_is_name (with_prefix n c) (cut_is_name n c h (each c (first_there c cs)))) (cuts_are_names n h cs (λ d k. each d (later_there c d cs k)))
+
+own_are_names : (n : Name) → IsName n → All IsName (folders_of n)
+own_are_names n h =
+    All-append IsName (with_template n) (flat_map (λ p. with_template (with_prefix n p)) (cuts (prefix n)))
+    (template_is_name n h) (cuts_are_names n h (cuts (prefix n)) (λ c k. (cuts_are_dashed_fronts (prefix n) c).0 k))
+
+all_are_names : (ns : List Name) → All IsName ns → All IsName (flat_map folders_of ns)
+all_are_names [] a = All-nil IsName
+all_are_names (n ∷ ns) a = All-append IsName (folders_of n) (flat_map folders_of ns) (own_are_names n (All-head IsName n ns a)) (all_are_names ns (All-tail IsName n ns a))
+
+put_is_name : (b : Bool) (ns : List Name) (x : Name) → All IsName ns → IsName x → All IsName (cond b ns (ns ++ x ∷ []))
+put_is_name true ns x a h = a
+put_is_name false ns x a h = All-push IsName ns x a h
+
+firsts_are_names : (xs ns : List Name) → All IsName ns → All IsName xs → All IsName (fold with_name ns xs)
+firsts_are_names [] ns a b = a
+firsts_are_names (x ∷ xs) ns a b = firsts_are_names xs (with_name ns x) (put_is_name (is_among x ns) ns x a (All-head IsName x xs b)) (All-tail IsName x xs b)
+
+pub folders_are_names : FoldersAreNames
+folders_are_names ns a = firsts_are_names (flat_map folders_of ns) [] (All-nil IsName) (all_are_names ns a)
+
+-- ---- each once
+
+none_equal : (x : Name) (ns : List Name) → is_among x ns ≡ false → (k : ℕ) (d : Name) → k < length ns → get_or ns k d ≢ x
+none_equal x [] h k d l = absurd (omega arith)
+none_equal x (n ∷ ns) h zero d l = λ e. true≢false (sym ((bytes_eq-Decides x n).1 (sym e)) ∙ (or_parts (bytes_eq x n) (list_any (bytes_eq x) ns) h).0)
+none_equal x (n ∷ ns) h (suc k) d l = none_equal x ns (or_parts (bytes_eq x n) (list_any (bytes_eq x) ns) h).1 k d (omega arith)
+
+put_once : (b : Bool) (ns : List Name) (x : Name) → is_among x ns ≡ b → AllPairs (λ y z. y ≢ z) ns → AllPairs (λ y z. y ≢ z) (cond b ns (ns ++ x ∷ []))
+put_once true ns x e a = a
+put_once false ns x e a = all_pairs_push (λ y z. y ≢ z) ns x a (none_equal x ns e)
+
+firsts_stand_once : (xs ns : List Name) → AllPairs (λ y z. y ≢ z) ns → AllPairs (λ y z. y ≢ z) (fold with_name ns xs)
+firsts_stand_once [] ns a = a
+firsts_stand_once (x ∷ xs) ns a = firsts_stand_once xs (with_name ns x) (put_once (is_among x ns) ns x refl a)
+
+pub folders_stand_once : FoldersStandOnce
+folders_stand_once ns = firsts_stand_once (flat_map folders_of ns) [] (λ i j d l w. absurd (omega arith))

@@ -4,5 +4,6 @@ pub mod Walks
 pub mod Listings
 pub mod WalkLaws
 pub mod PrecedenceLaws
+pub mod CutLaws
 pub mod FolderLaws
 pub mod OrderLaws

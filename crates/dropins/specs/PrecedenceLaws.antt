@@ -2,9 +2,7 @@
 use Rattle.std.proofs.Common.{◌≡◌, ◌≢◌, ℕ, ◌<◌, ◌≤◌, Option, Some, None, List, ap, sym, ◌∙◌, inl, inr, arith, refl}
 use Rattle.std.specs.Prelude.{◌⊎◌, slice_get}
 use Rattle.std.specs.Option.{option_and_then}
-use Rattle.std.specs.Cmp.{tied_itself}
-use Rattle.std.specs.declared.cmp.Ordering.{Ordering}
-use Rattle.std.specs.declared.cmp.Ordering.TheVariants.{Less, Equal, Greater}
+use Rattle.list_laws.specs.Agreements.{agree_everywhere}
 use Rattle.load_path.specs.Paths.{PathParts, path_cmp}
 use Rattle.load_path.specs.PathLaws.{path_cmp_total, path_cmp-IsAntisymmetric}
 use Rattle.edit_sums.specs.Sums.{EntryMap, visible_at}
@@ -77,12 +75,4 @@ folders_decide s t x ds same c p a = record {
 }
 
 pub removals_give_back : RemovalsGiveBack
-removals_give_back s t x ds m removed absent same = folders_decide s t x ds (λ q i l f. by q (path_cmp q m) refl)
-  where
-    unequal : (q : PathParts) (r : Ordering) → path_cmp q m ≡ r → (r ≡ Equal → ⊥) → q ≢ m
-    unequal q r e differ h = differ (sym e ∙ ap (λ y. path_cmp y m) h ∙ tied_itself path_cmp_total m)
-
-    by : (q : PathParts) (r : Ordering) → path_cmp q m ≡ r → visible_at s q ≡ visible_at t q
-    by q Less e = same q (unequal q Less e (λ h. cc (h)))
-    by q Equal e = let h = path_cmp-IsAntisymmetric q m e in ap (visible_at s) h ∙ removed ∙ sym (ap (visible_at t) h ∙ absent)
-    by q Greater e = same q (unequal q Greater e (λ h. cc (h)))
+removals_give_back s t x ds m removed absent same = folders_decide s t x ds (λ q i l f. agree_everywhere path_cmp path_cmp_total path_cmp-IsAntisymmetric (visible_at s) (visible_at t) m (removed ∙ sym absent) same q)

@@ -1,7 +1,7 @@
 -- Laws of the walk: what it finds first for a file name is what is taken for it, and nothing else is.
 use Rattle.std.proofs.Common.{◌≡◌, ℕ, zero, suc, ◌<◌, ◌≤◌, Bool, true, false, cond, Option, Some, None, List, [], ◌∷◌, length, get_or, refl, ap, sym, ◌∙◌, subst, inl, inr, arith}
 use Rattle.std.specs.Prelude.{◌↔◌, ◌⊎◌, slice_get}
-use Rattle.std.specs.Option.{option_or, option_and_then}
+use Rattle.std.specs.Option.{option_and_then}
 use Rattle.std.proofs.lemmas.Bool.{cases_lt}
 use Rattle.std.proofs.lemmas.Option.{none-some, same_Some, slice_get-get_or, get_or_from_slice_get, slice_get_within}
 use Rattle.load_path.specs.Paths.{PathParts}
@@ -13,46 +13,16 @@ use Rattle.dropins.specs.declared.takes.Candidate.TheVariants.{Mask, At}
 use Rattle.dropins.specs.declared.takes.Search.{Search}
 use Rattle.dropins.specs.declared.takes.Search.TheVariants.{DropIns, Links}
 use Rattle.dropins.specs.Taken.{is_conf, is_null, content_as_drop_in, as_found, candidate_at, Stands, IsTaken, TakenFor}
-use Rattle.dropins.specs.Walks.{path, first_said, taken_in, ranks, taken}
+use Rattle.dropins.specs.Walks.{path, taken_in, ranks, taken}
+use Rattle.list_laws.specs.FirstSaid.{IsFirst, first_is, none_says}
 
--- ---- the first of a list that has something to say, by its place
-
-pub record IsFirst {A B : Type 0} (g : A → Option B) (xs : List A) (d : A) (v : B) : Type 0 where
-  pub place : ℕ
-  pub within : place < length xs
-  pub says : g (get_or xs place d) ≡ Some v
-  pub before : (i : ℕ) → i < place → g (get_or xs i d) ≡ None
-
-pub first_is : {A B : Type 0} (g : A → Option B) (xs : List A) (d : A) (v : B) → first_said g xs ≡ Some v → IsFirst g xs d v
-first_is g [] d v h = absurd (none-some _ h)
-first_is {A} {B} g (x ∷ xs) d v h = step (g x) refl (first_is g xs d v) h
-  where
-    later : g x ≡ None → IsFirst g xs d v → IsFirst g (x ∷ xs) d v
-    later e m = record { place = suc m.place; within = omega (arith, m.within); says = m.says; before = before }
-      where
-        before : (i : ℕ) → i < suc m.place → g (get_or (x ∷ xs) i d) ≡ None
-        before zero l = e
-        before (suc i) l = m.before i (omega arith)
-
-    step : (o : Option B) → g x ≡ o → (first_said g xs ≡ Some v → IsFirst g xs d v) → option_or o (first_said g xs) ≡ Some v → IsFirst g (x ∷ xs) d v
-    step None e more t = later e (more t)
-    step (Some w) e more t = record { place = 0; within = omega arith; says = e ∙ t; before = λ i l. absurd (omega arith) }
-
-pub none_says : {A B : Type 0} (g : A → Option B) (xs : List A) (d : A) → first_said g xs ≡ None → (i : ℕ) → i < length xs → g (get_or xs i d) ≡ None
-none_says g [] d h i l = absurd (omega arith)
-none_says {A} {B} g (x ∷ xs) d h i l = step (g x) refl (none_says g xs d) h i l
-  where
-    step : (o : Option B) → g x ≡ o → (first_said g xs ≡ None → (j : ℕ) → j < length xs → g (get_or xs j d) ≡ None) → option_or o (first_said g xs) ≡ None → (j : ℕ) → j < length (x ∷ xs) → g (get_or (x ∷ xs) j d) ≡ None
-    step None e more t zero m = e
-    step None e more t (suc j) m = more t j (omega arith)
-    step (Some w) e more t j m = absurd (none-some _ (sym t))
-
-rank_is : (r : ℕ) → r < 4 → get_or ranks r 0 ≡ r
-rank_is zero h = refl
-rank_is (suc zero) h = refl
-rank_is (suc (suc zero)) h = refl
-rank_is (suc (suc (suc zero))) h = refl
-rank_is (suc (suc (suc (suc r)))) h = absurd (omega arith)
+-- each rank stands at its own place
+pub rank_is : (r d : ℕ) → r < 4 → get_or ranks r d ≡ r
+rank_is zero d h = refl
+rank_is (suc zero) d h = refl
+rank_is (suc (suc zero)) d h = refl
+rank_is (suc (suc (suc zero))) d h = refl
+rank_is (suc (suc (suc (suc r)))) d h = absurd (omega arith)
 
 -- ---- a candidate that is a path stands at that path
 
@@ -105,7 +75,7 @@ module _ (s : EntryMap) (x : Search) (ds : List (List ℕ)) where
   pub none_stands : (f : List ℕ) → taken s x ds f ≡ None → (c : Candidate) (p : PathParts) (i : ℕ) → Stands s x ds c p i → p.name ≡ f → ⊥
   none_stands f h c p i st e =
       let folder = get_or_from_slice_get ds i p.folder [] st.folder_is in
-      let none = none_says (λ d. candidate_at s x (path p.rank d f)) ds [] (ap (taken_in s x ds f) (sym (rank_is p.rank st.rank_within)) ∙ none_says (taken_in s x ds f) ranks 0 h p.rank st.rank_within) i (slice_get_within ds i p.folder st.folder_is) in
+      let none = none_says (λ d. candidate_at s x (path p.rank d f)) ds [] (ap (taken_in s x ds f) (sym (rank_is p.rank 0 st.rank_within)) ∙ none_says (taken_in s x ds f) ranks 0 h p.rank st.rank_within) i (slice_get_within ds i p.folder st.folder_is) in
       none-some _ (sym none ∙ ap (candidate_at s x) (sym (parts p p.rank (get_or ds i []) f refl (sym folder) e)) ∙ st.says)
 
 -- what is found first is taken
@@ -114,10 +84,10 @@ module _ (s : EntryMap) (x : Search) (ds : List (List ℕ)) (f : List ℕ) (c : 
   first_rank = first_is (taken_in s x ds f) ranks 0 c h
 
   first_folder : IsFirst (λ d. candidate_at s x (path first_rank.place d f)) ds [] c
-  first_folder = first_is (λ d. candidate_at s x (path first_rank.place d f)) ds [] c (ap (taken_in s x ds f) (sym (rank_is first_rank.place first_rank.within)) ∙ first_rank.says)
+  first_folder = first_is (λ d. candidate_at s x (path first_rank.place d f)) ds [] c (ap (taken_in s x ds f) (sym (rank_is first_rank.place 0 first_rank.within)) ∙ first_rank.says)
 
   lesser_rank : (r i : ℕ) → r < first_rank.place → i < length ds → candidate_at s x (path r (get_or ds i []) f) ≡ None
-  lesser_rank r i l w = none_says (λ d. candidate_at s x (path r d f)) ds [] (ap (taken_in s x ds f) (sym (rank_is r (omega (arith, first_rank.within, l)))) ∙ first_rank.before r l) i w
+  lesser_rank r i l w = none_says (λ d. candidate_at s x (path r d f)) ds [] (ap (taken_in s x ds f) (sym (rank_is r 0 (omega (arith, first_rank.within, l)))) ∙ first_rank.before r l) i w
 
   module _ (d : Candidate) (q : PathParts) (i : ℕ) (st : Stands s x ds d q i) (n : q.name ≡ f) where
     clash : {C : Type 0} (r : ℕ) → q.rank ≡ r → candidate_at s x (path r (get_or ds i []) f) ≡ None → C

@@ -1,6 +1,6 @@
 -- What is taken for a file name, found by walking through ranks and folders: words for private clauses.
-use Rattle.std.specs.Prelude.{ℕ, Option, None, List, [], ◌∷◌, ◌++◌}
-use Rattle.std.specs.Option.{option_or}
+use Rattle.std.specs.Prelude.{ℕ, Option, List, [], ◌∷◌, ◌++◌}
+use Rattle.list_laws.specs.FirstSaid.{first_said}
 use Rattle.load_path.specs.Paths.{PathParts}
 use Rattle.edit_sums.specs.Sums.{EntryMap}
 use Rattle.dropins.specs.declared.takes.Candidate.{Candidate}
@@ -10,11 +10,6 @@ use Rattle.dropins.specs.Taken.{candidate_at}
 
 abbrev pub path : ℕ → List ℕ → List ℕ → PathParts
 path r d f = record { rank = r; folder = d; name = f }
-
--- the first of a list that has something to say
-abbrev pub first_said : {A B : Type 0} → (A → Option B) → List A → Option B
-first_said f [] = None
-first_said f (x ∷ xs) = option_or (f x) (first_said f xs)
 
 -- the candidate of a file name in a directory's first folder that has one
 abbrev pub taken_in : EntryMap → Search → List (List ℕ) → List ℕ → ℕ → Option Candidate

@@ -1,6 +1,7 @@
 //! What is true of all stores and names: laws, each the contract of a function that does nothing.
 ghost use Rattle.dropins.specs.PrecedenceLaws.{RanksGoFirst, SomethingIsTaken, TakenOnce, MasksHide, FoldersDecide, RemovalsGiveBack};
-ghost use Rattle.dropins.specs.FolderLaws.{OneFolder};
+ghost use Rattle.dropins.specs.CutLaws.{CutsAreDashedFronts, LongerCutsComeFirst};
+ghost use Rattle.dropins.specs.FolderLaws.{OneFolder, FoldersAreNames, FoldersStandOnce};
 ghost use Rattle.dropins.specs.OrderLaws.{OneOrder, DropInsAreFiles};
 
 /// A directory's rank goes before the closeness of a folder. For each file name that anything
@@ -22,7 +23,13 @@ pub fn order_laws()
     ensures files { DropInsAreFiles }
 {}
 
-/// Names without dashes and without an instance have one folder.
+/// The folders of names are names, and each stands in the list once; names without dashes and
+/// without an instance have one folder. What a prefix is cut to are just its proper fronts that end
+/// in a dash, the longer ones first.
 pub fn folder_laws()
     ensures one { OneFolder }
+    ensures names { FoldersAreNames }
+    ensures once { FoldersStandOnce }
+    ensures cuts { CutsAreDashedFronts }
+    ensures longer { LongerCutsComeFirst }
 {}

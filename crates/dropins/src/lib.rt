@@ -15,6 +15,3 @@ pub use folder_lists::folders;
 pub use laws::{folder_laws, order_laws, precedence_laws};
 pub use link_names::{Folder, links};
 pub use orders::order;
-
-#[cfg(test)]
-mod tests;

@@ -11,6 +11,7 @@ use Rattle.std.specs.declared.cmp.Ordering.TheVariants.{Less, Equal, Greater}
 use Rattle.std.proofs.lemmas.Bool.{and_from, eqb-true, eqb-false}
 use Rattle.std.proofs.lemmas.List.{take_all}
 use Rattle.std.proofs.lemmas.Option.{same_Some, none-some}
+use Rattle.list_laws.specs.Members.{IsAmong}
 use Rattle.load_path.specs.Paths.{PathParts, path_cmp}
 use Rattle.load_path.specs.PathLaws.{path_cmp-IsAntisymmetric}
 use Rattle.edit_sums.specs.declared.entries.Entry.{Entry}
@@ -23,7 +24,7 @@ use Rattle.unit_name.specs.Forms.{template_at, template_of, with_instance}
 use Rattle.unit_name.specs.NameLaws.{name_cmp-IsAntisymmetric, instances_have_the_template, templates_keep_parts}
 use Rattle.fragment_choice.specs.Choices.{own_path}
 use Rattle.fragment_choice.specs.Resolutions.{main}
-use Rattle.fragment_choice.specs.UnitNames.{IsAmong, IsOtherName, AreNames}
+use Rattle.fragment_choice.specs.UnitNames.{IsOtherName, AreNames}
 use Rattle.fragment_choice.specs.LinkedNames.{is_link, unit_of, IsLinkedBy, IsLinkedAt, IsLinkedAmong, Gathers}
 use Rattle.fragment_choice.specs.LinkLaws.{aliases_have_links, instances_keep_their_part, others_lead}
 

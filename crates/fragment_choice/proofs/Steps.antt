@@ -1,13 +1,14 @@
 -- The ranks one by one, and the steps of a chain.
 use Rattle.std.proofs.Common.{◌≡◌, ℕ, suc, ◌<◌, Option, Some, None, drop, refl, ap, sym, ◌∙◌, subst}
 use Rattle.std.specs.Option.{option_or}
+use Rattle.list_laws.specs.FirstSaid.{first_said}
 use Rattle.fragment_choice.specs.declared.choices.Choice.{Choice}
 use Rattle.fragment_choice.specs.declared.choices.Choice.TheVariants.{NotFound, Masked, Fragment, Alias, Bad}
 use Rattle.fragment_choice.specs.declared.choices.Cause.TheVariants.{Loop}
 use Rattle.fragment_choice.specs.declared.resolutions.Resolution.{Resolution}
 use Rattle.unit_name.specs.Names.{Name}
 use Rattle.edit_sums.specs.Sums.{EntryMap}
-use Rattle.fragment_choice.specs.Choices.{first_said, ranks, choice}
+use Rattle.fragment_choice.specs.Choices.{ranks, choice}
 use Rattle.fragment_choice.specs.ChoiceLaws.{next_rank}
 use Rattle.fragment_choice.specs.Resolutions.{follow, ended_or, resolution, Resolves, IsEnd}
 use Rattle.fragment_choice.specs.ResolutionLaws.{resolution_resolves, no_alias_stands}

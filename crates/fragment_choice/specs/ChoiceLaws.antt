@@ -1,19 +1,18 @@
 -- Laws of choices: lesser ranks come first, and only what is visible counts.
-use Rattle.std.proofs.Common.{◌≡◌, ◌≢◌, ℕ, zero, suc, ◌+◌, ◌<◌, ◌≤◌, Option, Some, None, List, [], ◌∷◌, drop, refl, ap, sym, ◌∙◌, cond, IsTrue, arith, unwrap_or}
+use Rattle.std.proofs.Common.{◌≡◌, ◌≢◌, ℕ, zero, suc, ◌+◌, ◌<◌, ◌≤◌, Option, Some, None, [], ◌∷◌, drop, refl, ap, sym, ◌∙◌, cond, IsTrue, arith, unwrap_or}
 use Rattle.std.specs.Option.{option_and_then, option_or}
-use Rattle.std.specs.declared.cmp.Ordering.{Ordering}
-use Rattle.std.specs.declared.cmp.Ordering.TheVariants.{Less, Equal, Greater}
 use Rattle.load_path.specs.Paths.{PathParts, path_cmp}
 use Rattle.load_path.specs.PathLaws.{path_cmp_total, path_cmp-IsAntisymmetric}
-use Rattle.std.specs.Cmp.{tied_itself}
 use Rattle.edit_sums.specs.declared.contents.Content.{Content}
 use Rattle.edit_sums.specs.declared.contents.Content.TheVariants.{Gone, Link, File}
 use Rattle.edit_sums.specs.Sums.{EntryMap, visible_at}
 use Rattle.unit_name.specs.Names.{Name}
 use Rattle.unit_name.specs.Forms.{template_of}
+use Rattle.list_laws.specs.Agreements.{agree_everywhere}
+use Rattle.list_laws.specs.FirstSaid.{first_said, first_same, none_says}
 use Rattle.fragment_choice.specs.declared.choices.Choice.{Choice}
 use Rattle.fragment_choice.specs.declared.choices.Choice.TheVariants.{NotFound, Masked}
-use Rattle.fragment_choice.specs.Choices.{choice, content_says, first_said, is_null, link_says, last_component, own_choice, own_path, ranks, says}
+use Rattle.fragment_choice.specs.Choices.{choice, content_says, is_null, link_says, last_component, own_choice, own_path, ranks, says}
 
 -- the least rank that says anything of n under its own name makes the choice
 abbrev pub LeastRankChooses : Type 0
@@ -56,6 +55,17 @@ next_rank f (suc (suc (suc (suc r)))) h = absurd (omega arith)
 
 this_rank : {B : Type 0} (f : ℕ → Option B) (i : ℕ) (o : Option B) → i < 4 → f i ≡ o → first_said f (drop i ranks) ≡ option_or o (first_said f (drop (suc i) ranks))
 this_rank f i o h e = next_rank f i h ∙ ap (λ x. option_or x (first_said f (drop (suc i) ranks))) e
+
+-- none answers just where each rank has no answer
+pub none_said : {B : Type 0} (f : ℕ → Option B) → first_said f ranks ≡ None → (r : ℕ) → r < 4 → f r ≡ None
+none_said f h zero l = none_says f ranks 0 h 0 (omega arith)
+none_said f h (suc zero) l = none_says f ranks 0 h 1 (omega arith)
+none_said f h (suc (suc zero)) l = none_says f ranks 0 h 2 (omega arith)
+none_said f h (suc (suc (suc zero))) l = none_says f ranks 0 h 3 (omega arith)
+none_said f h (suc (suc (suc (suc r)))) l = absurd (omega arith)
+
+pub all_none : {B : Type 0} (f : ℕ → Option B) → ((r : ℕ) → r < 4 → f r ≡ None) → first_said f ranks ≡ None
+all_none f none = this_rank f 0 None (omega arith) (none 0 (omega arith)) ∙ this_rank f 1 None (omega arith) (none 1 (omega arith)) ∙ this_rank f 2 None (omega arith) (none 2 (omega arith)) ∙ this_rank f 3 None (omega arith) (none 3 (omega arith))
 
 -- from any rank on, the first answer is that of r
 first_at : {B : Type 0} (f : ℕ → Option B) (r : ℕ) (c : B) → r < 4 → f r ≡ Some c → ((k : ℕ) → k < r → f k ≡ None) → (d i : ℕ) → d + i ≡ r → first_said f (drop i ranks) ≡ Some c
@@ -106,10 +116,6 @@ pub masks_hide : MasksHide
 masks_hide s n r x h e m none =
     least_rank_chooses s n r Masked h (ap (option_and_then (content_says n n (own_path n r))) e ∙ mask_says n n (own_path n r) x m) none
 
-first_same : {A B : Type 0} (f g : A → Option B) → ((x : A) → f x ≡ g x) → (xs : List A) → first_said f xs ≡ first_said g xs
-first_same f g same [] = refl
-first_same f g same (x ∷ xs) = ap (λ o. option_or o (first_said f xs)) (same x) ∙ ap (option_or (g x)) (first_same f g same xs)
-
 own_same : (s t : EntryMap) → ((p : PathParts) → visible_at s p ≡ visible_at t p) → (n o : Name) → own_choice s n o ≡ own_choice t n o
 own_same s t same n o = first_same (says s n o) (says t n o) (λ k. ap (option_and_then (content_says n o (own_path o k))) (same (own_path o k))) ranks
 
@@ -123,12 +129,4 @@ only_visible_counts s t same n =
     by (Some o) = own_same s t same n o
 
 pub removals_give_back : RemovalsGiveBack
-removals_give_back s t p removed absent same = only_visible_counts s t (λ q. by q (path_cmp q p) refl)
-  where
-    unequal : (q : PathParts) (r : Ordering) → path_cmp q p ≡ r → (r ≡ Equal → ⊥) → q ≢ p
-    unequal q r e differ h = differ (sym e ∙ ap (λ x. path_cmp x p) h ∙ tied_itself path_cmp_total p)
-
-    by : (q : PathParts) (r : Ordering) → path_cmp q p ≡ r → visible_at s q ≡ visible_at t q
-    by q Less e = same q (unequal q Less e (λ h. cc (h)))
-    by q Equal e = let h = path_cmp-IsAntisymmetric q p e in ap (visible_at s) h ∙ removed ∙ sym (ap (visible_at t) h ∙ absent)
-    by q Greater e = same q (unequal q Greater e (λ h. cc (h)))
+removals_give_back s t p removed absent same = only_visible_counts s t (agree_everywhere path_cmp path_cmp_total path_cmp-IsAntisymmetric (visible_at s) (visible_at t) p (removed ∙ sym absent) same)

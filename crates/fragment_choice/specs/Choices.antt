@@ -4,6 +4,7 @@ use Rattle.std.specs.Option.{option_and_then, option_or}
 use Rattle.std.specs.List.{after_last}
 use Rattle.std.specs.Str.{bytes_eq}
 use Rattle.std.specs.Ordering.{eq_by_cmp}
+use Rattle.list_laws.specs.FirstSaid.{first_said}
 use Rattle.load_path.specs.Paths.{PathParts}
 use Rattle.edit_sums.specs.declared.contents.Content.{Content}
 use Rattle.edit_sums.specs.declared.contents.Content.TheVariants.{Gone, Link, File}
@@ -112,11 +113,6 @@ own_path o rank = path_at rank [] o
 -- what is visible of the own name o at a rank says this of n
 abbrev pub says : EntryMap → Name → Name → ℕ → Option Choice
 says s n o rank = option_and_then (content_says n o (own_path o rank)) (visible_at s (own_path o rank))
-
--- the first answer that there is
-abbrev pub first_said : {A B : Type 0} → (A → Option B) → List A → Option B
-first_said f [] = None
-first_said f (x ∷ xs) = option_or (f x) (first_said f xs)
 
 abbrev pub ranks : List ℕ
 ranks = 0 ∷ 1 ∷ 2 ∷ 3 ∷ []

@@ -10,10 +10,11 @@ use Rattle.unit_name.specs.declared.names.Shape.{Shape}
 use Rattle.unit_name.specs.declared.names.Shape.TheVariants.{Plain, Template, Instance}
 use Rattle.unit_name.specs.Names.{Name, shape, instance, kind, is_name}
 use Rattle.unit_name.specs.Forms.{template_of, with_instance}
+use Rattle.list_laws.specs.FirstSaid.{first_said}
 use Rattle.fragment_choice.specs.declared.choices.Choice.{Choice}
 use Rattle.fragment_choice.specs.declared.choices.Choice.TheVariants.{NotFound, Masked, Fragment, Bad}
 use Rattle.fragment_choice.specs.declared.resolutions.Resolution.{Resolution}
-use Rattle.fragment_choice.specs.Choices.{choice, own_choice, says, content_says, link_says, alias_of, alias_to, own_path, first_said, ranks, is_null, is_self, is_bad_kind, shapes_agree, last_component}
+use Rattle.fragment_choice.specs.Choices.{choice, own_choice, says, content_says, link_says, alias_of, alias_to, own_path, ranks, is_null, is_self, is_bad_kind, shapes_agree, last_component}
 use Rattle.fragment_choice.specs.declared.choices.Cause.TheVariants as cause
 use Rattle.fragment_choice.specs.Resolutions.{Resolves, resolution}
 use Rattle.fragment_choice.specs.Resolutions.Resolves.{ends_at, goes_on}

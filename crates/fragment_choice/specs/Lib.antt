@@ -5,5 +5,7 @@ pub mod ResolutionLaws
 pub mod UnitNames
 pub mod LinkedNames
 pub mod LinkLaws
+pub mod SilenceLaws
+pub mod LinkCaseLaws
 pub mod UnitNameLaws
 pub mod FragmentLaws

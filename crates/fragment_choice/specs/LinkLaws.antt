@@ -11,11 +11,12 @@ use Rattle.unit_name.specs.declared.names.Shape.TheVariants.{Plain, Template, In
 use Rattle.unit_name.specs.Names.{Name, IsName, is_name, kind, shape, instance}
 use Rattle.unit_name.specs.Forms.{template_at, template_of, with_instance}
 use Rattle.unit_name.specs.NameLaws.{instances_have_the_template, templates_keep_parts}
+use Rattle.list_laws.specs.FirstSaid.{first_said}
 use Rattle.fragment_choice.specs.declared.choices.Choice.{Choice}
 use Rattle.fragment_choice.specs.declared.choices.Choice.TheVariants.{NotFound, Masked, Fragment, Alias, Bad}
 use Rattle.fragment_choice.specs.declared.choices.Cause.TheVariants.{Kind, Shape, Target}
 use Rattle.fragment_choice.specs.declared.resolutions.Resolution.{Resolution}
-use Rattle.fragment_choice.specs.Choices.{alias_of, alias_to, content_says, first_said, is_bad_kind, is_null, is_self, last_component, link_says, own_choice, own_path, ranks, says, shapes_agree, target_says}
+use Rattle.fragment_choice.specs.Choices.{alias_of, alias_to, content_says, is_bad_kind, is_null, is_self, last_component, link_says, own_choice, own_path, ranks, says, shapes_agree, target_says}
 use Rattle.fragment_choice.specs.Resolutions.{Chain, Leads, Resolves, main, resolution}
 use Rattle.fragment_choice.specs.Resolutions.Chain.{here, step}
 use Rattle.fragment_choice.specs.Resolutions.Resolves.{ends_at, goes_on}
@@ -31,7 +32,7 @@ abbrev pub InstancesKeepTheirPart : Type 0
 InstancesKeepTheirPart = (s : EntryMap) (n : Name) → IsName n → shape n ≡ Instance → IsName (main s n) × (shape (main s n) ≡ Instance) × (instance (main s n) ≡ instance n)
 
 -- an answer comes from one of the ranks
-said_by : {B : Type 0} (f : ℕ → Option B) (c : B) → first_said f ranks ≡ Some c → (r : ℕ) × (r < 4) × (f r ≡ Some c)
+pub said_by : {B : Type 0} (f : ℕ → Option B) (c : B) → first_said f ranks ≡ Some c → (r : ℕ) × (r < 4) × (f r ≡ Some c)
 said_by {B = B} f c h = at0 (f 0) refl h
   where
     at3 : (o : Option B) → f 3 ≡ o → option_or o None ≡ Some c → (r : ℕ) × (r < 4) × (f r ≡ Some c)

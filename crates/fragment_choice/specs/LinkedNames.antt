@@ -1,5 +1,6 @@
 -- The names that links give to a unit.
 use Rattle.std.specs.Prelude.{◌≡◌, ℕ, Bool, true, false, Option, Some, None, List, [], ◌∷◌, ◌⊎◌, IsTrue, if◌then◌else◌}
+use Rattle.list_laws.specs.Members.{IsAmong}
 use Rattle.load_path.specs.Paths.{PathParts}
 use Rattle.edit_sums.specs.declared.contents.Content.{Content}
 use Rattle.edit_sums.specs.declared.contents.Content.TheVariants.{Gone, Link, File}
@@ -7,7 +8,7 @@ use Rattle.edit_sums.specs.Sums.{EntryMap, visible_at}
 use Rattle.unit_name.specs.Names.{Name, is_name}
 use Rattle.unit_name.specs.Forms.{template_of}
 use Rattle.fragment_choice.specs.Choices.{own_path}
-use Rattle.fragment_choice.specs.UnitNames.{IsAmong, IsOtherName}
+use Rattle.fragment_choice.specs.UnitNames.{IsOtherName}
 
 -- the unit name that these bytes are
 abbrev pub unit_of : List ℕ → Option Name

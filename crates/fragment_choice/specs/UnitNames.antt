@@ -1,14 +1,10 @@
 -- All names of a unit.
-use Rattle.std.specs.Prelude.{◌≡◌, ◌≢◌, List, [], ◌∷◌, ◌⊎◌, ◌↔◌}
+use Rattle.std.specs.Prelude.{◌≡◌, ◌≢◌, List, ◌∷◌, ◌↔◌}
 use Rattle.std.specs.List.Sorted.{IsStrictlySortedBy}
+use Rattle.list_laws.specs.Members.{IsAmong}
 use Rattle.edit_sums.specs.Sums.{EntryMap}
 use Rattle.unit_name.specs.Names.{Name, name_cmp, IsName}
 use Rattle.fragment_choice.specs.Resolutions.{main}
-
--- n is one of these
-abbrev pub IsAmong : Name → List Name → Type 0
-IsAmong n [] = ⊥
-IsAmong n (m ∷ ms) = (m ≡ n) ⊎ IsAmong n ms
 
 -- n is another name of the unit u: its main is u
 pub record IsOtherName (s : EntryMap) (u n : Name) : Type 0 where

@@ -1,13 +1,16 @@
 //! What is true of all choices and resolutions: laws, each the contract of a function that does
 //! nothing.
 ghost use Rattle.fragment_choice.specs.ChoiceLaws.{LeastRankChooses, TemplatesComeLast, GreaterRanksDontCount, MasksHide, OnlyVisibleCounts, RemovalsGiveBack};
+ghost use Rattle.fragment_choice.specs.SilenceLaws.{SilenceIsNotFound};
 ghost use Rattle.fragment_choice.specs.LinkLaws.{AliasesHaveLinks, InstancesKeepTheirPart};
+ghost use Rattle.fragment_choice.specs.LinkCaseLaws.{KindsMakeBad, ShapesMakeBad, TargetsMakeBad, NoLinkIsALoop, GoodLinksMakeAliases};
 ghost use Rattle.fragment_choice.specs.ResolutionLaws.{FollowingFindsTheEnd, MainsAreTheirOwn, NoAliasStands};
 ghost use Rattle.fragment_choice.specs.FragmentLaws.{FragmentsAreFiles};
 ghost use Rattle.fragment_choice.specs.UnitNameLaws.{NamesHaveTheMain, NamesDontMeet, OneListOfNames};
 
 /// The least rank that says anything chooses, whatever greater ranks hold; a mask hides these, and
-/// a removal gives back what was there.
+/// a removal gives back what was there. A name is not found just where all that is visible of it
+/// and of its template is passed over.
 pub fn choice_laws()
     ensures least { LeastRankChooses }
     ensures templates { TemplatesComeLast }
@@ -15,6 +18,7 @@ pub fn choice_laws()
     ensures masks { MasksHide }
     ensures visible { OnlyVisibleCounts }
     ensures removals { RemovalsGiveBack }
+    ensures silence { SilenceIsNotFound }
 {}
 
 /// An alias has a link of its own name or of its template's, and an instance's main name is an
@@ -22,6 +26,18 @@ pub fn choice_laws()
 pub fn link_laws()
     ensures aliases { AliasesHaveLinks }
     ensures instances { InstancesKeepTheirPart }
+{}
+
+/// What a link says, case by case. Kinds that differ or have no aliases make it bad, then shapes
+/// that don't agree, and a target that ends in no unit's name or makes one that is too long. No
+/// single link is a loop. All others that aren't passed over make an alias: of the target, or of
+/// the target with the instance's part.
+pub fn link_case_laws()
+    ensures kinds { KindsMakeBad }
+    ensures shapes { ShapesMakeBad }
+    ensures targets { TargetsMakeBad }
+    ensures loops { NoLinkIsALoop }
+    ensures aliases { GoodLinksMakeAliases }
 {}
 
 /// Following a name's aliases finds the end of their chain, which is its own main and no alias. A

@@ -9,9 +9,6 @@ mod names;
 mod resolutions;
 
 pub use choices::{Cause, Choice, choose};
-pub use laws::{choice_laws, link_laws, resolution_laws, unit_laws};
+pub use laws::{choice_laws, link_case_laws, link_laws, resolution_laws, unit_laws};
 pub use names::names_of;
 pub use resolutions::{Resolution, resolve};
-
-#[cfg(test)]
-mod tests;

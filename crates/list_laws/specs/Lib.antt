@@ -1,5 +1,9 @@
+pub mod Agreements
 pub mod Cuts
+pub mod FirstSaid
 pub mod Lines
+pub mod Members
 pub mod Orderings
+pub mod Rising
 pub mod Searches
 pub mod Truths

@@ -1,6 +1,7 @@
 //! Edits and stores in words.
 //!
-//! An edit is `COUNTER.WRITER:PATH` for a removal, with `=TEXT` behind it for a file and with `>TARGET` for a link.
+//! An edit is `COUNTER.WRITER:PATH` for a removal, with `=TEXT` behind it for a file and with `>TARGET` for a link. In a
+//! list of edits the version may be left out: each that has none is then later than those before it.
 use crate::calls::{CallFault, Words, append_path, append_text, number_of, path_of, text_of};
 use replica_store::{Content, ContentFault, Edit, Entry, Path, Store, Version};
 use std::alloc::{AllocError, Global};
@@ -49,14 +50,28 @@ pub fn edit_of(alloc: Global, word: &[u8]) -> Result<Edit, CallFault> {
     })
 }
 
+// The edit that a word of a list writes; without a version it has the counter that its place gives, and the writer 1.
+fn listed_edit(alloc: Global, word: &[u8], place: usize) -> Result<Edit, CallFault> {
+    if word.first().is_some_and(|b| b.is_ascii_digit()) {
+        return edit_of(alloc, word);
+    }
+    let counter = place as u64;
+    let (path, content) = placed_of(alloc, word)?;
+    Ok(Edit {
+        path,
+        version: Version { counter, writer: 1 },
+        content,
+    })
+}
+
 /// The edits that words write, up to the word `+` or to the end.
 pub fn edits(alloc: Global, words: &mut Words) -> Result<Vec<Edit>, CallFault> {
     let mut edits = Vec::new(alloc);
-    for _ in 0..words.count() {
+    for place in 1..=words.count() {
         if words.takes(b"+") {
             break;
         }
-        edits.push(edit_of(alloc, words.word()?)?)?;
+        edits.push(listed_edit(alloc, words.word()?, place)?)?;
     }
     Ok(edits)
 }

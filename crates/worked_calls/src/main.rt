@@ -5,16 +5,19 @@
 #![tactic(auto)]
 
 mod calls;
+mod choices;
 mod contents;
+mod drop_ins;
 mod edits;
+mod joins;
+mod name_lists;
 mod names;
 mod orders;
 mod paths;
-mod script_lines;
-mod sections;
-mod joins;
 mod pieces;
 mod replicas;
+mod script_lines;
+mod sections;
 mod stores;
 mod worlds;
 
@@ -41,6 +44,8 @@ fn answer(alloc: Global, line: &[u8]) -> Result<Vec<u8>, CallFault> {
         b"piece" => pieces::answer(alloc, &mut words),
         b"digest" => pieces::answer_digest(alloc, &mut words),
         b"world" => worlds::answer(alloc, &mut words),
+        b"fragment" => choices::answer(alloc, &mut words),
+        b"dropins" => drop_ins::answer(alloc, &mut words),
         _ => Err(CallFault::Line),
     }
 }

@@ -4,7 +4,7 @@ use Rattle.std.specs.Option.{option_or}
 use Rattle.std.specs.Str.{bytes_eq}
 use Rattle.unit_name.specs.Names.{name_cmp}
 use Rattle.dropins.specs.Taken.{candidate_at}
-use Rattle.dropins.specs.Walks.{first_said}
+use Rattle.list_laws.specs.FirstSaid.{first_said}
 use Rattle.dropins.proofs.Found.{folder_says}
 use Rattle.dropins.proofs.takes.take_folder.Goals as goal
 

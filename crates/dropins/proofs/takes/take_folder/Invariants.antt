@@ -5,7 +5,8 @@ use Rattle.std.specs.Str.{bytes_eq}
 use Rattle.std.specs.Vec.Iter.{into_iter_items}
 use Rattle.unit_name.specs.Names.{name_cmp}
 use Rattle.dropins.specs.Taken.{candidate_at}
-use Rattle.dropins.specs.Walks.{first_said, path}
+use Rattle.list_laws.specs.FirstSaid.{first_said}
+use Rattle.dropins.specs.Walks.{path}
 use Rattle.dropins.proofs.takes.take_folder.Given as goal
 
 abbrev pub invariant-loop-path : goal.invariant-loop-path

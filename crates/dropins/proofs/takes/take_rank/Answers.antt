@@ -4,7 +4,7 @@ use Rattle.std.specs.Option.{option_or}
 use Rattle.unit_name.specs.Names.{name_cmp}
 use Rattle.dropins.specs.Taken.{candidate_at}
 use Rattle.dropins.specs.Walks.{path}
-use Rattle.dropins.proofs.Firsts.{said_more}
+use Rattle.list_laws.specs.FirstSaid.{said_more}
 use Rattle.dropins.proofs.takes.take_rank.Goals as goal
 
 pub loop-dir-preserved : goal.loop-dir-preserved

@@ -1,7 +1,8 @@
 use Rattle.std.proofs.Common.{◌≡◌, ℕ, List, take}
 use Rattle.std.specs.BTreeMap.{get}
 use Rattle.unit_name.specs.Names.{name_cmp}
-use Rattle.dropins.specs.Walks.{first_said, ranks, taken_in}
+use Rattle.list_laws.specs.FirstSaid.{first_said}
+use Rattle.dropins.specs.Walks.{ranks, taken_in}
 use Rattle.dropins.proofs.takes.taken.Given as goal
 
 abbrev pub invariant-loop-rank : goal.invariant-loop-rank

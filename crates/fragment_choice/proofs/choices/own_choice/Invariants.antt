@@ -1,5 +1,6 @@
 use Rattle.std.proofs.Common.{◌≡◌, drop}
-use Rattle.fragment_choice.specs.Choices.{first_said, says, ranks, own_choice}
+use Rattle.list_laws.specs.FirstSaid.{first_said}
+use Rattle.fragment_choice.specs.Choices.{says, ranks, own_choice}
 use Rattle.fragment_choice.proofs.choices.own_choice.Given as goal
 
 abbrev pub invariant-loop-rank : goal.invariant-loop-rank

@@ -1,4 +1,5 @@
 use Rattle.fragment_choice.specs.ChoiceLaws.{least_rank_chooses, templates_come_last, greater_ranks_dont_count, masks_hide, only_visible_counts, removals_give_back}
+use Rattle.fragment_choice.specs.SilenceLaws.{silence_is_not_found}
 use Rattle.fragment_choice.proofs.laws.choice_laws.Goals as goal
 
 pub returns : goal.returns
@@ -9,4 +10,5 @@ returns c = record {
   masks = masks_hide;
   visible = only_visible_counts;
   removals = removals_give_back;
+  silence = silence_is_not_found;
 }
