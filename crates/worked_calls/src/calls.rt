@@ -64,7 +64,7 @@ impl<'a> Words<'a> {
         number_of(self.word()?)
     }
 
-    /// The next word as a path, its directory written out or as `E`, `R`, `L` or `U`.
+    /// The next word as a path, its directory as `E`, `R`, `L` or `U`.
     pub fn path(&mut self) -> Result<Path, CallFault> {
         let word = self.word()?;
         path_of(self.alloc, word)
