@@ -15,12 +15,14 @@ use Rattle.world_law.specs.declared.events.Event.TheVariants.{Give}
 use Rattle.world_law.specs.Cuts.{VersionMap, cut, digest_of}
 use Rattle.fleet_script.specs.declared.states.Kept.{Kept}
 use Rattle.fleet_script.specs.declared.states.Named.{Named}
-use Rattle.fleet_script.specs.declared.commands.Refusal.TheVariants.{UnknownNode, UnknownPiece, Directory, Depth, Component}
-use Rattle.fleet_script.specs.declared.commands.Fault.{Fault}
-use Rattle.fleet_script.specs.Faults.{fault_of_path}
-use Rattle.fleet_script.specs.Does.{Refuses, RefusesPath, AtPaths, AtPiece, Merges, Parts, Sends, Sweeps, if_any, paths_of}
-use Rattle.fleet_script.specs.Texts.{Outcome, changed_line, entries_line}
-use Rattle.fleet_script.specs.Worlds.{World, held, happened, merged, merged_all, numbers_from, parted, piece_named}
+use Rattle.script_commands.specs.declared.commands.Refusal.TheVariants.{UnknownNode, UnknownPiece, Directory, Depth, Component}
+use Rattle.script_commands.specs.declared.commands.Fault.{Fault}
+use Rattle.script_commands.specs.Faults.{fault_of_path}
+use Rattle.fleet_script.specs.Does.{Refuses, RefusesPath, AtPaths, AtPiece, Merges, Parts, Sends, Sweeps, if_any}
+use Rattle.script_commands.specs.Paths.{paths_of}
+use Rattle.script_commands.specs.Outcomes.{Outcome}
+use Rattle.script_answers.specs.Texts.{changed_line, entries_line}
+use Rattle.script_worlds.specs.Worlds.{World, held, happened, merged, merged_all, numbers_from, parted, piece_named}
 use Rattle.fleet_script.specs.Holds.{Holds, Keeps, Continues, IsJoinedAt, IsNamed, IsPiece, is_called, is_named, joined_with, piece_kept}
 use Rattle.fleet_script.proofs.Nodes.{keep, count_is, slice_get_at, holds_merge, holds_send, holds_part}
 use Rattle.fleet_script.proofs.Pieces.{kept_at, kept_none}

@@ -1,10 +1,8 @@
-pub mod Cats
-pub mod Lawful
 pub mod Nodes
 pub mod Pieces
 pub mod Steps
 pub mod Between
 pub mod Lines
 pub mod Runs
-pub mod OneAnswer
-pub mod Reach
+pub mod StepKinds
+pub mod WholeScripts

@@ -3,14 +3,15 @@ use Rattle.std.proofs.Common.{◌≡◌, ℕ, ◌≤◌, false, nat_lt, List, le
 use Rattle.std.specs.Prelude.{MatchResult}
 use Rattle.std.proofs.lemmas.Bool.Decides.{nat_tests}
 use Rattle.script_words.specs.Lines.{is_passed_over}
-use Rattle.fleet_script.specs.declared.commands.Command.{Command}
-use Rattle.fleet_script.specs.declared.commands.Refusal.{Refusal}
-use Rattle.fleet_script.specs.declared.commands.Fault.{Fault}
-use Rattle.fleet_script.specs.Commands.{command_of}
+use Rattle.script_commands.specs.declared.commands.Command.{Command}
+use Rattle.script_commands.specs.declared.commands.Refusal.{Refusal}
+use Rattle.script_commands.specs.declared.commands.Fault.{Fault}
+use Rattle.script_commands.specs.Commands.{command_of}
 use Rattle.fleet_script.specs.Does.{Does, Refuses}
 use Rattle.fleet_script.specs.Scripts.{AnswersLine}
-use Rattle.fleet_script.specs.Texts.{Outcome, outcome_text}
-use Rattle.fleet_script.specs.Worlds.{World}
+use Rattle.script_commands.specs.Outcomes.{Outcome}
+use Rattle.script_answers.specs.Texts.{outcome_text}
+use Rattle.script_worlds.specs.Worlds.{World}
 use Rattle.fleet_script.specs.Holds.{Keeps, Continues}
 use Rattle.fleet_script.proofs.Steps.{IsTold, said_weaker, match_false}
 

@@ -15,9 +15,10 @@ use Rattle.world_law.specs.Cuts.{cut, digest_of}
 use Rattle.world_law.specs.WorldLaws.{piece_stays, answer_is}
 use Rattle.fleet_script.specs.declared.states.Kept.{Kept}
 use Rattle.fleet_script.specs.declared.states.Named.{Named}
-use Rattle.fleet_script.specs.Worlds.{World, Member, state, held, happened, answered, parted, merged, with_node, node_named, has_writer, writer_at, next_edit, next_ask, next_piece, piece_named}
-use Rattle.fleet_script.specs.Holds.{Holds, Keeps, IsLawful, IsNamed, IsPiece, member_of, is_named, piece_kept}
-use Rattle.fleet_script.proofs.Lawful.{held_put, held_put_elsewhere, held_answered, held_given, held_given_elsewhere, held_merged, held_merged_elsewhere, held_with_node, held_past, lawful_put, lawful_answered, lawful_given, lawful_merged, lawful_with_node, state_with_node}
+use Rattle.script_worlds.specs.Worlds.{World, Member, state, held, happened, answered, parted, merged, with_node, node_named, has_writer, writer_at, next_edit, next_ask, next_piece, piece_named}
+use Rattle.fleet_script.specs.Holds.{Holds, Keeps, IsNamed, IsPiece, member_of, is_named, piece_kept}
+use Rattle.script_worlds.specs.Lawful.{IsLawful}
+use Rattle.script_worlds.specs.LawfulLaws.{held_put, held_put_elsewhere, held_answered, held_given, held_given_elsewhere, held_merged, held_merged_elsewhere, held_with_node, held_past, lawful_put, lawful_answered, lawful_given, lawful_merged, lawful_with_node, state_with_node}
 
 abbrev pub keep : List Kept → List Named → Keeps
 keep nodes pieces = record { nodes = nodes; pieces = pieces }

@@ -5,8 +5,6 @@ use Rattle.std.specs.Str.{bytes_eq}
 use Rattle.std.proofs.lemmas.Bool.{true≢false}
 use Rattle.std.proofs.lemmas.Bool.Decides.{nat_tests}
 use Rattle.std.proofs.lemmas.Slice.Eq.{bytes_eq-Decides}
-use Rattle.load_path.specs.Paths.{PathParts}
-use Rattle.load_path.specs.declared.paths.PathFault.{PathFault}
 use Rattle.edit_sums.specs.Sums.{EntryMap}
 use Rattle.fleet_script.specs.declared.states.Named.{Named}
 use Rattle.fleet_script.specs.Holds.{is_called, piece_kept}
@@ -110,14 +108,3 @@ module _ (name : List ℕ) (piece : EntryMap) (other : List ℕ) where
 pub where_done : {T E : Type 0} (P : Type 0) (r : Result T E) → ((x : T) → r ≡ Ok x → P) → OnOk r P
 where_done P (Ok x) f = f x refl
 where_done P (Err e) f = tt
-
--- ---- the paths of a line
-
--- these paths, and then those that are read
-abbrev pub and_then : List PathParts → Result (List PathParts) PathFault → Result (List PathParts) PathFault
-and_then read (Ok paths) = Ok (read ++ paths)
-and_then read (Err fault) = Err fault
-
-pub and_then-nothing : (r : Result (List PathParts) PathFault) → r ≡ and_then [] r
-and_then-nothing (Ok paths) = refl
-and_then-nothing (Err fault) = refl

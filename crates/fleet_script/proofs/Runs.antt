@@ -8,10 +8,10 @@ use Rattle.std.proofs.lemmas.List.{append-nil, take_at, take_all}
 use Rattle.script_words.specs.Lines.{lines_of}
 use Rattle.script_pipes.specs.KnownBytes.{AppendsFront}
 use Rattle.script_pipes.specs.KnownBytesLaws.{Appends-append, Appends-nothing}
-use Rattle.fleet_script.specs.Worlds.{World, blank}
+use Rattle.script_worlds.specs.Worlds.{World, blank}
 use Rattle.fleet_script.specs.Scripts.{Run, AnswersLine, Answers, AnswersFront}
 use Rattle.fleet_script.specs.Holds.{Holds, Keeps, Continues}
-use Rattle.fleet_script.proofs.Lawful.{lawful_blank}
+use Rattle.script_worlds.specs.LawfulLaws.{lawful_blank}
 
 -- one line more
 run_more : (old : World) (lines : List (List ℕ)) (written : List ℕ) (mid : World) (line answer : List ℕ) (new : World)

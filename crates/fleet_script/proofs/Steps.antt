@@ -20,23 +20,20 @@ use Rattle.replica_store.specs.declared.replicas.EditFault.{EditFault}
 use Rattle.replica_store.specs.declared.replicas.EditFault.TheVariants as edit
 use Rattle.replica_store.specs.Replicas.{Replicated, next_version, with_put}
 use Rattle.script_words.specs.Text.{Spells, IsBadText}
-use Rattle.unit_name.specs.declared.names.NameFault.{NameFault}
-use Rattle.unit_name.specs.declared.names.NameFault.TheVariants as name
-use Rattle.unit_name.specs.Names.{name_of, IsFaultOf}
-use Rattle.fragment_choice.specs.declared.choices.Choice.{Choice}
-use Rattle.fragment_choice.specs.Resolutions.{resolution}
 use Rattle.fleet_script.specs.declared.states.Kept.{Kept}
-use Rattle.fleet_script.specs.declared.commands.Refusal.{Refusal}
-use Rattle.fleet_script.specs.declared.commands.Refusal.TheVariants.{UnknownNode, BadText, NodeTaken, WriterTaken, Directory, Depth, Component, FileTooLarge, BadLink, VersionsSpent, Nothing, Length, Kind, EmptyPrefix, BadByte}
-use Rattle.fleet_script.specs.declared.commands.Fault.{Fault}
-use Rattle.fleet_script.specs.declared.commands.Fault.TheVariants.{Refused, Memory}
-use Rattle.fleet_script.specs.Faults.{fault_of_path, fault_of_edit, fault_of_name}
-use Rattle.fleet_script.specs.Does.{Gives, Refuses, AtNode, AtPath, RefusesPath, Writes, Names, Puts, Links, Removes, Tells, Compares, RefusesName, AtName, TellsChoice, TellsUnit}
-use Rattle.fleet_script.specs.Texts.{Outcome, ok_line, files_text}
+use Rattle.script_commands.specs.declared.commands.Refusal.{Refusal}
+use Rattle.script_commands.specs.declared.commands.Refusal.TheVariants.{UnknownNode, BadText, NodeTaken, WriterTaken, Directory, Depth, Component, FileTooLarge, BadLink, VersionsSpent, Nothing, Length, Kind, EmptyPrefix, BadByte}
+use Rattle.script_commands.specs.declared.commands.Fault.{Fault}
+use Rattle.script_commands.specs.declared.commands.Fault.TheVariants.{Refused, Memory}
+use Rattle.script_commands.specs.Faults.{fault_of_path, fault_of_edit, fault_of_name}
+use Rattle.fleet_script.specs.Does.{Gives, Refuses, AtNode, AtPath, RefusesPath, Writes, Names, Puts, Links, Removes, Reads, Compares}
+use Rattle.script_commands.specs.Outcomes.{Outcome}
+use Rattle.script_answers.specs.Texts.{ok_line, files_text}
 use Rattle.fleet_script.specs.declared.states.Named.{Named}
 use Rattle.world_law.specs.declared.events.Event.TheVariants.{Put}
-use Rattle.fleet_script.specs.Worlds.{World, held, happened, with_node, has_writer, next_edit}
-use Rattle.fleet_script.specs.Holds.{Holds, Keeps, Continues, IsSaid, is_named}
+use Rattle.script_worlds.specs.Worlds.{World, held, happened, with_node, has_writer, next_edit}
+use Rattle.fleet_script.specs.Holds.{Holds, Keeps, Continues, is_named}
+use Rattle.script_commands.specs.Outcomes.{IsSaid}
 use Rattle.fleet_script.proofs.Nodes.{keep, named_is, writers_are, writer_is, set_same, holds_put, holds_node}
 
 -- ---- cases
@@ -65,12 +62,6 @@ said_weaker (Err Memory) P Q f p = tt
 pub path_read : (text : List ℕ) (p : PathParts) → (◌≡◌ {A = Result PathParts PathFault} (Ok p) (Err path.Memory)) ⊎ (Ok p ≡ path_of text) → path_of text ≡ Ok p
 path_read text p (inl e) = cc (e)
 path_read text p (inr e) = sym e
-
-at_name : (world new : World) (outcome : Outcome) (word : List ℕ) (P : List ℕ → Type 0) (n : List ℕ) → name_of word ≡ Ok n → P n → AtName world outcome new word P
-at_name world new outcome word P n e p = subst (λ (r : Result (List ℕ) NameFault). MatchResult r P (RefusesName world outcome new)) (sym e) p
-
-no_name : (world new : World) (outcome : Outcome) (word : List ℕ) (P : List ℕ → Type 0) (f : NameFault) → name_of word ≡ Err f → RefusesName world outcome new f → AtName world outcome new word P
-no_name world new outcome word P f e p = subst (λ (r : Result (List ℕ) NameFault). MatchResult r P (RefusesName world outcome new)) (sym e) p
 
 module _ (pieces : List Named) where
   module _ (nodes : List Kept) (world : World) (h : Holds (keep nodes pieces) world) (name : List ℕ) where
@@ -331,15 +322,22 @@ module _ (pieces : List Named) where
             by None q = absurd (visible q)
             by (Some content) q = remove_written (Ok text) (set nodes i new) content q (wrote nodes i kept new p Gone version text lt at (below (subst (λ (y : Option Content). IsSome y) (sym q) refl)) v e named put_in)
 
-  -- ---- files, same
+  -- ---- what is read alone
 
-  pub files_unknown : (nodes : List Kept) (node : List ℕ) → position (is_named node) nodes ≡ None → Continues (keep nodes pieces) (keep nodes pieces) (λ old new. Tells old (Err UnknownNode) new node)
-  files_unknown nodes node none world h = (world, h, at_unknown nodes world h node _ none)
+  -- what is told of a node's store is the outcome, and nothing else happens
+  pub read_unknown : (nodes : List Kept) (node : List ℕ) (Tells : EntryMap → Outcome → Type 0) → position (is_named node) nodes ≡ None → Continues (keep nodes pieces) (keep nodes pieces) (λ old new. Reads old (Err UnknownNode) new node Tells)
+  read_unknown nodes node Tells none world h = (world, h, at_unknown nodes world h node _ none)
 
-  pub files_told : (nodes : List Kept) (node : List ℕ) (i : ℕ) (kept : Kept) (text : List ℕ) → position (is_named node) nodes ≡ Some i → slice_get nodes i ≡ Some kept → text ≡ files_text kept.replica.store
-      → Continues (keep nodes pieces) (keep nodes pieces) (λ old new. Tells old (Ok text) new node)
-  files_told nodes node i kept text some at e world h =
-      (world, h, at_known nodes world h node (Ok text) world _ i some (record { outcome_is = ap Ok (e ∙ ap files_text (h.stores i kept at)); world_is = refl }))
+  pub read_told : (nodes : List Kept) (node : List ℕ) (i : ℕ) (kept : Kept) (Tells : EntryMap → Outcome → Type 0) (r : Result (Vec ℕ Global) Fault) → position (is_named node) nodes ≡ Some i → slice_get nodes i ≡ Some kept
+      → IsTold r (Tells kept.replica.store) → IsTold r (λ outcome. Continues (keep nodes pieces) (keep nodes pieces) (λ old new. Reads old outcome new node Tells))
+  read_told nodes node i kept Tells r some at told =
+      said_weaker r _ _ (λ outcome tells world h. (
+        world,
+        h,
+        at_known nodes world h node outcome world _ i some (record { told = subst (λ (s : EntryMap). Tells s outcome) (h.stores i kept at) tells; world_is = refl }),
+      )) told
+
+  -- ---- same
 
   module _ (nodes : List Kept) (left right : List ℕ) where
     pub same_unknown_left : position (is_named left) nodes ≡ None → Continues (keep nodes pieces) (keep nodes pieces) (λ old new. Compares old (Err UnknownNode) new left right)
@@ -363,39 +361,4 @@ module _ (pieces : List Named) where
         h,
         at_known nodes world h left (Ok text) world _ j some_left (at_known nodes world h right (Ok text) world _ i some_right
             (inr ((λ alike. apart (h.stores j one at_left ∙ alike ∙ sym (h.stores i other at_right))), record { outcome_is = ap Ok e; world_is = refl }))),
-      )
-
-  -- ---- cat
-
-  module _ (nodes : List Kept) (node unit : List ℕ) where
-    pub cat_unknown : position (is_named node) nodes ≡ None → Continues (keep nodes pieces) (keep nodes pieces) (λ old new. TellsUnit old (Err UnknownNode) new node unit)
-    cat_unknown none world h = (world, h, at_unknown nodes world h node _ none)
-
-    module _ (i : ℕ) (some : position (is_named node) nodes ≡ Some i) where
-      at_fault : (world : World) → Holds (keep nodes pieces) world → (f : NameFault) (outcome : Outcome) → name_of unit ≡ Err f → RefusesName world outcome world f → TellsUnit world outcome world node unit
-      at_fault world h f outcome e r = at_known nodes world h node outcome world _ i some (no_name world world outcome unit _ f e r)
-
-      -- a word that is no unit name
-      pub cat_no_name : (f : NameFault) (fault : Fault) → IsFaultOf unit f → fault ≡ fault_of_name f → IsTold (Err fault) (λ outcome. Continues (keep nodes pieces) (keep nodes pieces) (λ old new. TellsUnit old outcome new node unit))
-      cat_no_name f fault wrong is = subst (λ (g : Fault). IsTold (Err g) (λ outcome. Continues (keep nodes pieces) (keep nodes pieces) (λ old new. TellsUnit old outcome new node unit))) (sym is) (by f wrong)
-        where
-          by : (g : NameFault) → IsFaultOf unit g → IsTold (Err (fault_of_name g)) (λ outcome. Continues (keep nodes pieces) (keep nodes pieces) (λ old new. TellsUnit old outcome new node unit))
-          by name.Length e = λ world h. (world, h, at_fault world h name.Length (Err Length) e (refuses world Length))
-          by name.Kind e = λ world h. (world, h, at_fault world h name.Kind (Err Kind) e (refuses world Kind))
-          by name.EmptyPrefix e = λ world h. (world, h, at_fault world h name.EmptyPrefix (Err EmptyPrefix) e (refuses world EmptyPrefix))
-          by (name.BadByte place) e = λ world h. (world, h, at_fault world h (name.BadByte place) (Err (BadByte place)) e (refuses world (BadByte place)))
-          by name.Memory e = tt
-
-      -- what stands for the unit
-      pub cat_told : (n : List ℕ) (kept : Kept) (main : List ℕ) (c : Choice) (outcome : Outcome) → name_of unit ≡ Ok n → slice_get nodes i ≡ Some kept
-          → (resolution kept.replica.store n).main ≡ main → (resolution kept.replica.store n).choice ≡ c
-          → ((world : World) → TellsChoice world outcome world kept.replica.store main c)
-          → Continues (keep nodes pieces) (keep nodes pieces) (λ old new. TellsUnit old outcome new node unit)
-      cat_told n kept main c outcome named at main_is choice_is told world h = (
-        world,
-        h,
-        at_known nodes world h node outcome world _ i some (at_name world world outcome unit _ n named
-            (subst (λ (s : EntryMap). TellsChoice world outcome world s (resolution s n).main (resolution s n).choice) (h.stores i kept at)
-            (subst (λ (m : List ℕ). TellsChoice world outcome world kept.replica.store m (resolution kept.replica.store n).choice) (sym main_is)
-            (subst (λ (d : Choice). TellsChoice world outcome world kept.replica.store main d) (sym choice_is) (told world))))),
       )

@@ -8,39 +8,20 @@ use Rattle.edit_sums.specs.declared.entries.Edit.{Edit}
 use Rattle.edit_sums.specs.Sums.{EntryMap, IsAmong, IsHonest, join, high_of, visible_at}
 use Rattle.world_law.specs.Worlds as worlds
 use Rattle.world_law.specs.Worlds.{puts_of, AreWithin}
-use Rattle.fleet_script.specs.declared.commands.Fault.{Fault}
-use Rattle.fleet_script.specs.declared.commands.Fault.TheVariants.{Refused, Memory}
+use Rattle.script_commands.specs.declared.commands.Fault.{Fault}
+use Rattle.script_commands.specs.declared.commands.Fault.TheVariants.{Refused, Memory}
 use Rattle.fleet_script.specs.declared.states.Kept.{Kept}
 use Rattle.fleet_script.specs.declared.states.Named.{Named}
 use Rattle.fleet_script.specs.declared.states.Shell.{Shell}
-use Rattle.fleet_script.specs.Texts.{Outcome}
-use Rattle.fleet_script.specs.Worlds.{World, Member, state, held, writer_at, piece_named}
+use Rattle.script_commands.specs.Outcomes.{Outcome}
+use Rattle.script_worlds.specs.Lawful.{IsLawful}
+use Rattle.script_worlds.specs.Worlds.{World, Member, state, held, writer_at, piece_named}
 
 abbrev pub member_of : Kept → Member
 member_of kept = record { name = kept.name; writer = kept.replica.writer }
 
 abbrev pub is_named : List ℕ → Kept → Bool
 is_named name kept = bytes_eq kept.name name
-
--- ---- worlds of scripts
-
--- the edits that were put
-abbrev pub puts : World → List Edit
-puts world = puts_of (length world.nodes) world.events
-
--- some node put the edit: it has the node's writer number, and the node holds no less a counter
-pub record IsOwn (world : World) (e : Edit) : Type 0 where
-  pub node : ℕ
-  pub within : node < length world.nodes
-  pub writer : e.version.writer ≡ writer_at world.nodes node
-  pub counter : e.version.counter ≤ high_of (held world node)
-
--- no two nodes have one writer number, each edit is some node's own, and so no version stands for two edits
-pub record IsLawful (world : World) : Type 0 where
-  pub within : AreWithin (length world.nodes) world.events
-  pub apart : (j k : ℕ) → j < length world.nodes → k < length world.nodes → writer_at world.nodes j ≡ writer_at world.nodes k → j ≡ k
-  pub own : (e : Edit) → IsAmong e (puts world) → IsOwn world e
-  pub honest : IsHonest (puts world)
 
 -- ---- what is kept
 
@@ -83,12 +64,6 @@ pub record Holds (kept : Keeps) (world : World) : Type 0 where
 abbrev pub Continues : Keeps → Keeps → (World → World → Type 0) → Type 0
 Continues old new step = (world : World) → Holds old world → (next : World) × Holds new next × step world next
 
--- what is said of the outcome, unless memory was refused
-abbrev pub IsSaid : {T : Type 0} → (T → List ℕ) → Result T Fault → (Outcome → Type 0) → Type 0
-IsSaid words (Ok text) P = P (Ok (words text))
-IsSaid words (Err (Refused refusal)) P = P (Err refusal)
-IsSaid words (Err Memory) P = ⊤
-
 -- a node with the store of another joined into its own
 abbrev pub joined_with : Kept → Kept → Kept
 joined_with kept other = record kept { replica = record kept.replica { store = join kept.replica.store other.replica.store } }
@@ -96,11 +71,3 @@ joined_with kept other = record kept { replica = record kept.replica { store = j
 -- the store of one node is joined into that of another, and all else stays
 abbrev pub IsJoinedAt : List Kept → ℕ → ℕ → List Kept → Type 0
 IsJoinedAt old from to new = (d : Kept) → new ≡ slice_set old to (joined_with (slice_index_or old to d) (slice_index_or old from d))
-
--- a file that isn't empty is visible at the path
-abbrev pub IsFileAt : EntryMap → PathParts → Type 0
-IsFileAt s p = (b : ℕ) × (bs : List ℕ) × (visible_at s p ≡ Some (File (b ∷ bs)))
-
--- at each of these paths
-abbrev pub AreFilesAt : EntryMap → List PathParts → Type 0
-AreFilesAt s paths = (p : PathParts) → Contains paths p → IsFileAt s p

@@ -4,20 +4,22 @@ ghost use Rattle.std.specs.Str.{bytes_eq};
 ghost use Rattle.load_path.specs.declared.paths.PathFault.{PathFault};
 ghost use Rattle.edit_sums.specs.Sums.{EntryMap, changed_paths};
 ghost use Rattle.world_law.specs.Cuts.{cut, digest_of};
-ghost use Rattle.fleet_script.specs.declared.commands.Command.TheVariants.{Merge, Part, Send, Sweep};
+ghost use Rattle.script_commands.specs.declared.commands.Command.TheVariants.{Merge, Part, Send, Sweep};
 ghost use Rattle.fleet_script.specs.declared.states.Kept.{Kept};
 ghost use Rattle.fleet_script.specs.declared.states.Named.{Named};
-ghost use Rattle.fleet_script.specs.Does.{Does, if_any, paths_of};
-ghost use Rattle.fleet_script.specs.Holds.{Continues, IsJoinedAt, IsSaid, is_called, kept_in, piece_kept};
-ghost use Rattle.fleet_script.specs.Worlds.{merged_all, numbers_from};
+ghost use Rattle.fleet_script.specs.Does.{Does, if_any};
+ghost use Rattle.script_commands.specs.Paths.{paths_of};
+ghost use Rattle.fleet_script.specs.Holds.{Continues, IsJoinedAt, is_called, kept_in, piece_kept};
+ghost use Rattle.script_commands.specs.Outcomes.{IsSaid};
+ghost use Rattle.script_worlds.specs.Worlds.{merged_all, numbers_from};
 
-use crate::answers::{merge_done, part_done};
-use crate::commands::{Fault, Refusal, Words};
 use crate::execution::find;
 use crate::states::{Kept, Named, Shell};
 use delta_pieces::{Piece, delta_at, delta_for, digest};
-use load_path::{Bytes, Path, PathFault};
+use load_path::{Bytes, Path};
 use replica_store::Replica;
+use script_answers::{merge_done, part_done};
+use script_commands::{Fault, Refusal, Words, read_paths};
 use std::alloc::{AllocError, Global};
 use std::mem;
 
@@ -29,21 +31,6 @@ fn find_piece(pieces: &[Named], name: &[u8]) -> Option<usize>
     pieces
         .iter()
         .position(|named| named.name.as_slice() == name)
-}
-
-// The paths that the words of a line write.
-fn read_paths(alloc: Global, mut texts: Words<'_>) -> Result<Vec<Path>, PathFault>
-    ensures read { MatchResult result (λ paths. paths_of texts.entry ≡ Ok paths.items)
-        (λ fault. (fault ≡ PathFault.Memory) ⊎ (paths_of texts.entry ≡ Err fault)) }
-{
-    let mut paths = Vec::new(alloc);
-    while let Some(text) = texts.take_first() {
-        let path = Path::parse(alloc, text)?;
-        if paths.push(path).is_err() {
-            return Err(PathFault::Memory);
-        }
-    }
-    Ok(paths)
 }
 
 impl Shell {

@@ -1,20 +1,21 @@
 //! Commands are done here.
 ghost use Rattle.std.specs.Prelude.{◌≡◌, ◌<◌, ◌==◌, [], position, length, vec_len, IfOk, IfSome, MatchResult};
 ghost use Rattle.std.specs.List.{list_any};
-ghost use Rattle.fleet_script.specs.Commands.{command_of};
+ghost use Rattle.script_commands.specs.Commands.{command_of};
 ghost use Rattle.fleet_script.specs.Does.{Does, Refuses, Writes};
-ghost use Rattle.fleet_script.specs.Holds.{Continues, IsSaid, is_named, kept_in};
+ghost use Rattle.fleet_script.specs.Holds.{Continues, is_named, kept_in};
+ghost use Rattle.script_commands.specs.Outcomes.{IsSaid};
 ghost use Rattle.fleet_script.specs.Scripts.{AnswersLine};
 
-use crate::answers::{files_of, put_done, refused};
-use crate::commands::{Command, Fault, Refusal};
-use crate::parsing::parse;
 use crate::states::{Kept, Shell};
 use edit_sums::Content;
 use load_path::{Bytes, Path};
 use replica_store::Replica;
+use script_answers::{files_of, put_done, refused};
+use script_commands::{Command, Fault, Refusal, parse};
 use script_words::{is_passed_over, unescape};
 use std::alloc::{AllocError, Global};
+use unit_answers::tell_files;
 
 /// The most bytes of a line of a script, its line end not counted.
 pub const LINE_LIMIT: usize = 300_000;
@@ -146,6 +147,18 @@ impl Shell {
         };
         let kept = &self.nodes[at];
         Ok(files_of(alloc, kept.replica.store())?)
+    }
+
+    // Tells a unit's files: its fragment, and then its drop-ins.
+    fn cat(&mut self, alloc: Global, node: &[u8], unit: &[u8]) -> Result<Vec<u8>, Fault>
+        ensures done { IsSaid (λ text. text.items) result (λ outcome. Continues (kept_in self.old) (kept_in self.new)
+            (λ old new. Does old (Command.Cat node.now unit.now) outcome new)) }
+    {
+        let Some(at) = find(&self.nodes, node) else {
+            return Err(Fault::Refused(Refusal::UnknownNode));
+        };
+        let kept = &self.nodes[at];
+        tell_files(alloc, kept.replica.store(), unit)
     }
 
     fn same(&mut self, alloc: Global, left: &[u8], right: &[u8]) -> Result<Vec<u8>, Fault>

@@ -2,7 +2,7 @@ use Rattle.std.proofs.Common.{◌<◌, List, length, Vec, Global, Ok, sym, ap, s
 use Rattle.fleet_script.specs.declared.states.Kept.{Kept}
 use Rattle.fleet_script.specs.Does.{Parts}
 use Rattle.fleet_script.specs.Holds.{Continues}
-use Rattle.fleet_script.specs.Texts.{entries_line}
+use Rattle.script_answers.specs.Texts.{entries_line}
 use Rattle.fleet_script.proofs.Nodes.{keep}
 use Rattle.fleet_script.proofs.Between.{part_unknown_from, part_unknown_to, part_no_paths, part_done, any_node}
 use Rattle.fleet_script.proofs.states.Shell.part.Goals as goal
