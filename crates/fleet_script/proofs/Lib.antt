@@ -1,8 +1,7 @@
-pub mod Nodes
-pub mod Pieces
-pub mod Steps
 pub mod Between
+pub mod Goes
 pub mod Lines
+pub mod Nodes
 pub mod Runs
 pub mod StepKinds
 pub mod WholeScripts

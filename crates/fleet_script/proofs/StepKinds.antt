@@ -26,6 +26,7 @@ use Rattle.script_commands.specs.Paths.{paths_of}
 use Rattle.script_answers.specs.Texts.{changed_line, entries_line, ok_line}
 use Rattle.script_worlds.specs.Worlds.{World, Member, happened, has_writer, held, merged, merged_all, next_edit, node_named, numbers_from, parted, piece_named, swept, with_node}
 use Rattle.script_worlds.specs.Lawful.{IsLawful}
+use Rattle.script_worlds.specs.NodeLaws.{named_within}
 use Rattle.script_worlds.specs.LawfulLaws.{lawful_answered, lawful_given, lawful_merged, lawful_put, lawful_with_node}
 use Rattle.unit_answers.specs.Units.{TellsFiles}
 use Rattle.unit_answers.specs.UnitLaws.{files_are_told_once}
@@ -38,16 +39,6 @@ pub record IsStep (old : World) (S : Outcome → World → Type 0) : Type 0 wher
   pub lawful : IsLawful old → (outcome : Outcome) (new : World) → S outcome new → IsLawful new
 
 -- ---- what the world's own words need
-
-named_within : (nodes : List Member) (name : List ℕ) (k : ℕ) → node_named nodes name ≡ Some k → k < length nodes
-named_within nodes name k e = by (nat_lt (position_or_len (λ (m : Member). bytes_eq m.name name) nodes) (length nodes)) refl e
-  where
-    by : (b : Bool) → nat_lt (position_or_len (λ (m : Member). bytes_eq m.name name) nodes) (length nodes) ≡ b → cond b (Some (position_or_len (λ (m : Member). bytes_eq m.name name) nodes)) None ≡ Some k → k < length nodes
-    by true lt e =
-        let same : position_or_len (λ (m : Member). bytes_eq m.name name) nodes ≡ k = cc in
-        let within : position_or_len (λ (m : Member). bytes_eq m.name name) nodes < length nodes = grind (arith, nat_tests) in
-        omega arith
-    by false lt e = cc (e)
 
 -- merges between nodes that are there
 lawful_merges : (f : ℕ → ℕ × ℕ) (n first count : ℕ) (world : World) → length world.nodes ≡ n → ((k : ℕ) → 0 < k → k < n → ((f k).0 < n) × ((f k).1 < n)) → 0 < first → ((k : ℕ) → first ≤ k → k < first + count → k < n)

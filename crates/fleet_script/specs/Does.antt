@@ -102,27 +102,35 @@ module _ (old : World) (outcome : Outcome) (new : World) where
   abbrev pub Links : List ℕ → List ℕ → List ℕ → Type 0
   Links node path target = AtNode node (λ k. AtPath path (λ at. WithTarget target (Writes k at)))
 
-  -- what is visible at a path is removed
+  -- what is visible at a path of the node of a number is removed
+  abbrev pub RemovesAt : ℕ → PathParts → Type 0
+  RemovesAt k at = MatchOption (visible_at (held old k) at) (Refuses old Nothing outcome new) (λ shown. Writes k at Gone)
+
   abbrev pub Removes : List ℕ → List ℕ → Type 0
-  Removes node path = AtNode node (λ k. AtPath path (λ at. MatchOption (visible_at (held old k) at) (Refuses old Nothing outcome new) (λ shown. Writes k at Gone)))
+  Removes node path = AtNode node (λ k. AtPath path (RemovesAt k))
 
-  -- one node is given all that it lacks of another, and the paths that this changes are counted
+  -- the node of one number is given all that it lacks of that of another, and the paths that this changes are counted
+  abbrev pub MergesInto : ℕ → ℕ → Type 0
+  MergesInto j k = let next = merged old j k in Gives (changed_line (changed_paths (held old k) (held next k))) next outcome new
+
   abbrev pub Merges : List ℕ → List ℕ → Type 0
-  Merges from to = AtNode from (λ j. AtNode to (λ k.
-      let next = merged old j k in
-      Gives (changed_line (changed_paths (held old k) (held next k))) next outcome new))
+  Merges from to = AtNode from (λ j. AtNode to (λ k. MergesInto j k))
 
-  -- one node cuts for the ask of another, at these paths or at all; what is cut is kept under a name, and its entries are counted
-  abbrev pub Parts : List ℕ → List ℕ → List ℕ → List (List ℕ) → Type 0
-  Parts piece from to texts = AtNode from (λ j. AtNode to (λ k. AtPaths texts (λ paths.
+  -- the node of one number cuts for the ask of that of another, at these paths or at all; what is cut is kept under a name, and its entries are counted
+  abbrev pub PartsAt : List ℕ → ℕ → ℕ → List PathParts → Type 0
+  PartsAt piece j k paths =
       let entries = cut (held old j) (digest_of (held old k)) (if_any paths) in
-      Gives (entries_line (length (finmap.entries entries))) (parted old piece j k (if_any paths)) outcome new)))
+      Gives (entries_line (length (finmap.entries entries))) (parted old piece j k (if_any paths)) outcome new
 
-  -- a piece is given to a node, and the paths that this changes are counted
+  abbrev pub Parts : List ℕ → List ℕ → List ℕ → List (List ℕ) → Type 0
+  Parts piece from to texts = AtNode from (λ j. AtNode to (λ k. AtPaths texts (λ paths. PartsAt piece j k paths)))
+
+  -- the piece of a number is given to the node of a number, and the paths that this changes are counted
+  abbrev pub SendsTo : ℕ → ℕ → Type 0
+  SendsTo p k = let next = happened old (event.Give p k) in Gives (changed_line (changed_paths (held old k) (held next k))) next outcome new
+
   abbrev pub Sends : List ℕ → List ℕ → Type 0
-  Sends piece node = AtPiece piece (λ p. AtNode node (λ k.
-      let next = happened old (event.Give p k) in
-      Gives (changed_line (changed_paths (held old k) (held next k))) next outcome new))
+  Sends piece node = AtPiece piece (λ p. AtNode node (SendsTo p))
 
   -- every node is merged into the first, and then the first into every node
   abbrev pub Sweeps : Type 0

@@ -4,7 +4,7 @@ ghost use Rattle.std.specs.Prelude.{◌≡◌, ℕ, List};
 use load_path::PathFault;
 use replica_store::EditFault;
 use script_words::cut_word;
-use std::alloc::AllocError;
+use std::alloc::{AllocError, AllocFailed};
 use std::marker::Model;
 use unit_name::{NameFault, UnitName};
 
@@ -190,6 +190,17 @@ impl From<AllocError> for Fault {
     ghost from_gives = { λ _ fault. fault ≡ Memory };
 
     fn from(_refused: AllocError) -> Fault {
+        Fault::Memory
+    }
+}
+
+impl<T: Drop> From<AllocFailed<T>> for Fault {
+    ghost use Rattle.std.specs.Prelude.{◌≡◌};
+    ghost use Rattle.script_commands.specs.declared.commands.Fault.TheVariants.{Memory};
+
+    ghost from_gives = { λ _ fault. fault ≡ Memory };
+
+    fn from(_refused: AllocFailed<T>) -> Fault {
         Fault::Memory
     }
 }

@@ -10,4 +10,4 @@ mod path_words;
 
 pub use commands::{Command, Fault, Refusal, Word, Words};
 pub use parsing::parse;
-pub use path_words::read_paths;
+pub use path_words::{read_file, read_link, read_path, read_paths};

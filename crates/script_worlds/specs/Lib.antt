@@ -1,3 +1,4 @@
 pub mod Lawful
 pub mod LawfulLaws
+pub mod NodeLaws
 pub mod Worlds
