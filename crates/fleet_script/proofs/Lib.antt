@@ -1,10 +1,7 @@
-pub mod Cats
-pub mod Lawful
-pub mod Nodes
-pub mod Pieces
-pub mod Steps
 pub mod Between
+pub mod Goes
 pub mod Lines
+pub mod Nodes
 pub mod Runs
-pub mod OneAnswer
-pub mod Reach
+pub mod StepKinds
+pub mod WholeScripts

@@ -1,59 +1,22 @@
--- The nodes that the shell keeps against those of the world.
-use Rattle.std.proofs.Common.{◌≡◌, ◌≢◌, ℕ, zero, suc, ◌+◌, ◌<◌, ◌==◌, Bool, true, false, not, ◌||◌, cond, nat_lt, List, [], ◌∷◌, ◌++◌, map, length, set, get_or, Option, Some, None, position, refl, sym, ap, subst, ◌∙◌, arith}
+-- What the shell keeps against the world, after each thing that happens.
+use Rattle.std.proofs.Common.{◌≡◌, ◌≢◌, ℕ, zero, suc, ◌+◌, ◌<◌, ◌==◌, Bool, true, false, cond, nat_lt, nat_eq, List, [], ◌∷◌, ◌++◌, length, set, get_or, Option, Some, None, refl, sym, ap, subst, ◌∙◌, arith}
 use Rattle.std.specs.Prelude.{slice_get}
-use Rattle.std.specs.List.{list_any, position_or_len}
 use Rattle.std.specs.Str.{bytes_eq}
 use Rattle.std.proofs.lemmas.Bool.{true≢false, eqb-true, eq-eqb}
-use Rattle.std.proofs.lemmas.List.{map-append}
 use Rattle.std.proofs.lemmas.Bool.Decides.{nat_tests}
 use Rattle.load_path.specs.Paths.{PathParts}
 use Rattle.edit_sums.specs.declared.contents.Content.{Content}
 use Rattle.edit_sums.specs.Sums.{EntryMap, sum_of, with_edit, join}
+use Rattle.replica_store.specs.Replicas.{Replicated}
 use Rattle.world_law.specs.declared.events.Event.TheVariants.{Put, Ask, Cut, Give}
 use Rattle.world_law.specs.Worlds as worlds
 use Rattle.world_law.specs.Cuts.{cut, digest_of}
 use Rattle.world_law.specs.WorldLaws.{piece_stays, answer_is}
-use Rattle.fleet_script.specs.declared.states.Kept.{Kept}
-use Rattle.fleet_script.specs.declared.states.Named.{Named}
-use Rattle.fleet_script.specs.Worlds.{World, Member, state, held, happened, answered, parted, merged, with_node, node_named, has_writer, writer_at, next_edit, next_ask, next_piece, piece_named}
-use Rattle.fleet_script.specs.Holds.{Holds, Keeps, IsLawful, IsNamed, IsPiece, member_of, is_named, piece_kept}
-use Rattle.fleet_script.proofs.Lawful.{held_put, held_put_elsewhere, held_answered, held_given, held_given_elsewhere, held_merged, held_merged_elsewhere, held_with_node, held_past, lawful_put, lawful_answered, lawful_given, lawful_merged, lawful_with_node, state_with_node}
-
-abbrev pub keep : List Kept → List Named → Keeps
-keep nodes pieces = record { nodes = nodes; pieces = pieces }
-
--- ---- names and writers
-
-places : (nodes : List Kept) (name : List ℕ) → position_or_len (λ (m : Member). bytes_eq m.name name) (map member_of nodes) ≡ position_or_len (is_named name) nodes
-places [] name = refl
-places (kept ∷ nodes) name = ap (λ n. cond (not (bytes_eq kept.name name)) (1 + n) 0) (places nodes name)
-
-position-members : (nodes : List Kept) (name : List ℕ) → position (λ (m : Member). bytes_eq m.name name) (map member_of nodes) ≡ position (is_named name) nodes
-position-members nodes name =
-    let at : ℕ → ℕ → Option ℕ = λ n m. cond (nat_lt n m) (Some n) None in
-    λ i. at (places nodes name i) (lengths nodes i)
-  where
-    lengths : (ns : List Kept) → length (map member_of ns) ≡ length ns
-    lengths [] = refl
-    lengths (n ∷ ns) = ap suc (lengths ns)
-
-pub named_is : (pieces : List Named) (nodes : List Kept) (world : World) (name : List ℕ) → Holds (keep nodes pieces) world → node_named world.nodes name ≡ position (is_named name) nodes
-named_is pieces nodes world name h = ap (λ (ms : List Member). node_named ms name) (sym h.members) ∙ position-members nodes name
-
-any_member : (nodes : List Kept) (writer : ℕ) → has_writer (map member_of nodes) writer ≡ list_any (λ (k : Kept). k.replica.writer == writer) nodes
-any_member [] writer = refl
-any_member (kept ∷ nodes) writer = ap (λ b. (kept.replica.writer == writer) || b) (any_member nodes writer)
-
-pub writers_are : (pieces : List Named) (nodes : List Kept) (world : World) (writer : ℕ) → Holds (keep nodes pieces) world → has_writer world.nodes writer ≡ list_any (λ (k : Kept). k.replica.writer == writer) nodes
-writers_are pieces nodes world writer h = ap (λ (ms : List Member). has_writer ms writer) (sym h.members) ∙ any_member nodes writer
-
-writer_of : (nodes : List Kept) (i : ℕ) (kept : Kept) → slice_get nodes i ≡ Some kept → writer_at (map member_of nodes) i ≡ kept.replica.writer
-writer_of [] i kept h = cc (h)
-writer_of (k ∷ nodes) zero kept h = let same : k ≡ kept = cc in ap (λ (n : Kept). n.replica.writer) same
-writer_of (k ∷ nodes) (suc i) kept h = writer_of nodes i kept h
-
-pub writer_is : (pieces : List Named) (nodes : List Kept) (world : World) (i : ℕ) (kept : Kept) → Holds (keep nodes pieces) world → slice_get nodes i ≡ Some kept → writer_at world.nodes i ≡ kept.replica.writer
-writer_is pieces nodes world i kept h at = ap (λ (ms : List Member). writer_at ms i) (sym h.members) ∙ writer_of nodes i kept at
+use Rattle.script_worlds.specs.Worlds.{World, Member, state, held, happened, answered, parted, merged, with_node, node_named, has_writer, writer_at, next_edit, next_ask, next_piece, piece_named}
+use Rattle.script_worlds.specs.Lawful.{IsLawful}
+use Rattle.script_worlds.specs.LawfulLaws.{held_put, held_put_elsewhere, held_answered, held_given, held_given_elsewhere, held_merged, held_merged_elsewhere, held_with_node, held_past, lawful_put, lawful_answered, lawful_given, lawful_merged, lawful_with_node, state_with_node}
+use Rattle.script_worlds.specs.NodeLaws.{has_writer-push, node_named-push}
+use Rattle.fleet_script.specs.Holds.{Holds, Keeps, IsNamed, IsPiece}
 
 -- ---- places
 
@@ -95,20 +58,77 @@ module _ {X : Type 0} where
   slice_get-push_past (y ∷ ys) x zero lt = absurd (omega arith)
   slice_get-push_past (y ∷ ys) x (suc k) lt = slice_get-push_past ys x k (omega arith)
 
-  length_set : (xs : List X) (i : ℕ) (x : X) → length (set xs i x) ≡ length xs
+  pub length_set : (xs : List X) (i : ℕ) (x : X) → length (set xs i x) ≡ length xs
   length_set [] i x = refl
   length_set (y ∷ ys) zero x = refl
   length_set (y ∷ ys) (suc i) x = ap suc (length_set ys i x)
 
-members_kept : (nodes : List Kept) (i : ℕ) (kept new : Kept) → slice_get nodes i ≡ Some kept → member_of new ≡ member_of kept → map member_of (set nodes i new) ≡ map member_of nodes
-members_kept [] i kept new at e = cc (at)
-members_kept (k ∷ nodes) zero kept new at e = let same : k ≡ kept = cc in ap (λ (m : Member). m ∷ map member_of nodes) (e ∙ ap member_of (sym same))
-members_kept (k ∷ nodes) (suc i) kept new at e = ap (λ (ms : List Member). member_of k ∷ ms) (members_kept nodes i kept new at e)
+  pub get_or_here : (xs : List X) (i : ℕ) (x d : X) → i < length xs → get_or (set xs i x) i d ≡ x
+  get_or_here [] i x d lt = absurd (omega arith)
+  get_or_here (y ∷ ys) zero x d lt = refl
+  get_or_here (y ∷ ys) (suc i) x d lt = get_or_here ys i x d (omega arith)
 
--- ---- what happens at a node
+  pub get_or_there : (xs : List X) (i k : ℕ) (x d : X) → (k ≡ i → ⊥) → get_or (set xs i x) k d ≡ get_or xs k d
+  get_or_there [] i k x d ne = refl
+  get_or_there (y ∷ ys) zero zero x d ne = absurd (ne refl)
+  get_or_there (y ∷ ys) zero (suc k) x d ne = refl
+  get_or_there (y ∷ ys) (suc i) zero x d ne = refl
+  get_or_there (y ∷ ys) (suc i) (suc k) x d ne = get_or_there ys i k x d (λ e. ne (ap suc e))
 
-same_kept : (x y : Kept) → Some x ≡ Some y → x ≡ y
-same_kept x y e = cc
+  pub get_or_any : (xs : List X) (i : ℕ) (c d : X) → i < length xs → get_or xs i c ≡ get_or xs i d
+  get_or_any [] i c d lt = absurd (omega arith)
+  get_or_any (y ∷ ys) zero c d lt = refl
+  get_or_any (y ∷ ys) (suc i) c d lt = get_or_any ys i c d (omega arith)
+
+  pub get_or_twice : (xs : List X) (k : ℕ) (d : X) → get_or xs k d ≡ get_or xs k (get_or xs k d)
+  get_or_twice [] k d = refl
+  get_or_twice (y ∷ ys) zero d = refl
+  get_or_twice (y ∷ ys) (suc k) d = get_or_twice ys k d
+
+  pub set_twice : (xs : List X) (i : ℕ) (x y : X) → set (set xs i x) i y ≡ set xs i y
+  set_twice [] i x y = refl
+  set_twice (z ∷ zs) zero x y = refl
+  set_twice (z ∷ zs) (suc i) x y = ap (λ ws. z ∷ ws) (set_twice zs i x y)
+
+  length_push : (xs : List X) (x : X) → length (xs ++ x ∷ []) ≡ suc (length xs)
+  length_push [] x = refl
+  length_push (y ∷ ys) x = ap suc (length_push ys x)
+
+  -- what stands at a place of a list with one element changed
+  slice_get-set : (xs : List X) (i k : ℕ) (x y : X) → i < length xs → slice_get (set xs i x) k ≡ Some y → (P : ℕ → X → Type 0) → P i x → (k ≢ i → slice_get xs k ≡ Some y → P k y) → P k y
+  slice_get-set xs i k x y lt is P here there = by (k == i) refl
+    where
+      same_some : (a b : X) → Some a ≡ Some b → a ≡ b
+      same_some a b e = cc
+
+      by : (b : Bool) → (k == i) ≡ b → P k y
+      by true e =
+          let at : k ≡ i = eqb-true k i e in
+          let same : x ≡ y = same_some x y (sym (slice_get-set_same xs i x lt) ∙ ap (slice_get (set xs i x)) (sym at) ∙ is) in
+          subst (λ (j : ℕ). P j y) (sym at) (subst (λ (z : X). P i z) same here)
+      by false e =
+          let apart : k ≢ i = λ at. true≢false (sym (eq-eqb k i at) ∙ e) in
+          there apart (sym (slice_get-set_other xs i k x apart) ∙ is)
+
+  -- and of one with an element more
+  slice_get-push : (xs : List X) (x y : X) (k : ℕ) → slice_get (xs ++ x ∷ []) k ≡ Some y → (P : ℕ → X → Type 0) → (k < length xs → slice_get xs k ≡ Some y → P k y) → P (length xs) x → P k y
+  slice_get-push xs x y k is P before last = by (nat_lt k (length xs)) refl (k == length xs) refl
+    where
+      same_some : (a b : X) → Some a ≡ Some b → a ≡ b
+      same_some a b e = cc
+
+      not_some : None ≡ Some y → ⊥
+      not_some e = cc (e)
+
+      by : (b : Bool) → nat_lt k (length xs) ≡ b → (e : Bool) → (k == length xs) ≡ e → P k y
+      by true lt e q = let within : k < length xs = grind (arith, nat_tests) in before within (sym (slice_get-push_first xs x k within) ∙ is)
+      by false lt true q =
+          let at : k ≡ length xs = eqb-true k (length xs) q in
+          let same : x ≡ y = same_some x y (sym (slice_get-push_last xs x) ∙ ap (slice_get (xs ++ x ∷ [])) (sym at) ∙ is) in
+          subst (λ (j : ℕ). P j y) (sym at) (subst (λ (z : X). P (length xs) z) same last)
+      by false lt false q = let past : length xs < k = grind (arith, nat_tests) in absurd (not_some (sym (slice_get-push_past xs x k past) ∙ is))
+
+-- ---- what happens
 
 -- what is kept under each name stays, if the world's pieces stay
 named_stays : (world next : World) → ((p : ℕ) (piece : worlds.Piece) → slice_get (state world).pieces p ≡ Some piece → slice_get (state next).pieces p ≡ Some piece)
@@ -118,79 +138,76 @@ named_stays world next stays None (Some number) h = absurd h
 named_stays world next stays (Some entries) None h = absurd h
 named_stays world next stays (Some entries) (Some number) h = record { piece = h.piece; there = stays number h.piece h.there; entries_are = h.entries_are }
 
-module _ (pieces : List Named) (nodes : List Kept) (world : World) (h : Holds (keep nodes pieces) world) where
-  pub count_is : length nodes ≡ length world.nodes
-  count_is = by nodes ∙ ap (λ (ms : List Member). length ms) h.members
-    where
-      by : (ns : List Kept) → length ns ≡ length (map member_of ns)
-      by [] = refl
-      by (n ∷ ns) = ap suc (by ns)
+module _ (shell : Keeps) (world : World) (h : Holds shell world) where
+  pub below_count : (i : ℕ) → i < length shell.nodes → i < length world.nodes
+  below_count i lt = omega (arith, h.count)
 
-  pub below_count : (i : ℕ) → i < length nodes → i < length world.nodes
-  below_count i lt = omega (arith, count_is)
+  -- what a node that is kept holds
+  pub at_place : (i : ℕ) (d : Replicated) → i < length shell.nodes → (get_or shell.nodes i d).store ≡ held world i
+  at_place i d lt = h.stores i (get_or shell.nodes i d) (slice_get_at shell.nodes i (get_or shell.nodes i d) lt (get_or_twice shell.nodes i d))
 
   -- at one node something happens, and at no other
-  holds_at : (next : World) (i : ℕ) (kept new : Kept) → i < length nodes → slice_get nodes i ≡ Some kept → member_of new ≡ member_of kept
+  holds_at : (next : World) (i : ℕ) (node new : Replicated) → i < length shell.nodes → slice_get shell.nodes i ≡ Some node → new.writer ≡ node.writer
       → next.nodes ≡ world.nodes → next.pieces ≡ world.pieces → IsLawful next
       → ((p : ℕ) (piece : worlds.Piece) → slice_get (state world).pieces p ≡ Some piece → slice_get (state next).pieces p ≡ Some piece)
-      → new.replica.store ≡ held next i → ((k : ℕ) → k ≢ i → held next k ≡ held world k)
-      → Holds (keep (set nodes i new) pieces) next
-  holds_at next i kept new lt at member same_nodes same_pieces lawful stays store others = record {
-    members = members_kept nodes i kept new at member ∙ h.members ∙ sym same_nodes;
-    stores = λ k other is. by k other is (k == i) refl;
-    pieces = λ name. subst (λ (ps : List (List ℕ × ℕ)). IsNamed next (piece_kept pieces name) (piece_named ps name)) (sym same_pieces) (named_stays world next stays (piece_kept pieces name) (piece_named world.pieces name) (h.pieces name));
+      → new.store ≡ held next i → ((k : ℕ) → k ≢ i → held next k ≡ held world k)
+      → Holds (record shell { nodes = set shell.nodes i new }) next
+  holds_at next i node new lt at writer same_nodes same_pieces lawful stays store others = record {
+    count = length_set shell.nodes i new ∙ h.count ∙ sym (ap (λ (ms : List Member). length ms) same_nodes);
+    writers = λ k other is. slice_get-set shell.nodes i k new other lt is (λ j r. writer_at next.nodes j ≡ r.writer)
+        (ap (λ (ms : List Member). writer_at ms i) same_nodes ∙ h.writers i node at ∙ sym writer)
+        (λ apart there. ap (λ (ms : List Member). writer_at ms k) same_nodes ∙ h.writers k other there);
+    stores = λ k other is. slice_get-set shell.nodes i k new other lt is (λ j r. r.store ≡ held next j) store (λ apart there. h.stores k other there ∙ sym (others k apart));
+    numbers = λ name. h.numbers name ∙ ap (λ (ms : List Member). node_named ms name) (sym same_nodes);
+    taken = λ writer. h.taken writer ∙ ap (λ (ms : List Member). has_writer ms writer) (sym same_nodes);
+    pieces = λ name. subst (λ (ps : List (List ℕ × ℕ)). IsNamed next (shell.piece_of name) (piece_named ps name)) (sym same_pieces) (named_stays world next stays (shell.piece_of name) (piece_named world.pieces name) (h.pieces name));
     lawful = lawful;
   }
-    where
-      by : (k : ℕ) (other : Kept) → slice_get (set nodes i new) k ≡ Some other → (b : Bool) → (k == i) ≡ b → other.replica.store ≡ held next k
-      by k other is true e =
-          let here : k ≡ i = eqb-true k i e in
-          let same : new ≡ other = same_kept new other (sym (slice_get-set_same nodes i new lt) ∙ ap (slice_get (set nodes i new)) (sym here) ∙ is) in
-          ap (λ (n : Kept). n.replica.store) (sym same) ∙ store ∙ ap (held next) (sym here)
-      by k other is false e =
-          let apart : k ≢ i = λ same. true≢false (sym (eq-eqb k i same) ∙ e) in
-          h.stores k other (sym (slice_get-set_other nodes i k new apart) ∙ is) ∙ sym (others k apart)
 
   -- a node puts its next edit
-  pub holds_put : (i : ℕ) (path : PathParts) (content : Content) (kept new : Kept) → i < length nodes → slice_get nodes i ≡ Some kept
-      → member_of new ≡ member_of kept → new.replica.store ≡ with_edit kept.replica.store (next_edit world i path content)
-      → Holds (keep (set nodes i new) pieces) (happened world (Put i (next_edit world i path content)))
-  holds_put i path content kept new lt at member store =
+  pub holds_put : (i : ℕ) (path : PathParts) (content : Content) (node new : Replicated) → i < length shell.nodes → slice_get shell.nodes i ≡ Some node
+      → new.writer ≡ node.writer → new.store ≡ with_edit node.store (next_edit world i path content)
+      → Holds (record shell { nodes = set shell.nodes i new }) (happened world (Put i (next_edit world i path content)))
+  holds_put i path content node new lt at writer store =
       let edit = next_edit world i path content in
-      holds_at (happened world (Put i edit)) i kept new lt at member refl refl (lawful_put world i path content h.lawful (below_count i lt))
+      holds_at (happened world (Put i edit)) i node new lt at writer refl refl (lawful_put world i path content h.lawful (below_count i lt))
       (λ p piece there. piece_stays (state world) (Put i edit) p piece there)
-      (store ∙ ap (λ (s : EntryMap). with_edit s edit) (h.stores i kept at) ∙ sym (held_put world i edit (below_count i lt)))
+      (store ∙ ap (λ (s : EntryMap). with_edit s edit) (h.stores i node at) ∙ sym (held_put world i edit (below_count i lt)))
       (held_put_elsewhere world i edit)
 
   -- a node is given all that it lacks of another
-  pub holds_merge : (j i : ℕ) (kept other new : Kept) → j < length nodes → i < length nodes → slice_get nodes i ≡ Some kept → slice_get nodes j ≡ Some other
-      → member_of new ≡ member_of kept → new.replica.store ≡ join kept.replica.store other.replica.store → Holds (keep (set nodes i new) pieces) (merged world j i)
-  holds_merge j i kept other new lt_from lt_to at from member store =
-      holds_at (merged world j i) i kept new lt_to at member refl refl (lawful_merged world j i h.lawful (below_count j lt_from) (below_count i lt_to))
+  pub holds_merge : (j i : ℕ) (node other new : Replicated) → j < length shell.nodes → i < length shell.nodes → slice_get shell.nodes i ≡ Some node → slice_get shell.nodes j ≡ Some other
+      → new.writer ≡ node.writer → new.store ≡ join node.store other.store → Holds (record shell { nodes = set shell.nodes i new }) (merged world j i)
+  holds_merge j i node other new lt_from lt_to at from writer store =
+      holds_at (merged world j i) i node new lt_to at writer refl refl (lawful_merged world j i h.lawful (below_count j lt_from) (below_count i lt_to))
       (λ p piece there. piece_stays (state (answered world j i None)) (Give (next_piece world) i) p piece (answered_stays j i None p piece there))
-      (store ∙ (λ n. join (h.stores i kept at n) (h.stores j other from n)) ∙ sym (held_merged world h.lawful j i (below_count j lt_from) (below_count i lt_to)))
+      (store ∙ (λ n. join (h.stores i node at n) (h.stores j other from n)) ∙ sym (held_merged world h.lawful j i (below_count j lt_from) (below_count i lt_to)))
       (λ k ne. held_merged_elsewhere world j i k ne)
     where
       answered_stays : (from to : ℕ) (paths : Option (List PathParts)) (p : ℕ) (piece : worlds.Piece) → slice_get (state world).pieces p ≡ Some piece → slice_get (state (answered world from to paths)).pieces p ≡ Some piece
       answered_stays from to paths p piece there = piece_stays (state (happened world (Ask to))) (Cut from (next_ask world) paths) p piece (piece_stays (state world) (Ask to) p piece there)
 
   -- a node is given a piece
-  pub holds_send : (p i : ℕ) (kept new : Kept) (piece : worlds.Piece) → i < length nodes → slice_get nodes i ≡ Some kept → slice_get (state world).pieces p ≡ Some piece
-      → member_of new ≡ member_of kept → new.replica.store ≡ join kept.replica.store piece.entries → Holds (keep (set nodes i new) pieces) (happened world (Give p i))
-  holds_send p i kept new piece lt at is member store =
-      holds_at (happened world (Give p i)) i kept new lt at member refl refl (lawful_given world p i h.lawful (below_count i lt))
+  pub holds_send : (p i : ℕ) (node new : Replicated) (piece : worlds.Piece) → i < length shell.nodes → slice_get shell.nodes i ≡ Some node → slice_get (state world).pieces p ≡ Some piece
+      → new.writer ≡ node.writer → new.store ≡ join node.store piece.entries → Holds (record shell { nodes = set shell.nodes i new }) (happened world (Give p i))
+  holds_send p i node new piece lt at is writer store =
+      holds_at (happened world (Give p i)) i node new lt at writer refl refl (lawful_given world p i h.lawful (below_count i lt))
       (λ q other there. piece_stays (state world) (Give p i) q other there)
-      (store ∙ ap (λ (s : EntryMap). join s piece.entries) (h.stores i kept at) ∙ sym (held_given world h.lawful p i piece is (below_count i lt)))
+      (store ∙ ap (λ (s : EntryMap). join s piece.entries) (h.stores i node at) ∙ sym (held_given world h.lawful p i piece is (below_count i lt)))
       (λ k ne. held_given_elsewhere world p i k ne)
 
   -- what a node cuts for another is kept under a name
-  pub holds_part : (name : List ℕ) (j i : ℕ) (paths : Option (List PathParts)) (now : List Named) (piece : EntryMap) → j < length nodes → i < length nodes
+  pub holds_part : (name : List ℕ) (j i : ℕ) (paths : Option (List PathParts)) (now : Keeps) (piece : EntryMap) → j < length shell.nodes → i < length shell.nodes
       → piece ≡ cut (held world j) (digest_of (held world i)) paths
-      → ((other : List ℕ) → piece_kept now other ≡ cond (bytes_eq name other) (Some piece) (piece_kept pieces other))
-      → Holds (keep nodes now) (parted world name j i paths)
-  holds_part name j i paths now piece lt_from lt_to is kept = record {
-    members = h.members;
-    stores = λ k node at. h.stores k node at ∙ sym (held_answered world j i paths k);
+      → now.nodes ≡ shell.nodes → now.number_of ≡ shell.number_of → now.is_taken ≡ shell.is_taken
+      → ((other : List ℕ) → now.piece_of other ≡ cond (bytes_eq name other) (Some piece) (shell.piece_of other))
+      → Holds now (parted world name j i paths)
+  holds_part name j i paths now piece lt_from lt_to is same_nodes same_numbers same_writers kept = record {
+    count = ap (λ (ns : List Replicated). length ns) same_nodes ∙ h.count;
+    writers = λ k node at. h.writers k node (subst (λ (ns : List Replicated). slice_get ns k ≡ Some node) same_nodes at);
+    stores = λ k node at. h.stores k node (subst (λ (ns : List Replicated). slice_get ns k ≡ Some node) same_nodes at) ∙ sym (held_answered world j i paths k);
+    numbers = λ other. ap (λ (f : List ℕ → Option ℕ). f other) same_numbers ∙ h.numbers other;
+    taken = λ writer. ap (λ (f : ℕ → Bool). f writer) same_writers ∙ h.taken writer;
     pieces = λ other. subst (λ (o : Option EntryMap). IsNamed next o (piece_named next.pieces other)) (sym (kept other)) (by other (bytes_eq name other));
     lawful = lawful_parted;
   }
@@ -216,42 +233,46 @@ module _ (pieces : List Named) (nodes : List Kept) (world : World) (h : Holds (k
           let answer = answer_is (length world.nodes) world.events h.lawful.honest j i (below_count j lt_from) (below_count i lt_to) paths in
           record { piece = answer.0; there = answer.1; entries_are = answer.2 ∙ sym is }
 
-      by : (other : List ℕ) (b : Bool) → IsNamed next (cond b (Some piece) (piece_kept pieces other)) (cond b (Some (next_piece world)) (piece_named world.pieces other))
+      by : (other : List ℕ) (b : Bool) → IsNamed next (cond b (Some piece) (shell.piece_of other)) (cond b (Some (next_piece world)) (piece_named world.pieces other))
       by other true = made
-      by other false = named_stays world next stays (piece_kept pieces other) (piece_named world.pieces other) (h.pieces other)
+      by other false = named_stays world next stays (shell.piece_of other) (piece_named world.pieces other) (h.pieces other)
 
   -- a node is made
-  pub holds_node : (kept : Kept) (name : List ℕ) (writer : ℕ) → has_writer world.nodes writer ≡ false → kept.name ≡ name → kept.replica.writer ≡ writer → kept.replica.store ≡ sum_of []
-      → Holds (keep (nodes ++ kept ∷ []) pieces) (with_node world name writer)
-  holds_node kept name writer free named numbered empty = record {
-    members = map-append member_of nodes (kept ∷ []) ∙ (λ i. h.members i ++ member i ∷ []);
-    stores = λ k other is. by k other is (nat_lt k (length nodes)) refl (k == length nodes) refl;
-    pieces = λ other. named_stays world next stays (piece_kept pieces other) (piece_named world.pieces other) (h.pieces other);
-    lawful = lawful_with_node world name writer h.lawful free;
+  pub holds_node : (now : Keeps) (node : Replicated) (name : List ℕ) (writer : ℕ) → shell.number_of name ≡ None → shell.is_taken writer ≡ false → node.writer ≡ writer → node.store ≡ sum_of []
+      → now.nodes ≡ shell.nodes ++ node ∷ [] → ((other : List ℕ) → now.number_of other ≡ cond (bytes_eq name other) (Some (length shell.nodes)) (shell.number_of other))
+      → ((other : ℕ) → now.is_taken other ≡ cond (writer == other) true (shell.is_taken other)) → now.piece_of ≡ shell.piece_of
+      → Holds now (with_node world name writer)
+  holds_node now node name writer fresh free numbered empty nodes numbers writers same_pieces = record {
+    count = ap (λ (ns : List Replicated). length ns) nodes ∙ length_push shell.nodes node ∙ ap suc h.count ∙ sym (length_push world.nodes m);
+    writers = λ k other is. slice_get-push shell.nodes node other k (subst (λ (ns : List Replicated). slice_get ns k ≡ Some other) nodes is) (λ j r. writer_at (world.nodes ++ m ∷ []) j ≡ r.writer)
+        (λ lt there. writer_before world.nodes k (below_count k lt) ∙ h.writers k other there)
+        (ap (writer_at (world.nodes ++ m ∷ [])) h.count ∙ writer_last world.nodes ∙ sym numbered);
+    stores = λ k other is. slice_get-push shell.nodes node other k (subst (λ (ns : List Replicated). slice_get ns k ≡ Some other) nodes is) (λ j r. r.store ≡ held next j)
+        (λ lt there. h.stores k other there ∙ sym (held_with_node world name writer h.lawful.within k))
+        (empty ∙ sym holds_nothing ∙ sym (held_with_node world name writer h.lawful.within (length shell.nodes)));
+    numbers = λ other. numbers other ∙ (λ i. cond (bytes_eq name other) (Some (h.count i)) (h.numbers other i)) ∙ sym (node_named-push world.nodes m other (sym (h.numbers name) ∙ fresh));
+    taken = λ other. writers other ∙ ap (λ b. cond (writer == other) true b) (h.taken other) ∙ sym (has_writer-push world.nodes m other);
+    pieces = λ other. subst (λ (f : List ℕ → Option EntryMap). IsNamed next (f other) (piece_named world.pieces other)) (sym same_pieces) (named_stays world next stays (shell.piece_of other) (piece_named world.pieces other) (h.pieces other));
+    lawful = lawful_with_node world name writer h.lawful (sym (h.taken writer) ∙ free);
   }
     where
+      m : Member
+      m = record { name = name; writer = writer }
+
       next : World
       next = with_node world name writer
-
-      member : member_of kept ≡ record { name = name; writer = writer }
-      member = λ i. record { name = named i; writer = numbered i }
 
       stays : (p : ℕ) (piece : worlds.Piece) → slice_get (state world).pieces p ≡ Some piece → slice_get (state next).pieces p ≡ Some piece
       stays p piece there = ap (λ (w : worlds.World). slice_get w.pieces p) (state_with_node world name writer h.lawful.within) ∙ there
 
-      holds_nothing : held world (length nodes) ≡ sum_of []
-      holds_nothing = ap (held world) count_is ∙ held_past world
+      holds_nothing : held world (length shell.nodes) ≡ sum_of []
+      holds_nothing = ap (held world) h.count ∙ held_past world
 
-      by : (k : ℕ) (other : Kept) → slice_get (nodes ++ kept ∷ []) k ≡ Some other → (b : Bool) → nat_lt k (length nodes) ≡ b → (e : Bool) → (k == length nodes) ≡ e → other.replica.store ≡ held next k
-      by k other is true lt e q = h.stores k other (sym (slice_get-push_first nodes kept k (grind (arith, nat_tests))) ∙ is) ∙ sym (held_with_node world name writer h.lawful.within k)
-      by k other is false lt true q =
-          let here : k ≡ length nodes = eqb-true k (length nodes) q in
-          let same : kept ≡ other = same_kept kept other (sym (slice_get-push_last nodes kept) ∙ ap (slice_get (nodes ++ kept ∷ [])) (sym here) ∙ is) in
-          ap (λ (n : Kept). n.replica.store) (sym same) ∙ empty ∙ sym holds_nothing ∙ ap (held world) (sym here) ∙ sym (held_with_node world name writer h.lawful.within k)
-      by k other is false lt false q =
-          let past : length nodes < k = grind (arith, nat_tests) in
-          let none = slice_get-push_past nodes kept k past in
-          absurd (not_some other (sym none ∙ is))
-        where
-          not_some : (x : Kept) → None ≡ Some x → ⊥
-          not_some x e = cc (e)
+      writer_before : (nodes : List Member) (k : ℕ) → k < length nodes → writer_at (nodes ++ m ∷ []) k ≡ writer_at nodes k
+      writer_before [] k lt = absurd (omega arith)
+      writer_before (n ∷ nodes) zero lt = refl
+      writer_before (n ∷ nodes) (suc k) lt = writer_before nodes k (omega arith)
+
+      writer_last : (nodes : List Member) → writer_at (nodes ++ m ∷ []) (length nodes) ≡ writer
+      writer_last [] = refl
+      writer_last (n ∷ nodes) = writer_last nodes

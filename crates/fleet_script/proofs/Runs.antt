@@ -1,6 +1,6 @@
 -- How a run goes on from line to line, and how its answers reach the writer.
-use Rattle.std.proofs.Common.{◌≡◌, ℕ, ◌+◌, List, [], ◌∷◌, ◌++◌, length, take, Option, Result, Ok, Err, OnErr, true, false, refl, sym, ap, subst, ◌∙◌, append_assoc, arith}
-use Rattle.std.specs.Prelude.{is_ok, is_err, if◌then◌else◌}
+use Rattle.std.proofs.Common.{◌≡◌, ℕ, ◌+◌, List, [], ◌∷◌, ◌++◌, length, take, Option, Some, None, Result, Ok, Err, OnErr, true, false, refl, sym, ap, subst, ◌∙◌, append_assoc, arith}
+use Rattle.std.specs.Prelude.{is_ok, is_err, if◌then◌else◌, slice_get}
 use Rattle.std.specs.Io.KnownBytes.{Appends}
 use Rattle.std.proofs.lemmas.Bool.{true≢false}
 use Rattle.std.proofs.Math.Seq.{take-append-add}
@@ -8,10 +8,12 @@ use Rattle.std.proofs.lemmas.List.{append-nil, take_at, take_all}
 use Rattle.script_words.specs.Lines.{lines_of}
 use Rattle.script_pipes.specs.KnownBytes.{AppendsFront}
 use Rattle.script_pipes.specs.KnownBytesLaws.{Appends-append, Appends-nothing}
-use Rattle.fleet_script.specs.Worlds.{World, blank}
+use Rattle.script_worlds.specs.Worlds.{World, blank}
 use Rattle.fleet_script.specs.Scripts.{Run, AnswersLine, Answers, AnswersFront}
-use Rattle.fleet_script.specs.Holds.{Holds, Keeps, Continues}
-use Rattle.fleet_script.proofs.Lawful.{lawful_blank}
+use Rattle.edit_sums.specs.Sums.{EntryMap}
+use Rattle.replica_store.specs.Replicas.{Replicated}
+use Rattle.fleet_script.specs.Holds.{Continues, Holds, IsBlank, IsNamed, Keeps}
+use Rattle.script_worlds.specs.LawfulLaws.{lawful_blank}
 
 -- one line more
 run_more : (old : World) (lines : List (List ℕ)) (written : List ℕ) (mid : World) (line answer : List ℕ) (new : World)
@@ -38,16 +40,27 @@ pub record Progress (script rest : List ℕ) (keeps : Keeps) (old now : Option (
   pub run : Run blank before (written ++ pending) world
   pub appended : Appends old now written
 
-abbrev pub no_keeps : Keeps
-no_keeps = record { nodes = []; pieces = [] }
-
-pub begins : (script pending : List ℕ) (keeps : Keeps) (a : Option (List ℕ)) → keeps.nodes ≡ [] → keeps.pieces ≡ [] → pending ≡ [] → Progress script script keeps a a pending
-begins script pending keeps a no_nodes no_pieces nothing =
-    let none : no_keeps ≡ keeps = λ i. record { nodes = sym no_nodes i; pieces = sym no_pieces i } in
-    subst (λ ks. Progress script script ks a a pending) none (subst (λ v. Progress script script no_keeps a a v) (sym nothing) first)
+pub begins : (script pending : List ℕ) (keeps : Keeps) (a : Option (List ℕ)) → IsBlank keeps → pending ≡ [] → Progress script script keeps a a pending
+begins script pending keeps a none nothing = subst (λ v. Progress script script keeps a a v) (sym nothing) (record {
+  before = [];
+  world = blank;
+  written = [];
+  lines = refl;
+  holds = record {
+    count = ap (λ (ns : List Replicated). length ns) none.nodes;
+    writers = λ k node e. absurd (nowhere k node (subst (λ (ns : List Replicated). slice_get ns k ≡ Some node) none.nodes e));
+    stores = λ k node e. absurd (nowhere k node (subst (λ (ns : List Replicated). slice_get ns k ≡ Some node) none.nodes e));
+    numbers = none.numbers;
+    taken = none.writers;
+    pieces = λ name. subst (λ (o : Option EntryMap). IsNamed blank o None) (sym (none.pieces name)) tt;
+    lawful = lawful_blank;
+  };
+  run = (refl, refl);
+  appended = Appends-nothing a;
+})
   where
-    first : Progress script script no_keeps a a []
-    first = record { before = []; world = blank; written = []; lines = refl; holds = record { members = refl; stores = λ k node e. cc (e); pieces = λ name. tt; lawful = lawful_blank }; run = (refl, refl); appended = Appends-nothing a }
+    nowhere : (k : ℕ) (node : Replicated) → slice_get [] k ≡ Some node → ⊥
+    nowhere k node e = cc (e)
 
 pub moved : (script rest pending more : List ℕ) (keeps : Keeps) (old now after : Option (List ℕ)) → now ≡ after → pending ≡ more → Progress script rest keeps old now pending → Progress script rest keeps old after more
 moved script rest pending more keeps old now after e is p = subst (λ v. Progress script rest keeps old v more) e (subst (λ v. Progress script rest keeps old now v) is p)

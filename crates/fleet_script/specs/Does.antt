@@ -11,19 +11,15 @@ use Rattle.edit_sums.specs.Sums.{EntryMap, high_of, visible_at, changed_paths}
 use Rattle.world_law.specs.declared.events.Event.TheVariants as event
 use Rattle.world_law.specs.Cuts.{cut, digest_of}
 use Rattle.script_words.specs.Text.{Spells, IsBadText}
-use Rattle.unit_name.specs.declared.names.NameFault.{NameFault}
-use Rattle.unit_name.specs.declared.names.NameFault.TheVariants as name
-use Rattle.unit_name.specs.Names.{name_of}
-use Rattle.fragment_choice.specs.declared.choices.Choice.{Choice}
-use Rattle.fragment_choice.specs.declared.choices.Choice.TheVariants as choice
-use Rattle.fragment_choice.specs.Resolutions.{resolution}
-use Rattle.fleet_script.specs.declared.commands.Command.{Command}
-use Rattle.fleet_script.specs.declared.commands.Command.TheVariants as command
-use Rattle.fleet_script.specs.declared.commands.Refusal.{Refusal}
-use Rattle.fleet_script.specs.declared.commands.Refusal.TheVariants.{UnknownNode, BadText, UnknownPiece, NodeTaken, WriterTaken, Directory, Depth, Component, FileTooLarge, BadLink, VersionsSpent, Nothing, Length, Kind, EmptyPrefix, BadByte, NotFound, Masked, Bad}
-use Rattle.fleet_script.specs.Texts.{Outcome, ok_line, changed_line, entries_line, files_text}
-use Rattle.fleet_script.specs.Units.{IsCat}
-use Rattle.fleet_script.specs.Worlds.{World, held, happened, with_node, node_named, has_writer, next_edit, parted, piece_named, merged, swept}
+use Rattle.script_commands.specs.declared.commands.Command.{Command}
+use Rattle.script_commands.specs.declared.commands.Command.TheVariants as command
+use Rattle.script_commands.specs.declared.commands.Refusal.{Refusal}
+use Rattle.script_commands.specs.Paths.{paths_of}
+use Rattle.script_commands.specs.declared.commands.Refusal.TheVariants.{UnknownNode, BadText, UnknownPiece, NodeTaken, WriterTaken, Directory, Depth, Component, FileTooLarge, BadLink, VersionsSpent, Nothing, Length, Kind, EmptyPrefix, BadByte, NotFound, Masked, Bad}
+use Rattle.script_commands.specs.Outcomes.{Outcome}
+use Rattle.script_answers.specs.Texts.{ok_line, changed_line, entries_line, files_text}
+use Rattle.unit_answers.specs.Units.{TellsFiles}
+use Rattle.script_worlds.specs.Worlds.{World, held, happened, with_node, node_named, has_writer, next_edit, parted, piece_named, merged, swept}
 
 -- the answer is these words, and the new world is that one
 pub record Gives (words : List ℕ) (world : World) (outcome : Outcome) (new : World) : Type 0 where
@@ -35,15 +31,14 @@ pub record Refuses (old : World) (refusal : Refusal) (outcome : Outcome) (new : 
   pub outcome_is : outcome ≡ Err refusal
   pub world_is : new ≡ old
 
-abbrev path_then : Result PathParts PathFault → Result (List PathParts) PathFault → Result (List PathParts) PathFault
-path_then (Err fault) paths = Err fault
-path_then (Ok path) (Err fault) = Err fault
-path_then (Ok path) (Ok paths) = Ok (path ∷ paths)
+-- the outcome is one of these, and the world stays
+pub record IsRead (Tells : Outcome → Type 0) (old : World) (outcome : Outcome) (new : World) : Type 0 where
+  pub told : Tells outcome
+  pub world_is : new ≡ old
 
--- the paths that some texts write, or the first thing wrong with the first that writes none
-abbrev pub paths_of : List (List ℕ) → Result (List PathParts) PathFault
-paths_of [] = Ok []
-paths_of (text ∷ texts) = path_then (path_of text) (paths_of texts)
+-- all that a store holds is told
+abbrev pub TellsPaths : EntryMap → Outcome → Type 0
+TellsPaths s outcome = outcome ≡ Ok (files_text s)
 
 -- these paths, or all where none are given
 abbrev pub if_any : List PathParts → Option (List PathParts)
@@ -73,18 +68,6 @@ module _ (old : World) (outcome : Outcome) (new : World) where
   -- what holds of the paths that some texts write, if each writes one
   abbrev pub AtPaths : List (List ℕ) → (List PathParts → Type 0) → Type 0
   AtPaths texts P = MatchResult (paths_of texts) P RefusesPath
-
-  -- a word that is no unit name is refused for the first thing wrong with it
-  abbrev pub RefusesName : NameFault → Type 0
-  RefusesName name.Length = Refuses old Length outcome new
-  RefusesName name.Kind = Refuses old Kind outcome new
-  RefusesName name.EmptyPrefix = Refuses old EmptyPrefix outcome new
-  RefusesName (name.BadByte place) = Refuses old (BadByte place) outcome new
-  RefusesName name.Memory = ⊥
-
-  -- what holds of the unit name that a word is, if it is one
-  abbrev pub AtName : List ℕ → (List ℕ → Type 0) → Type 0
-  AtName word P = MatchResult (name_of word) P RefusesName
 
   -- what holds of the bytes that a text spells, if it spells some
   abbrev pub WithText : List ℕ → (List ℕ → Type 0) → Type 0
@@ -119,47 +102,43 @@ module _ (old : World) (outcome : Outcome) (new : World) where
   abbrev pub Links : List ℕ → List ℕ → List ℕ → Type 0
   Links node path target = AtNode node (λ k. AtPath path (λ at. WithTarget target (Writes k at)))
 
-  -- what is visible at a path is removed
+  -- what is visible at a path of the node of a number is removed
+  abbrev pub RemovesAt : ℕ → PathParts → Type 0
+  RemovesAt k at = MatchOption (visible_at (held old k) at) (Refuses old Nothing outcome new) (λ shown. Writes k at Gone)
+
   abbrev pub Removes : List ℕ → List ℕ → Type 0
-  Removes node path = AtNode node (λ k. AtPath path (λ at. MatchOption (visible_at (held old k) at) (Refuses old Nothing outcome new) (λ shown. Writes k at Gone)))
+  Removes node path = AtNode node (λ k. AtPath path (RemovesAt k))
 
-  -- one node is given all that it lacks of another, and the paths that this changes are counted
+  -- the node of one number is given all that it lacks of that of another, and the paths that this changes are counted
+  abbrev pub MergesInto : ℕ → ℕ → Type 0
+  MergesInto j k = let next = merged old j k in Gives (changed_line (changed_paths (held old k) (held next k))) next outcome new
+
   abbrev pub Merges : List ℕ → List ℕ → Type 0
-  Merges from to = AtNode from (λ j. AtNode to (λ k.
-      let next = merged old j k in
-      Gives (changed_line (changed_paths (held old k) (held next k))) next outcome new))
+  Merges from to = AtNode from (λ j. AtNode to (λ k. MergesInto j k))
 
-  -- one node cuts for the ask of another, at these paths or at all; what is cut is kept under a name, and its entries are counted
-  abbrev pub Parts : List ℕ → List ℕ → List ℕ → List (List ℕ) → Type 0
-  Parts piece from to texts = AtNode from (λ j. AtNode to (λ k. AtPaths texts (λ paths.
+  -- the node of one number cuts for the ask of that of another, at these paths or at all; what is cut is kept under a name, and its entries are counted
+  abbrev pub PartsAt : List ℕ → ℕ → ℕ → List PathParts → Type 0
+  PartsAt piece j k paths =
       let entries = cut (held old j) (digest_of (held old k)) (if_any paths) in
-      Gives (entries_line (length (finmap.entries entries))) (parted old piece j k (if_any paths)) outcome new)))
+      Gives (entries_line (length (finmap.entries entries))) (parted old piece j k (if_any paths)) outcome new
 
-  -- a piece is given to a node, and the paths that this changes are counted
+  abbrev pub Parts : List ℕ → List ℕ → List ℕ → List (List ℕ) → Type 0
+  Parts piece from to texts = AtNode from (λ j. AtNode to (λ k. AtPaths texts (λ paths. PartsAt piece j k paths)))
+
+  -- the piece of a number is given to the node of a number, and the paths that this changes are counted
+  abbrev pub SendsTo : ℕ → ℕ → Type 0
+  SendsTo p k = let next = happened old (event.Give p k) in Gives (changed_line (changed_paths (held old k) (held next k))) next outcome new
+
   abbrev pub Sends : List ℕ → List ℕ → Type 0
-  Sends piece node = AtPiece piece (λ p. AtNode node (λ k.
-      let next = happened old (event.Give p k) in
-      Gives (changed_line (changed_paths (held old k) (held next k))) next outcome new))
+  Sends piece node = AtPiece piece (λ p. AtNode node (SendsTo p))
 
   -- every node is merged into the first, and then the first into every node
   abbrev pub Sweeps : Type 0
   Sweeps = Gives (codes "ok\n") (swept old) outcome new
 
-  -- all that a node holds is told
-  abbrev pub Tells : List ℕ → Type 0
-  Tells node = AtNode node (λ k. Gives (files_text (held old k)) old outcome new)
-
-  -- the files of a unit are told; a unit without a fragment is refused for what stands in its place
-  abbrev pub TellsChoice : EntryMap → List ℕ → Choice → Type 0
-  TellsChoice s main choice.NotFound = Refuses old (NotFound main) outcome new
-  TellsChoice s main choice.Masked = Refuses old (Masked main) outcome new
-  TellsChoice s main (choice.Fragment path) = (text : List ℕ) × IsCat s main path text × Gives text old outcome new
-  TellsChoice s main (choice.Alias other) = ⊥
-  TellsChoice s main (choice.Bad cause) = Refuses old (Bad main) outcome new
-
-  -- the files of the unit that a name stands for at a node are told
-  abbrev pub TellsUnit : List ℕ → List ℕ → Type 0
-  TellsUnit node unit = AtNode node (λ k. AtName unit (λ n. TellsChoice (held old k) (resolution (held old k) n).main (resolution (held old k) n).choice))
+  -- what a node holds is read alone: the outcome is one that it may have of the node's store, and the world stays
+  abbrev pub Reads : List ℕ → (EntryMap → Outcome → Type 0) → Type 0
+  Reads node Tells = AtNode node (λ k. IsRead (Tells (held old k)) old outcome new)
 
   -- two nodes hold the same, or they differ
   abbrev pub Compares : List ℕ → List ℕ → Type 0
@@ -176,6 +155,6 @@ Does old (command.Merge from to) outcome new = Merges old outcome new from to
 Does old (command.Part piece from to paths) outcome new = Parts old outcome new piece from to paths
 Does old (command.Send piece node) outcome new = Sends old outcome new piece node
 Does old command.Sweep outcome new = Sweeps old outcome new
-Does old (command.Files node) outcome new = Tells old outcome new node
-Does old (command.Cat node unit) outcome new = TellsUnit old outcome new node unit
+Does old (command.Files node) outcome new = Reads old outcome new node TellsPaths
+Does old (command.Cat node unit) outcome new = Reads old outcome new node (TellsFiles unit)
 Does old (command.Same left right) outcome new = Compares old outcome new left right

@@ -1,63 +1,43 @@
--- What the shell keeps of a world: of each node its replica of now, and the pieces of now by name.
-use Rattle.std.specs.Prelude.{◌≡◌, ℕ, ◌<◌, ◌≤◌, Bool, ⊤, if◌then◌else◌, List, [], ◌∷◌, map, length, slice_get, slice_index_or, slice_set, Option, Some, None, Result, Ok, Err}
-use Rattle.std.specs.List.{Contains}
-use Rattle.std.specs.Str.{bytes_eq}
-use Rattle.load_path.specs.Paths.{PathParts}
-use Rattle.edit_sums.specs.declared.contents.Content.TheVariants.{File}
-use Rattle.edit_sums.specs.declared.entries.Edit.{Edit}
-use Rattle.edit_sums.specs.Sums.{EntryMap, IsAmong, IsHonest, join, high_of, visible_at}
+-- What the shell keeps of a world: of each node its replica of now, by name the numbers of nodes and the pieces of now, and which writer numbers are taken.
+use Rattle.std.specs.Prelude.{◌≡◌, ◌⊎◌, ℕ, ◌<◌, Bool, true, false, ⊤, Vec, List, [], length, slice_get, slice_index_or, slice_set, Option, Some, None, Result, Ok, Err}
+use Rattle.std.specs.Cmp.Lexicographic.{slice_cmp}
+use Rattle.std.specs.Ordering.{nat_cmp}
+use Rattle.std.specs.declared.alloc.Global.{Global}
+use Rattle.std.specs.BTreeMap as maps
+use Rattle.std.specs.BTreeSet as sets
+use Rattle.edit_sums.specs.Sums.{EntryMap, join}
+use Rattle.replica_store.specs.Replicas.{Replicated}
 use Rattle.world_law.specs.Worlds as worlds
-use Rattle.world_law.specs.Worlds.{puts_of, AreWithin}
-use Rattle.fleet_script.specs.declared.commands.Fault.{Fault}
-use Rattle.fleet_script.specs.declared.commands.Fault.TheVariants.{Refused, Memory}
-use Rattle.fleet_script.specs.declared.states.Kept.{Kept}
-use Rattle.fleet_script.specs.declared.states.Named.{Named}
+use Rattle.script_commands.specs.declared.commands.Command.{Command}
+use Rattle.script_commands.specs.declared.commands.Fault.{Fault}
+use Rattle.script_commands.specs.declared.commands.Fault.TheVariants.{Refused, Memory}
+use Rattle.script_commands.specs.declared.commands.Refusal.TheVariants.{UnknownNode}
+use Rattle.script_commands.specs.Outcomes.{Outcome, IsSaid}
+use Rattle.script_worlds.specs.Worlds.{World, state, held, has_writer, node_named, piece_named, writer_at}
+use Rattle.script_worlds.specs.Lawful.{IsLawful}
 use Rattle.fleet_script.specs.declared.states.Shell.{Shell}
-use Rattle.fleet_script.specs.Texts.{Outcome}
-use Rattle.fleet_script.specs.Worlds.{World, Member, state, held, writer_at, piece_named}
-
-abbrev pub member_of : Kept → Member
-member_of kept = record { name = kept.name; writer = kept.replica.writer }
-
-abbrev pub is_named : List ℕ → Kept → Bool
-is_named name kept = bytes_eq kept.name name
-
--- ---- worlds of scripts
-
--- the edits that were put
-abbrev pub puts : World → List Edit
-puts world = puts_of (length world.nodes) world.events
-
--- some node put the edit: it has the node's writer number, and the node holds no less a counter
-pub record IsOwn (world : World) (e : Edit) : Type 0 where
-  pub node : ℕ
-  pub within : node < length world.nodes
-  pub writer : e.version.writer ≡ writer_at world.nodes node
-  pub counter : e.version.counter ≤ high_of (held world node)
-
--- no two nodes have one writer number, each edit is some node's own, and so no version stands for two edits
-pub record IsLawful (world : World) : Type 0 where
-  pub within : AreWithin (length world.nodes) world.events
-  pub apart : (j k : ℕ) → j < length world.nodes → k < length world.nodes → writer_at world.nodes j ≡ writer_at world.nodes k → j ≡ k
-  pub own : (e : Edit) → IsAmong e (puts world) → IsOwn world e
-  pub honest : IsHonest (puts world)
-
--- ---- what is kept
+use Rattle.fleet_script.specs.Does.{Does}
 
 pub record Keeps : Type 0 where
-  pub nodes : List Kept
-  pub pieces : List Named
+  pub nodes : List Replicated
+  pub number_of : List ℕ → Option ℕ
+  pub is_taken : ℕ → Bool
+  pub piece_of : List ℕ → Option EntryMap
 
 abbrev pub kept_in : Shell → Keeps
-kept_in shell = record { nodes = shell.nodes.items; pieces = shell.pieces.items }
+kept_in shell = record {
+  nodes = shell.nodes.items;
+  number_of = λ name. maps.get (slice_cmp nat_cmp) shell.numbers name;
+  is_taken = λ writer. sets.contains nat_cmp shell.writers writer;
+  piece_of = λ name. maps.get (slice_cmp nat_cmp) shell.pieces name;
+}
 
-abbrev pub is_called : List ℕ → Named → Bool
-is_called name named = bytes_eq named.name name
-
--- what is kept under a name
-abbrev pub piece_kept : List Named → List ℕ → Option EntryMap
-piece_kept [] name = None
-piece_kept (named ∷ pieces) name = if is_called name named then Some named.piece else piece_kept pieces name
+-- nothing is kept
+pub record IsBlank (shell : Keeps) : Type 0 where
+  pub nodes : shell.nodes ≡ []
+  pub numbers : (name : List ℕ) → shell.number_of name ≡ None
+  pub writers : (writer : ℕ) → shell.is_taken writer ≡ false
+  pub pieces : (name : List ℕ) → shell.piece_of name ≡ None
 
 -- these are the entries of the piece of this number
 pub record IsPiece (world : World) (number : ℕ) (entries : EntryMap) : Type 0 where
@@ -72,35 +52,36 @@ IsNamed world None (Some number) = ⊥
 IsNamed world (Some entries) None = ⊥
 IsNamed world (Some entries) (Some number) = IsPiece world number entries
 
--- the nodes are those of the world, each holds the sum of what it took, and the pieces are those of the world
-pub record Holds (kept : Keeps) (world : World) : Type 0 where
-  pub members : map member_of kept.nodes ≡ world.nodes
-  pub stores : (k : ℕ) (node : Kept) → slice_get kept.nodes k ≡ Some node → node.replica.store ≡ held world k
-  pub pieces : (name : List ℕ) → IsNamed world (piece_kept kept.pieces name) (piece_named world.pieces name)
+-- the nodes are those of the world, each holds the sum of what it took under its own writer number, and names, writer numbers and pieces are those of the world
+pub record Holds (shell : Keeps) (world : World) : Type 0 where
+  pub count : length shell.nodes ≡ length world.nodes
+  pub writers : (k : ℕ) (node : Replicated) → slice_get shell.nodes k ≡ Some node → writer_at world.nodes k ≡ node.writer
+  pub stores : (k : ℕ) (node : Replicated) → slice_get shell.nodes k ≡ Some node → node.store ≡ held world k
+  pub numbers : (name : List ℕ) → shell.number_of name ≡ node_named world.nodes name
+  pub taken : (writer : ℕ) → shell.is_taken writer ≡ has_writer world.nodes writer
+  pub pieces : (name : List ℕ) → IsNamed world (shell.piece_of name) (piece_named world.pieces name)
   pub lawful : IsLawful world
 
 -- Whatever world the old shell holds, the new one holds one to which it may go.
 abbrev pub Continues : Keeps → Keeps → (World → World → Type 0) → Type 0
 Continues old new step = (world : World) → Holds old world → (next : World) × Holds new next × step world next
 
--- what is said of the outcome, unless memory was refused
-abbrev pub IsSaid : {T : Type 0} → (T → List ℕ) → Result T Fault → (Outcome → Type 0) → Type 0
-IsSaid words (Ok text) P = P (Ok (words text))
-IsSaid words (Err (Refused refusal)) P = P (Err refusal)
-IsSaid words (Err Memory) P = ⊤
+-- what a step came to, unless memory was refused: it may go so from whatever world the old shell holds
+abbrev pub Goes : Keeps → Keeps → (World → Outcome → World → Type 0) → Result (Vec ℕ Global) Fault → Type 0
+Goes old new step result = IsSaid (λ (text : Vec ℕ Global). text.items) result (λ outcome. Continues old new (λ before after. step before outcome after))
+
+-- what a command came to
+abbrev pub Executes : Shell → Shell → Command → Result (Vec ℕ Global) Fault → Type 0
+Executes old new command result = Goes (kept_in old) (kept_in new) (λ before outcome after. Does before command outcome after) result
+
+-- why no node of a name was found: there is none, or memory was refused
+abbrev pub HasNoNode : Keeps → List ℕ → Fault → Type 0
+HasNoNode shell name fault = (fault ≡ Memory) ⊎ ((fault ≡ Refused UnknownNode) × ((at : ℕ) → shell.number_of name ≡ Some at → at < length shell.nodes → ⊥))
 
 -- a node with the store of another joined into its own
-abbrev pub joined_with : Kept → Kept → Kept
-joined_with kept other = record kept { replica = record kept.replica { store = join kept.replica.store other.replica.store } }
+abbrev pub joined_with : Replicated → Replicated → Replicated
+joined_with node other = record node { store = join node.store other.store }
 
 -- the store of one node is joined into that of another, and all else stays
-abbrev pub IsJoinedAt : List Kept → ℕ → ℕ → List Kept → Type 0
-IsJoinedAt old from to new = (d : Kept) → new ≡ slice_set old to (joined_with (slice_index_or old to d) (slice_index_or old from d))
-
--- a file that isn't empty is visible at the path
-abbrev pub IsFileAt : EntryMap → PathParts → Type 0
-IsFileAt s p = (b : ℕ) × (bs : List ℕ) × (visible_at s p ≡ Some (File (b ∷ bs)))
-
--- at each of these paths
-abbrev pub AreFilesAt : EntryMap → List PathParts → Type 0
-AreFilesAt s paths = (p : PathParts) → Contains paths p → IsFileAt s p
+abbrev pub IsJoinedAt : Keeps → ℕ → ℕ → Keeps → Type 0
+IsJoinedAt old from to new = (d : Replicated) → new ≡ record old { nodes = slice_set old.nodes to (joined_with (slice_index_or old.nodes to d) (slice_index_or old.nodes from d)) }

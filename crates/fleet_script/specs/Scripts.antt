@@ -1,11 +1,12 @@
 -- The meaning of scripts.
 use Rattle.std.specs.Prelude.{◌≡◌, ℕ, nat_lt, List, [], ◌∷◌, ◌++◌, take, length, MatchResult, MatchBool}
 use Rattle.script_words.specs.Lines.{lines_of, is_passed_over}
-use Rattle.fleet_script.specs.declared.commands.Refusal.TheVariants.{LineTooLong}
-use Rattle.fleet_script.specs.Commands.{command_of}
+use Rattle.script_commands.specs.declared.commands.Refusal.TheVariants.{LineTooLong}
+use Rattle.script_commands.specs.Commands.{command_of}
 use Rattle.fleet_script.specs.Does.{Does, Refuses}
-use Rattle.fleet_script.specs.Texts.{Outcome, error_line, outcome_text}
-use Rattle.fleet_script.specs.Worlds.{World, blank}
+use Rattle.script_commands.specs.Outcomes.{Outcome}
+use Rattle.script_answers.specs.Texts.{error_line, outcome_text}
+use Rattle.script_worlds.specs.Worlds.{World, blank}
 
 -- the line is answered so, and the world stays
 pub record Says (words : List ℕ) (old : World) (answer : List ℕ) (new : World) : Type 0 where

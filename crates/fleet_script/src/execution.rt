@@ -1,70 +1,65 @@
 //! Commands are done here.
-ghost use Rattle.std.specs.Prelude.{◌≡◌, ◌<◌, ◌==◌, [], position, length, vec_len, IfOk, IfSome, MatchResult};
-ghost use Rattle.std.specs.List.{list_any};
-ghost use Rattle.fleet_script.specs.Commands.{command_of};
+ghost use Rattle.std.specs.Prelude.{◌≡◌, ◌<◌, Some, length, vec_len, IfOk, MatchResult};
+ghost use Rattle.script_commands.specs.declared.commands.Command.TheVariants.{Node, Put, Link, Remove, Files, Cat, Same};
+ghost use Rattle.script_commands.specs.Commands.{command_of};
 ghost use Rattle.fleet_script.specs.Does.{Does, Refuses, Writes};
-ghost use Rattle.fleet_script.specs.Holds.{Continues, IsSaid, is_named, kept_in};
+ghost use Rattle.fleet_script.specs.Holds.{Continues, Executes, Goes, HasNoNode, IsBlank, kept_in};
 ghost use Rattle.fleet_script.specs.Scripts.{AnswersLine};
 
-use crate::answers::{files_of, put_done, refused};
-use crate::commands::{Command, Fault, Refusal};
-use crate::parsing::parse;
-use crate::states::{Kept, Shell};
+use crate::states::Shell;
 use edit_sums::Content;
 use load_path::{Bytes, Path};
 use replica_store::Replica;
-use script_words::{is_passed_over, unescape};
+use script_answers::{files_of, put_done, refused};
+use script_commands::{Command, Fault, Refusal, parse, read_file, read_link, read_path};
+use script_words::is_passed_over;
 use std::alloc::{AllocError, Global};
+use std::collections::{BTreeMap, BTreeSet};
+use unit_answers::tell_files;
 
 /// The most bytes of a line of a script, its line end not counted.
 pub const LINE_LIMIT: usize = 300_000;
 
-// The number of the node of a name.
-pub fn find(nodes: &[Kept], name: &[u8]) -> Option<usize>
-    ensures found { result ≡ position (is_named name.now) nodes.now }
-    ensures within { IfSome result (λ at. at < length nodes.now) }
-{
-    nodes.iter().position(|kept| kept.name.as_slice() == name)
-}
-
-// Whether a node has a writer number.
-fn is_taken(nodes: &[Kept], writer: u32) -> bool
-    ensures taken { result ≡ list_any (λ kept. kept.replica.writer == writer) nodes.now }
-{
-    nodes.iter().any(|kept| kept.replica.writer() == writer)
-}
-
 impl Shell {
     /// A shell without nodes and pieces.
     pub fn new(alloc: Global) -> Self
-        ensures no_nodes { result.nodes.items ≡ [] }
-        ensures no_pieces { result.pieces.items ≡ [] }
+        ensures blank { IsBlank (kept_in result) }
     {
         Shell {
             nodes: Vec::new(alloc),
-            pieces: Vec::new(alloc),
+            numbers: BTreeMap::new(alloc),
+            writers: BTreeSet::new(alloc),
+            pieces: BTreeMap::new(alloc),
+        }
+    }
+
+    /// The number of the node of a name, or that there is none.
+    pub fn node_at(&self, alloc: Global, name: &[u8]) -> Result<usize, Fault>
+        ensures within { IfOk result (λ at. at < length self.now.nodes.items) }
+        ensures found { MatchResult result (λ at. (kept_in self.now).number_of name.now ≡ Some at) (HasNoNode (kept_in self.now) name.now) }
+    {
+        let name = Bytes::from_slice(alloc, name)?;
+        match self.numbers.get(&name) {
+            Some(at) if *at < self.nodes.len() => Ok(*at),
+            _ => Err(Fault::Refused(Refusal::UnknownNode)),
         }
     }
 
     fn node(&mut self, alloc: Global, name: &[u8], writer: u32) -> Result<Vec<u8>, Fault>
-        ensures done { IsSaid (λ text. text.items) result (λ outcome. Continues (kept_in self.old) (kept_in self.new)
-            (λ old new. Does old (Command.Node name.now writer) outcome new)) }
+        ensures done { Executes self.old self.new (Node name.now writer) result }
     {
-        if find(&self.nodes, name).is_some() {
+        let name = Bytes::from_slice(alloc, name)?;
+        if self.numbers.contains_key(&name) {
             return Err(Fault::Refused(Refusal::NodeTaken));
         }
-        if is_taken(&self.nodes, writer) {
+        if self.writers.contains(&writer) {
             return Err(Fault::Refused(Refusal::WriterTaken));
         }
         let text = Vec::from_slice(alloc, b"ok\n")?;
-        let kept = Kept {
-            name: Bytes::from_slice(alloc, name)?,
-            replica: Replica::new(alloc, writer),
-        };
-        match self.nodes.push(kept) {
-            Ok(()) => Ok(text),
-            Err(_) => Err(Fault::Memory),
-        }
+        self.numbers.insert(name, self.nodes.len())?;
+        self.writers.insert(writer)?;
+        self.nodes.push(Replica::new(alloc, writer))?;
+        Ok(text)
     }
 
     fn put(
@@ -74,23 +69,11 @@ impl Shell {
         path: &[u8],
         text: &[u8],
     ) -> Result<Vec<u8>, Fault>
-        ensures done { IsSaid (λ text. text.items) result (λ outcome. Continues (kept_in self.old) (kept_in self.new)
-            (λ old new. Does old (Command.Put node.now path.now text.now) outcome new)) }
+        ensures done { Executes self.old self.new (Put node.now path.now text.now) result }
     {
-        let Some(at) = find(&self.nodes, node) else {
-            return Err(Fault::Refused(Refusal::UnknownNode));
-        };
-        let path = match Path::parse(alloc, path) {
-            Ok(path) => path,
-            Err(fault) => return Err(Fault::from(fault)),
-        };
-        let Some(bytes) = unescape(alloc, text)? else {
-            return Err(Fault::Refused(Refusal::BadText));
-        };
-        let content = match Content::file(bytes) {
-            Ok(content) => content,
-            Err(_) => return Err(Fault::Refused(Refusal::FileTooLarge)),
-        };
+        let at = self.node_at(alloc, node)?;
+        let path = read_path(alloc, path)?;
+        let content = read_file(alloc, text)?;
         self.write(alloc, at, path, content)
     }
 
@@ -101,36 +84,20 @@ impl Shell {
         path: &[u8],
         target: &[u8],
     ) -> Result<Vec<u8>, Fault>
-        ensures done { IsSaid (λ text. text.items) result (λ outcome. Continues (kept_in self.old) (kept_in self.new)
-            (λ old new. Does old (Command.Link node.now path.now target.now) outcome new)) }
+        ensures done { Executes self.old self.new (Link node.now path.now target.now) result }
     {
-        let Some(at) = find(&self.nodes, node) else {
-            return Err(Fault::Refused(Refusal::UnknownNode));
-        };
-        let path = match Path::parse(alloc, path) {
-            Ok(path) => path,
-            Err(fault) => return Err(Fault::from(fault)),
-        };
-        let content = match Content::link(Vec::from_slice(alloc, target)?) {
-            Ok(content) => content,
-            Err(_) => return Err(Fault::Refused(Refusal::BadLink)),
-        };
+        let at = self.node_at(alloc, node)?;
+        let path = read_path(alloc, path)?;
+        let content = read_link(alloc, target)?;
         self.write(alloc, at, path, content)
     }
 
     fn remove(&mut self, alloc: Global, node: &[u8], path: &[u8]) -> Result<Vec<u8>, Fault>
-        ensures done { IsSaid (λ text. text.items) result (λ outcome. Continues (kept_in self.old) (kept_in self.new)
-            (λ old new. Does old (Command.Remove node.now path.now) outcome new)) }
+        ensures done { Executes self.old self.new (Remove node.now path.now) result }
     {
-        let Some(at) = find(&self.nodes, node) else {
-            return Err(Fault::Refused(Refusal::UnknownNode));
-        };
-        let path = match Path::parse(alloc, path) {
-            Ok(path) => path,
-            Err(fault) => return Err(Fault::from(fault)),
-        };
-        let kept = &mut self.nodes[at];
-        let version = match kept.replica.remove(path) {
+        let at = self.node_at(alloc, node)?;
+        let path = read_path(alloc, path)?;
+        let version = match self.nodes[at].remove(path) {
             Ok(version) => version,
             Err(fault) => return Err(Fault::from(fault)),
         };
@@ -138,29 +105,26 @@ impl Shell {
     }
 
     fn files(&mut self, alloc: Global, node: &[u8]) -> Result<Vec<u8>, Fault>
-        ensures done { IsSaid (λ text. text.items) result (λ outcome. Continues (kept_in self.old) (kept_in self.new)
-            (λ old new. Does old (Command.Files node.now) outcome new)) }
+        ensures done { Executes self.old self.new (Files node.now) result }
     {
-        let Some(at) = find(&self.nodes, node) else {
-            return Err(Fault::Refused(Refusal::UnknownNode));
-        };
-        let kept = &self.nodes[at];
-        Ok(files_of(alloc, kept.replica.store())?)
+        let at = self.node_at(alloc, node)?;
+        Ok(files_of(alloc, self.nodes[at].store())?)
+    }
+
+    // Tells a unit's files: its fragment, and then its drop-ins.
+    fn cat(&mut self, alloc: Global, node: &[u8], unit: &[u8]) -> Result<Vec<u8>, Fault>
+        ensures done { Executes self.old self.new (Cat node.now unit.now) result }
+    {
+        let at = self.node_at(alloc, node)?;
+        tell_files(alloc, self.nodes[at].store(), unit)
     }
 
     fn same(&mut self, alloc: Global, left: &[u8], right: &[u8]) -> Result<Vec<u8>, Fault>
-        ensures done { IsSaid (λ text. text.items) result (λ outcome. Continues (kept_in self.old) (kept_in self.new)
-            (λ old new. Does old (Command.Same left.now right.now) outcome new)) }
+        ensures done { Executes self.old self.new (Same left.now right.now) result }
     {
-        let Some(left) = find(&self.nodes, left) else {
-            return Err(Fault::Refused(Refusal::UnknownNode));
-        };
-        let Some(right) = find(&self.nodes, right) else {
-            return Err(Fault::Refused(Refusal::UnknownNode));
-        };
-        let one = &self.nodes[left];
-        let other = &self.nodes[right];
-        if one.replica.store().same(other.replica.store()) {
+        let left = self.node_at(alloc, left)?;
+        let right = self.node_at(alloc, right)?;
+        if self.nodes[left].store().same(self.nodes[right].store()) {
             Ok(Vec::from_slice(alloc, b"same\n")?)
         } else {
             Ok(Vec::from_slice(alloc, b"differ\n")?)
@@ -176,11 +140,9 @@ impl Shell {
         content: Content,
     ) -> Result<Vec<u8>, Fault>
         requires within { at < vec_len self.old.nodes }
-        ensures done { IsSaid (λ text. text.items) result (λ outcome. Continues (kept_in self.old) (kept_in self.new)
-            (λ old new. Writes old outcome new at path content)) }
+        ensures done { Goes (kept_in self.old) (kept_in self.new) (λ before outcome after. Writes before outcome after at path content) result }
     {
-        let kept = &mut self.nodes[at];
-        let version = match kept.replica.put(path, content) {
+        let version = match self.nodes[at].put(path, content) {
             Ok(version) => version,
             Err(fault) => return Err(Fault::from(fault)),
         };
@@ -191,8 +153,8 @@ impl Shell {
 impl Shell {
     // Does what a line asks for.
     fn execute(&mut self, alloc: Global, line: &[u8]) -> Result<Vec<u8>, Fault>
-        ensures done { IsSaid (λ text. text.items) result (λ outcome. Continues (kept_in self.old) (kept_in self.new)
-            (λ old new. MatchResult (command_of line.now) (λ command. Does old command outcome new) (λ refusal. Refuses old refusal outcome new))) }
+        ensures done { Goes (kept_in self.old) (kept_in self.new) (λ before outcome after.
+            MatchResult (command_of line.now) (λ command. Does before command outcome after) (λ refusal. Refuses before refusal outcome after)) result }
     {
         match parse(line)? {
             Command::Node { name, writer } => self.node(alloc, name.as_slice(), writer),

@@ -3,8 +3,8 @@ ghost use Rattle.std.specs.Prelude.{◌≡◌, ℕ, List, slice_get};
 ghost use Rattle.edit_sums.specs.Sums.{IsHonest};
 ghost use Rattle.world_law.specs.Worlds as worlds;
 ghost use Rattle.fleet_script.specs.Scripts.{Answers, Run};
-ghost use Rattle.fleet_script.specs.Worlds.{World, blank, held, state};
-ghost use Rattle.fleet_script.specs.Holds.{puts};
+ghost use Rattle.script_worlds.specs.Worlds.{World, blank, held, state};
+ghost use Rattle.script_worlds.specs.Lawful.{puts};
 
 /// A script has one list of answers at most, so whatever `run` writes for it is the same.
 pub fn one_answer()

@@ -4,15 +4,11 @@
 //! answers over worlds of nodes and events (`specs/Scripts.antt`); `run` is proved against it.
 #![tactic(auto)]
 
-mod answers;
-mod commands;
 mod exchanges;
 mod execution;
 mod laws;
-mod parsing;
 mod running;
 mod states;
-mod units;
 
 pub use laws::{one_answer, scripts_are_honest};
 pub use running::{ShellFault, run};

@@ -2,24 +2,14 @@
 use delta_pieces::Piece;
 use load_path::Bytes;
 use replica_store::Replica;
+use std::collections::{BTreeMap, BTreeSet};
 
-/// A node: its name, and its replica of now.
-#[derive(Drop)]
-pub struct Kept {
-    pub name: Bytes,
-    pub replica: Replica,
-}
-
-/// A piece that was cut, and its name.
-#[derive(Drop)]
-pub struct Named {
-    pub name: Bytes,
-    pub piece: Piece,
-}
-
-/// The nodes, in the order of their making, and the pieces, no two of one name.
+/// Each node's replica of now, in the order of their making; by name the numbers of the nodes, from 0, and the pieces
+/// of now; and the writer numbers that are taken.
 #[derive(Drop)]
 pub struct Shell {
-    pub nodes: Vec<Kept>,
-    pub pieces: Vec<Named>,
+    pub nodes: Vec<Replica>,
+    pub numbers: BTreeMap<Bytes, usize>,
+    pub writers: BTreeSet<u32>,
+    pub pieces: BTreeMap<Bytes, Piece>,
 }

@@ -1,4 +1,4 @@
-use Rattle.fleet_script.proofs.OneAnswer.{one}
+use Rattle.fleet_script.proofs.WholeScripts.{one}
 use Rattle.fleet_script.proofs.laws.one_answer.Goals as goal
 
 pub returns : goal.returns

@@ -1,8 +1,8 @@
 use Rattle.std.proofs.Common.{length}
 use Rattle.world_law.specs.WorldLaws.{stores_are_sums}
-use Rattle.fleet_script.specs.Worlds.{blank}
-use Rattle.fleet_script.proofs.Lawful.{lawful_blank}
-use Rattle.fleet_script.proofs.Reach.{run_lawful}
+use Rattle.script_worlds.specs.Worlds.{blank}
+use Rattle.script_worlds.specs.LawfulLaws.{lawful_blank}
+use Rattle.fleet_script.proofs.WholeScripts.{run_lawful}
 use Rattle.fleet_script.proofs.laws.scripts_are_honest.Goals as goal
 
 pub returns-clause-honest : goal.returns-clause-honest

@@ -9,7 +9,7 @@ use Rattle.fleet_script.proofs.running.answer_all.Goals as goal
 use Rattle.fleet_script.proofs.running.answer_all.Goals.{then-len-ge-BATCH+in_ok-write_all, else-len-ge-BATCH}
 
 pub loop-rest-init : goal.loop-rest-init
-loop-rest-init g c = (begins c.args.script.now c.new-pending.result.items (kept_in c.new-shell.result) (g.K.Sink.contents c.args.writer.now) c.new-shell.ensures.no_nodes c.new-shell.ensures.no_pieces c.new-pending.ensures.items, refl)
+loop-rest-init g c = (begins c.args.script.now c.new-pending.result.items (kept_in c.new-shell.result) (g.K.Sink.contents c.args.writer.now) c.new-shell.ensures.blank c.new-pending.ensures.items, refl)
 
 pub returns-in_default-clause-front : goal.returns-in_default-clause-front
 returns-in_default-clause-front g c = whatever _ c.give_up.result

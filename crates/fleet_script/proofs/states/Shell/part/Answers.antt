@@ -1,31 +1,19 @@
-use Rattle.std.proofs.Common.{◌<◌, List, length, Vec, Global, Ok, sym, ap, subst, ◌∙◌}
-use Rattle.fleet_script.specs.declared.states.Kept.{Kept}
-use Rattle.fleet_script.specs.Does.{Parts}
-use Rattle.fleet_script.specs.Holds.{Continues}
-use Rattle.fleet_script.specs.Texts.{entries_line}
-use Rattle.fleet_script.proofs.Nodes.{keep}
-use Rattle.fleet_script.proofs.Between.{part_unknown_from, part_unknown_to, part_no_paths, part_done, any_node}
+use Rattle.std.proofs.Common.{Ok, refl, ap, ◌∙◌}
+use Rattle.script_answers.specs.Texts.{entries_line}
+use Rattle.fleet_script.specs.Does.{AtNode, AtPaths, PartsAt}
+use Rattle.fleet_script.specs.Holds.{kept_in}
+use Rattle.fleet_script.proofs.Between.{any_node, parts}
+use Rattle.fleet_script.proofs.Goes.{key_updated, with_node, with_paths}
 use Rattle.fleet_script.proofs.states.Shell.part.Goals as goal
-
-pub returns-in_default : goal.returns-in_default
-returns-in_default c = record { done = part_unknown_from c.args.self.now.pieces.items c.args.self.now.nodes.items c.args.piece.now c.args.from.now c.args.to.now c.args.paths (sym (rw c.deref.ensures.value at c.in_default.ensures.found)) }
-
-pub returns-in_default-find : goal.returns-in_default-find
-returns-in_default-find c = record { done = part_unknown_to c.args.self.now.pieces.items c.args.self.now.nodes.items c.args.piece.now c.args.from.now c.args.to.now c.args.paths c.in-Some.from (sym (rw c.deref.ensures.value at c.in-Some.ensures.found)) (sym (rw c.deref-2.ensures.value at c.in_default-find.ensures.found)) }
-
-pub returns-in-Err : goal.returns-in-Err
-returns-in-Err c = record {
-  done = part_no_paths c.args.self.now.pieces.items c.args.self.now.nodes.items c.args.piece.now c.args.from.now c.args.to.now c.args.paths c.in-Some.from (sym (rw c.deref.ensures.value at c.in-Some.ensures.found)) c.in-Some-find.to (sym (rw c.deref-2.ensures.value at c.in-Some-find.ensures.found)) c.in-Err.fault c.from.result c.in-Err.ensures.read c.from.ensures;
-}
 
 pub returns : goal.returns
 returns c =
-    let nodes = c.args.self.now.nodes.items in
-    let within_from : c.in-Some.from < length nodes = rw c.deref.ensures.value at c.in-Some.ensures.within in
-    let within_to : c.in-Some-find.to < length nodes = rw c.deref-2.ensures.value at c.in-Some-find.ensures.within in
+    let shell = kept_in c.args.self.now in
+    let told = Ok c.in_ok-text.text in
     record {
-      done = subst (λ (ns : List Kept). Continues (keep nodes c.args.self.now.pieces.items) (keep ns c.keep.new.self.pieces.items) (λ old new. Parts old (Ok c.in_ok-text.text.items) new c.args.piece.now c.args.from.now c.args.to.now c.args.paths)) (ap (λ (v : Vec Kept Global). v.items) (sym c.in_ok-keep.ensures.nodes))
-          (part_done c.args.self.now.pieces.items nodes c.args.piece.now c.args.from.now c.args.to.now c.args.paths c.in-Some.from (sym (rw c.deref.ensures.value at c.in-Some.ensures.found)) c.in-Some-find.to (sym (rw c.deref-2.ensures.value at c.in-Some-find.ensures.found))
-          any_node c.in-Ok.paths.items c.in_ok-cut.cut c.keep.new.self.pieces.items c.in_ok-text.text.items within_from within_to c.in-Ok.ensures.read
-          (rw c.deref-3.ensures.value at c.in_ok-cut.ensures.cut) c.in_ok-keep.ensures.kept (c.in_ok-text.ensures.line ∙ ap entries_line c.len.ensures.len));
+      done = with_node shell _ told c.args.from.now c.in_ok-from.from (λ j old outcome new. AtNode old outcome new c.args.to.now (λ k. AtPaths old outcome new c.args.paths (λ paths. PartsAt old outcome new c.args.piece.now j k paths))) c.in_ok-from.ensures.found
+          (with_node shell _ told c.args.to.now c.in_ok-to.to (λ k old outcome new. AtPaths old outcome new c.args.paths (λ paths. PartsAt old outcome new c.args.piece.now c.in_ok-from.from k paths)) c.in_ok-to.ensures.found
+          (with_paths shell _ told c.args.paths c.in_ok-paths.paths.items (λ paths old outcome new. PartsAt old outcome new c.args.piece.now c.in_ok-from.from c.in_ok-to.to paths) c.in_ok-paths.ensures.read
+          (parts shell _ c.args.piece.now c.in_ok-from.from c.in_ok-to.to any_node c.in_ok-paths.paths.items c.in_ok-cut.cut c.in_ok-text.text c.in_ok-from.ensures.within c.in_ok-to.ensures.within
+          (rw c.deref.ensures.value at c.in_ok-cut.ensures.cut) refl refl refl (λ other. key_updated c.args.piece.now c.in_ok-from_slice.field-0 other _ _ _ _ c.in_ok-from_slice.ensures.copy refl ((c.in_ok-insert.ensures.updates).0 other)) (c.in_ok-text.ensures.line ∙ ap entries_line c.len.ensures.len))));
     }

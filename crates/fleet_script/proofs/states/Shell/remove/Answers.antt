@@ -1,38 +1,34 @@
-use Rattle.std.proofs.Common.{◌<◌, length, refl, List, Err, sym, subst}
-use Rattle.fleet_script.specs.declared.states.Kept.{Kept}
-use Rattle.fleet_script.specs.Does.{Removes}
-use Rattle.fleet_script.specs.Holds.{Continues}
-use Rattle.fleet_script.proofs.Nodes.{keep, slice_get_at}
-use Rattle.fleet_script.proofs.Steps.{IsTold, remove_unknown, remove_no_path, remove_refused, remove_done, set_again, path_read}
+use Rattle.std.proofs.Common.{◌≡◌, ◌<◌, None, Some, Option, Ok, Err, List, length, subst, sym, arith}
+use Rattle.edit_sums.specs.declared.contents.Content.{Content}
+use Rattle.edit_sums.specs.declared.contents.Content.TheVariants.{Gone}
+use Rattle.replica_store.specs.Replicas.{Replicated}
+use Rattle.fleet_script.specs.Does.{AtPath, Removes, RemovesAt}
+use Rattle.fleet_script.specs.Holds.{Goes, kept_in}
+use Rattle.fleet_script.proofs.Goes.{remove_refused, removed, set_again, with_node, with_path}
+use Rattle.fleet_script.proofs.Nodes.{slice_get_at}
 use Rattle.fleet_script.proofs.states.Shell.remove.Goals as goal
 
-pub returns-in_default : goal.returns-in_default
-returns-in_default c = record { done = remove_unknown c.args.self.now.pieces.items c.args.self.now.nodes.items c.args.node.now c.args.path.now (sym (rw c.deref.ensures.value at c.in_default.ensures.found)) }
-
 pub returns-in-Err : goal.returns-in-Err
-returns-in-Err c = record {
-  done =
-      remove_no_path c.args.self.now.pieces.items c.args.self.now.nodes.items c.args.node.now c.args.path.now c.in-Some.at (sym (rw c.deref.ensures.value at c.in-Some.ensures.found)) c.in-Err.fault c.from.result c.in-Err.ensures.parsed c.from.ensures;
-}
-
-pub returns-in-Err-remove : goal.returns-in-Err-remove
-returns-in-Err-remove c =
+returns-in-Err c =
     let nodes = c.args.self.now.nodes.items in
-    let kept = c.index_mut-kept.result.now in
-    let within : c.in-Some.at < length nodes = rw c.deref.ensures.value at c.in-Some.ensures.within in
-    let at = slice_get_at nodes c.in-Some.at kept within c.index_mut-kept.ensures.value in
+    let shell = kept_in c.args.self.now in
+    let at = slice_get_at nodes c.in_ok-at.at c.index_mut.result.now c.in_ok-at.ensures.within c.index_mut.ensures.value in
     record {
-      done = subst (λ (ns : List Kept). IsTold (Err c.from-in-Err-remove.result) (λ outcome. Continues (keep nodes c.args.self.now.pieces.items) (keep ns c.args.self.now.pieces.items) (λ old new. Removes old outcome new c.args.node.now c.args.path.now))) (sym (set_again c.args.self.now.pieces.items nodes c.in-Some.at kept c.remove.new.self c.index_mut-kept.ensures.value c.in-Err-remove.ensures.refused))
-          (remove_refused c.args.self.now.pieces.items nodes c.args.node.now c.args.path.now c.in-Some.at (sym (rw c.deref.ensures.value at c.in-Some.ensures.found)) c.in-Ok.path (path_read _ _ c.in-Ok.ensures.parsed) kept at c.in-Err-remove.fault c.from-in-Err-remove.result (λ e. c.in-Err-remove.ensures.nothing.0 e) (λ e. c.in-Err-remove.ensures.spent.0 e) c.from-in-Err-remove.ensures);
+      done = subst (λ (ns : List Replicated). Goes shell (record shell { nodes = ns }) (λ old outcome new. Removes old outcome new c.args.node.now c.args.path.now) (Err c.from.result))
+          (sym (set_again nodes c.in_ok-at.at c.index_mut.result.now c.remove.new.self c.index_mut.ensures.value c.in-Err.ensures.refused))
+          (with_node shell shell (Err c.from.result) c.args.node.now c.in_ok-at.at _ c.in_ok-at.ensures.found
+          (with_path shell shell (Err c.from.result) c.args.path.now c.in_ok-path.path _ c.in_ok-path.ensures.read
+          (remove_refused shell c.in_ok-at.at c.index_mut.result.now c.in_ok-path.path at c.in-Err.fault c.from.result (λ e. c.in-Err.ensures.nothing.0 e) (λ e. c.in-Err.ensures.spent.0 e) c.from.ensures)));
     }
 
 pub returns : goal.returns
 returns c =
     let nodes = c.args.self.now.nodes.items in
-    let kept = c.index_mut-kept.result.now in
-    let within : c.in-Some.at < length nodes = rw c.deref.ensures.value at c.in-Some.ensures.within in
-    let at = slice_get_at nodes c.in-Some.at kept within c.index_mut-kept.ensures.value in
+    let shell = kept_in c.args.self.now in
+    let at = slice_get_at nodes c.in_ok-at.at c.index_mut.result.now c.in_ok-at.ensures.within c.index_mut.ensures.value in
     record {
-      done = remove_done c.args.self.now.pieces.items nodes c.args.node.now c.args.path.now c.in-Some.at (sym (rw c.deref.ensures.value at c.in-Some.ensures.found)) c.in-Ok.path (path_read _ _ c.in-Ok.ensures.parsed) kept at _ c.in-Ok-remove.version _ within
-          (λ none. let e = c.in-Ok-remove.ensures.nothing.1 none in cc (e)) (λ some high. let e = c.in-Ok-remove.ensures.spent.1 (some, high) in cc (e)) c.in-Ok-remove.ensures.version c.in_ok-put_done.ensures.line refl c.in-Ok-remove.ensures.joined;
+      done = with_node shell _ (Ok c.in_ok-put_done.field-0) c.args.node.now c.in_ok-at.at (λ k old outcome new. AtPath old outcome new c.args.path.now (λ p. RemovesAt old outcome new k p)) c.in_ok-at.ensures.found
+          (with_path shell _ (Ok c.in_ok-put_done.field-0) c.args.path.now c.in_ok-path.path (λ p old outcome new. RemovesAt old outcome new c.in_ok-at.at p) c.in_ok-path.ensures.read
+          (removed shell c.in_ok-at.at c.index_mut.result.now c.in_ok-path.path at c.remove.new.self c.in-Ok.version c.in_ok-put_done.field-0 c.in_ok-at.ensures.within
+          (λ none. let e = c.in-Ok.ensures.nothing.1 none in cc (e)) (λ some high. let e = c.in-Ok.ensures.spent.1 (some, high) in cc (e)) c.in-Ok.ensures.version c.in_ok-put_done.ensures.line c.in-Ok.ensures.joined));
     }

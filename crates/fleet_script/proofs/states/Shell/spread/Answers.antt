@@ -1,7 +1,6 @@
-use Rattle.std.proofs.Common.{◌≡◌, ◌<◌, ◌≤◌, ◌-◌, length, Vec, Global, refl, ap, arith}
-use Rattle.fleet_script.specs.declared.states.Named.{Named}
+use Rattle.std.proofs.Common.{◌≡◌, ◌<◌, ◌≤◌, ◌-◌, length, refl, arith}
 use Rattle.fleet_script.specs.Holds.{kept_in}
-use Rattle.fleet_script.proofs.Between.{merges_go, merge_step, none_merged, all_merged, any_node}
+use Rattle.fleet_script.proofs.Between.{all_merged, any_node, merge_goes, merges_go, none_merged}
 use Rattle.fleet_script.proofs.states.Shell.spread.Goals as goal
 
 pub loop-k-init : goal.loop-k-init
@@ -17,10 +16,10 @@ loop-k-preserved c =
       omega (arith, c.loop-k-test.true),
       omega arith,
       merges_go (λ k. (0, k)) c.loop-k.k (kept_in c.args.self.now) (kept_in c.loop-k.self) (kept_in c.merge_nodes.new.self) least c.loop-k.invariant.2
-          (merge_step c.loop-k.self.pieces.items c.merge_nodes.new.self.pieces.items c.loop-k.self.nodes.items c.merge_nodes.new.self.nodes.items 0 c.loop-k.k any_node first_within k_within c.in_ok-merge_nodes.ensures.joined (ap (λ (v : Vec Named Global). v.items) c.in_ok-merge_nodes.ensures.pieces)),
+          (merge_goes (kept_in c.loop-k.self) (kept_in c.merge_nodes.new.self) 0 c.loop-k.k any_node first_within k_within c.in_ok-merge_nodes.ensures.joined),
     )
 
 pub returns : goal.returns
 returns c =
     let last : c.loop-k.k - 1 ≡ length c.args.self.now.nodes.items - 1 = omega (arith, c.loop-k.invariant.0, c.loop-k-test.false, c.len-k-end.ensures, c.args.self.now.nodes.ok) in
-    record { merged = all_merged (λ k. (0, k)) (c.loop-k.k - 1) c.args.self.now.pieces.items c.args.self.now.nodes.items (kept_in c.loop-k.self) last c.loop-k.invariant.2 }
+    record { merged = all_merged (λ k. (0, k)) (c.loop-k.k - 1) (kept_in c.args.self.now) (kept_in c.loop-k.self) last c.loop-k.invariant.2 }

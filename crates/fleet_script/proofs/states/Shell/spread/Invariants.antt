@@ -1,6 +1,6 @@
 use Rattle.std.proofs.Common.{◌≡◌, ◌≤◌, ◌-◌, length, map}
 use Rattle.fleet_script.specs.Holds.{Continues, kept_in}
-use Rattle.fleet_script.specs.Worlds.{merged_all, numbers_from}
+use Rattle.script_worlds.specs.Worlds.{merged_all, numbers_from}
 use Rattle.fleet_script.proofs.states.Shell.spread.Given as goal
 
 abbrev pub invariant-loop-k : goal.invariant-loop-k

@@ -1,26 +1,29 @@
-use Rattle.std.proofs.Common.{◌<◌, length, sym, subst, refl, Err, arith, List}
-use Rattle.fleet_script.specs.declared.states.Kept.{Kept}
+use Rattle.std.proofs.Common.{◌<◌, Err, List, length, subst, sym, arith}
+use Rattle.replica_store.specs.Replicas.{Replicated}
 use Rattle.fleet_script.specs.Does.{Writes}
-use Rattle.fleet_script.specs.Holds.{Continues}
-use Rattle.fleet_script.proofs.Nodes.{keep, slice_get_at}
-use Rattle.fleet_script.proofs.Steps.{IsTold, wrote, write_refused, set_again}
+use Rattle.fleet_script.specs.Holds.{Goes, kept_in}
+use Rattle.fleet_script.proofs.Goes.{set_again, write_refused, wrote}
+use Rattle.fleet_script.proofs.Nodes.{slice_get_at}
 use Rattle.fleet_script.proofs.states.Shell.write.Goals as goal
 
 pub returns-in-Err : goal.returns-in-Err
 returns-in-Err c =
     let nodes = c.args.self.now.nodes.items in
-    let kept = c.index_mut-kept.result.now in
     let within : c.args.at < length nodes = omega arith in
-    let at = slice_get_at nodes c.args.at kept within c.index_mut-kept.ensures.value in
+    let at = slice_get_at nodes c.args.at c.index_mut.result.now within c.index_mut.ensures.value in
+    let shell = kept_in c.args.self.now in
     record {
-      done = subst (λ (ns : List Kept). IsTold (Err c.from.result) (λ outcome. Continues (keep nodes c.args.self.now.pieces.items) (keep ns c.args.self.now.pieces.items) (λ old new. Writes old outcome new c.args.at c.args.path c.args.content))) (sym (set_again c.args.self.now.pieces.items nodes c.args.at kept c.put.new.self c.index_mut-kept.ensures.value c.in-Err.ensures.refused))
-          (write_refused c.args.self.now.pieces.items nodes c.args.at kept c.args.path c.args.content c.in-Err.fault c.from.result at c.in-Err.ensures.always (λ e. c.in-Err.ensures.spent.0 e) c.from.ensures);
+      done = subst (λ (ns : List Replicated). Goes shell (record shell { nodes = ns }) (λ old outcome new. Writes old outcome new c.args.at c.args.path c.args.content) (Err c.from.result))
+          (sym (set_again nodes c.args.at c.index_mut.result.now c.put.new.self c.index_mut.ensures.value c.in-Err.ensures.refused))
+          (write_refused shell c.args.at c.index_mut.result.now c.args.path c.args.content at c.in-Err.fault c.from.result c.in-Err.ensures.always (λ e. c.in-Err.ensures.spent.0 e) c.from.ensures);
     }
 
 pub returns : goal.returns
 returns c =
     let nodes = c.args.self.now.nodes.items in
-    let kept = c.index_mut-kept.result.now in
     let within : c.args.at < length nodes = omega arith in
-    let at = slice_get_at nodes c.args.at kept within c.index_mut-kept.ensures.value in
-    record { done = wrote c.args.self.now.pieces.items nodes c.args.at kept _ c.args.path c.args.content c.in-Ok.version _ within at (λ high. let e = c.in-Ok.ensures.spent.1 high in cc (e)) c.in-Ok.ensures.version c.in_ok-put_done.ensures.line refl c.in-Ok.ensures.joined }
+    let at = slice_get_at nodes c.args.at c.index_mut.result.now within c.index_mut.ensures.value in
+    record {
+      done = wrote (kept_in c.args.self.now) c.args.at c.index_mut.result.now c.args.path c.args.content at c.put.new.self c.in-Ok.version c.in_ok-put_done.field-0 within
+          (λ high. let e = c.in-Ok.ensures.spent.1 high in cc (e)) c.in-Ok.ensures.version c.in_ok-put_done.ensures.line c.in-Ok.ensures.joined;
+    }

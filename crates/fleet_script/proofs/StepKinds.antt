@@ -1,0 +1,214 @@
+-- Kinds of steps: each has one outcome, leaves one world, and keeps the world lawful. One lemma for each word of the meaning.
+use Rattle.std.proofs.Common.{◌≡◌, ◌⊎◌, inl, inr, ℕ, zero, suc, ◌+◌, ◌-◌, ◌<◌, ◌≤◌, ◌==◌, Bool, true, false, cond, nat_lt, List, [], ◌∷◌, map, length, Option, Some, None, Result, Ok, Err, codes, refl, sym, ap, subst, ◌∙◌, arith}
+use Rattle.std.specs.Prelude.{MatchOption, MatchResult}
+use Rattle.std.specs.Bool.{MatchBool}
+use Rattle.std.specs.FinMap as finmap
+use Rattle.std.specs.List.{position_or_len}
+use Rattle.std.specs.Str.{bytes_eq}
+use Rattle.std.proofs.lemmas.Bool.Decides.{nat_tests}
+use Rattle.load_path.specs.Paths.{PathParts, path_of}
+use Rattle.load_path.specs.declared.paths.PathFault.{PathFault}
+use Rattle.load_path.specs.declared.paths.PathFault.TheVariants as path
+use Rattle.edit_sums.specs.declared.contents.Content.{Content}
+use Rattle.edit_sums.specs.declared.contents.Content.TheVariants as content
+use Rattle.edit_sums.specs.Limits.{is_file, is_target}
+use Rattle.edit_sums.specs.Sums.{EntryMap, changed_paths, high_of, visible_at}
+use Rattle.world_law.specs.declared.events.Event.TheVariants as event
+use Rattle.world_law.specs.Cuts.{cut, digest_of}
+use Rattle.script_words.specs.Text.{Spells, IsBadText}
+use Rattle.script_words.specs.TextLaws.{spells_one}
+use Rattle.script_commands.specs.declared.commands.Command.{Command}
+use Rattle.script_commands.specs.declared.commands.Command.TheVariants.{Node, Put, Link, Remove, Merge, Part, Send, Sweep, Files, Cat, Same}
+use Rattle.script_commands.specs.declared.commands.Refusal.{Refusal}
+use Rattle.script_commands.specs.declared.commands.Refusal.TheVariants.{BadLink, BadText, Component, Depth, Directory, FileTooLarge, NodeTaken, Nothing, UnknownNode, UnknownPiece, VersionsSpent, WriterTaken}
+use Rattle.script_commands.specs.Outcomes.{Outcome}
+use Rattle.script_commands.specs.Paths.{paths_of}
+use Rattle.script_answers.specs.Texts.{changed_line, entries_line, ok_line}
+use Rattle.script_worlds.specs.Worlds.{World, Member, happened, has_writer, held, merged, merged_all, next_edit, node_named, numbers_from, parted, piece_named, swept, with_node}
+use Rattle.script_worlds.specs.Lawful.{IsLawful}
+use Rattle.script_worlds.specs.NodeLaws.{named_within}
+use Rattle.script_worlds.specs.LawfulLaws.{lawful_answered, lawful_given, lawful_merged, lawful_put, lawful_with_node}
+use Rattle.unit_answers.specs.Units.{TellsFiles}
+use Rattle.unit_answers.specs.UnitLaws.{files_are_told_once}
+use Rattle.fleet_script.specs.Does.{AtNode, AtPath, AtPaths, AtPiece, Does, Gives, IsRead, Reads, Refuses, RefusesPath, TellsPaths, WithFile, WithTarget, WithText, Writes, if_any}
+use Rattle.fleet_script.proofs.Between.{merged_all-append, merged_nodes}
+
+-- a step from a world has one outcome and leaves one world, and a lawful world stays lawful
+pub record IsStep (old : World) (S : Outcome → World → Type 0) : Type 0 where
+  pub one : (a b : Outcome) (x y : World) → S a x → S b y → (a ≡ b) × (x ≡ y)
+  pub lawful : IsLawful old → (outcome : Outcome) (new : World) → S outcome new → IsLawful new
+
+-- ---- what the world's own words need
+
+-- merges between nodes that are there
+lawful_merges : (f : ℕ → ℕ × ℕ) (n first count : ℕ) (world : World) → length world.nodes ≡ n → ((k : ℕ) → 0 < k → k < n → ((f k).0 < n) × ((f k).1 < n)) → 0 < first → ((k : ℕ) → first ≤ k → k < first + count → k < n)
+    → IsLawful world → IsLawful (merged_all world (map f (numbers_from first count)))
+lawful_merges f n first zero world same there least within lawful = lawful
+lawful_merges f n first (suc count) world same there least within lawful =
+    let here = within first (omega arith) (omega arith) in
+    let pair = there first least here in
+    let from = pair.0 in
+    let to = pair.1 in
+    lawful_merges f n (suc first) count (merged world (f first).0 (f first).1) same there (omega arith) (λ k low high. within k (omega arith) (omega arith))
+    (lawful_merged world (f first).0 (f first).1 lawful (omega arith) (omega arith))
+
+pub lawful_swept : (world : World) → IsLawful world → IsLawful (swept world)
+lawful_swept world lawful =
+    let n = length world.nodes in
+    let into : List (ℕ × ℕ) = map (λ k. (k, 0)) (numbers_from 1 (n - 1)) in
+    let out_of : List (ℕ × ℕ) = map (λ k. (0, k)) (numbers_from 1 (n - 1)) in
+    subst (λ (w : World). IsLawful w) (sym (merged_all-append world into out_of))
+    (lawful_merges (λ k. (0, k)) n 1 (n - 1) (merged_all world into) (ap (λ (ms : List Member). length ms) (merged_nodes world into)) (λ k low high. (omega arith, high)) (omega arith) (λ k low high. omega arith)
+    (lawful_merges (λ k. (k, 0)) n 1 (n - 1) world refl (λ k low high. (high, omega arith)) (omega arith) (λ k low high. omega arith) lawful))
+
+-- ---- one lemma for each word
+
+module _ (old : World) where
+  pub gives : (words : List ℕ) (world : World) → (IsLawful old → IsLawful world) → IsStep old (λ outcome new. Gives words world outcome new)
+  gives words world keeps = record {
+    one = λ a b x y p q. (p.outcome_is ∙ sym q.outcome_is, p.world_is ∙ sym q.world_is);
+    lawful = λ l outcome new g. subst (λ (w : World). IsLawful w) (sym g.world_is) (keeps l);
+  }
+
+  pub refuses : (refusal : Refusal) → IsStep old (λ outcome new. Refuses old refusal outcome new)
+  refuses refusal = record {
+    one = λ a b x y p q. (p.outcome_is ∙ sym q.outcome_is, p.world_is ∙ sym q.world_is);
+    lawful = λ l outcome new r. subst (λ (w : World). IsLawful w) (sym r.world_is) l;
+  }
+
+  never : IsStep old (λ outcome new. ⊥)
+  never = record { one = λ a b x y p q. absurd p; lawful = λ l outcome new p. absurd p }
+
+  with_bool : (t : Bool) (P Q : Outcome → World → Type 0) → (t ≡ true → IsStep old P) → (t ≡ false → IsStep old Q) → IsStep old (λ outcome new. MatchBool t (P outcome new) (Q outcome new))
+  with_bool true P Q p q = p refl
+  with_bool false P Q p q = q refl
+
+  with_option : {X : Type 0} (o : Option X) (P : Outcome → World → Type 0) (Q : X → Outcome → World → Type 0) → (o ≡ None → IsStep old P) → ((v : X) → o ≡ Some v → IsStep old (Q v))
+      → IsStep old (λ outcome new. MatchOption o (P outcome new) (λ v. Q v outcome new))
+  with_option None P Q p q = p refl
+  with_option (Some v) P Q p q = q v refl
+
+  with_result : {X E : Type 0} (r : Result X E) (P : X → Outcome → World → Type 0) (Q : E → Outcome → World → Type 0) → ((v : X) → IsStep old (P v)) → ((e : E) → IsStep old (Q e))
+      → IsStep old (λ outcome new. MatchResult r (λ v. P v outcome new) (λ e. Q e outcome new))
+  with_result (Ok v) P Q p q = p v
+  with_result (Err e) P Q p q = q e
+
+  at_node : (name : List ℕ) (P : ℕ → Outcome → World → Type 0) → ((k : ℕ) → k < length old.nodes → IsStep old (P k)) → IsStep old (λ outcome new. AtNode old outcome new name (λ k. P k outcome new))
+  at_node name P f = with_option (node_named old.nodes name) (λ outcome new. Refuses old UnknownNode outcome new) P (λ none. refuses UnknownNode) (λ k is. f k (named_within old.nodes name k is))
+
+  at_piece : (name : List ℕ) (P : ℕ → Outcome → World → Type 0) → ((p : ℕ) → IsStep old (P p)) → IsStep old (λ outcome new. AtPiece old outcome new name (λ p. P p outcome new))
+  at_piece name P f = with_option (piece_named old.pieces name) (λ outcome new. Refuses old UnknownPiece outcome new) P (λ none. refuses UnknownPiece) (λ p is. f p)
+
+  refuses_path : (fault : PathFault) → IsStep old (λ outcome new. RefusesPath old outcome new fault)
+  refuses_path path.Directory = refuses Directory
+  refuses_path path.Depth = refuses Depth
+  refuses_path path.Component = refuses Component
+  refuses_path path.Memory = never
+
+  at_path : (text : List ℕ) (P : PathParts → Outcome → World → Type 0) → ((at : PathParts) → IsStep old (P at)) → IsStep old (λ outcome new. AtPath old outcome new text (λ at. P at outcome new))
+  at_path text P f = with_result (path_of text) P (λ fault outcome new. RefusesPath old outcome new fault) f refuses_path
+
+  at_paths : (texts : List (List ℕ)) (P : List PathParts → Outcome → World → Type 0) → ((paths : List PathParts) → IsStep old (P paths)) → IsStep old (λ outcome new. AtPaths old outcome new texts (λ paths. P paths outcome new))
+  at_paths texts P f = with_result (paths_of texts) P (λ fault outcome new. RefusesPath old outcome new fault) f refuses_path
+
+  with_text : (text : List ℕ) (P : List ℕ → Outcome → World → Type 0) → ((bytes : List ℕ) → IsStep old (P bytes)) → IsStep old (λ outcome new. WithText old outcome new text (λ bytes. P bytes outcome new))
+  with_text text P f = record { one = one; lawful = lawful }
+    where
+      W : Outcome → World → Type 0
+      W outcome new = WithText old outcome new text (λ bytes. P bytes outcome new)
+
+      one : (a b : Outcome) (x y : World) → W a x → W b y → (a ≡ b) × (x ≡ y)
+      one a b x y (inl p) (inl q) = (f q.0).one a b x y (subst (λ bytes. P bytes a x) (spells_one text p.0 q.0 p.1 q.1) p.2) q.2
+      one a b x y (inl p) (inr q) = absurd (q.0 p.0 p.1)
+      one a b x y (inr p) (inl q) = absurd (p.0 q.0 q.1)
+      one a b x y (inr p) (inr q) = (refuses BadText).one a b x y p.1 q.1
+
+      lawful : IsLawful old → (outcome : Outcome) (new : World) → W outcome new → IsLawful new
+      lawful l outcome new (inl p) = (f p.0).lawful l outcome new p.2
+      lawful l outcome new (inr p) = (refuses BadText).lawful l outcome new p.1
+
+  writes : (k : ℕ) (at : PathParts) (c : Content) → k < length old.nodes → IsStep old (λ outcome new. Writes old outcome new k at c)
+  writes k at c lt =
+      let edit = next_edit old k at c in
+      with_bool (high_of (held old k) == 18446744073709551615) (λ outcome new. Refuses old VersionsSpent outcome new) (λ outcome new. Gives (ok_line edit.version) (happened old (event.Put k edit)) outcome new)
+      (λ spent. refuses VersionsSpent) (λ free. gives (ok_line edit.version) (happened old (event.Put k edit)) (λ l. lawful_put old k at c l lt))
+
+  with_file : (bytes : List ℕ) (P : Content → Outcome → World → Type 0) → IsStep old (P (content.File bytes)) → IsStep old (λ outcome new. WithFile old outcome new bytes (λ c. P c outcome new))
+  with_file bytes P f = with_bool (is_file bytes) (P (content.File bytes)) (λ outcome new. Refuses old FileTooLarge outcome new) (λ is. f) (λ no. refuses FileTooLarge)
+
+  with_target : (target : List ℕ) (P : Content → Outcome → World → Type 0) → IsStep old (P (content.Link target)) → IsStep old (λ outcome new. WithTarget old outcome new target (λ c. P c outcome new))
+  with_target target P f = with_bool (is_target target) (P (content.Link target)) (λ outcome new. Refuses old BadLink outcome new) (λ is. f) (λ no. refuses BadLink)
+
+  -- a command that only reads has one outcome if what it tells of a store is one thing
+  reads : (node : List ℕ) (Tells : EntryMap → Outcome → Type 0) → ((s : EntryMap) (a b : Outcome) → Tells s a → Tells s b → a ≡ b) → IsStep old (λ outcome new. Reads old outcome new node Tells)
+  reads node Tells once = at_node node (λ k outcome new. IsRead (Tells (held old k)) old outcome new) (λ k lt. record {
+    one = λ a b x y p q. (once (held old k) a b p.told q.told, p.world_is ∙ sym q.world_is);
+    lawful = λ l outcome new r. subst (λ (w : World). IsLawful w) (sym r.world_is) l;
+  })
+
+  compares : (P : Type 0) (alike apart : List ℕ) → IsStep old (λ outcome new. (P × Gives alike old outcome new) ⊎ ((P → ⊥) × Gives apart old outcome new))
+  compares P alike apart = record { one = one; lawful = lawful }
+    where
+      C : Outcome → World → Type 0
+      C outcome new = (P × Gives alike old outcome new) ⊎ ((P → ⊥) × Gives apart old outcome new)
+
+      one : (a b : Outcome) (x y : World) → C a x → C b y → (a ≡ b) × (x ≡ y)
+      one a b x y (inl p) (inl q) = (gives alike old (λ l. l)).one a b x y p.1 q.1
+      one a b x y (inl p) (inr q) = absurd (q.0 p.0)
+      one a b x y (inr p) (inl q) = absurd (p.0 q.0)
+      one a b x y (inr p) (inr q) = (gives apart old (λ l. l)).one a b x y p.1 q.1
+
+      lawful : IsLawful old → (outcome : Outcome) (new : World) → C outcome new → IsLawful new
+      lawful l outcome new (inl p) = (gives alike old (λ k. k)).lawful l outcome new p.1
+      lawful l outcome new (inr p) = (gives apart old (λ k. k)).lawful l outcome new p.1
+
+  -- ---- one recursion over the commands
+
+  pub does : (command : Command) → IsStep old (λ outcome new. Does old command outcome new)
+  does (Node name writer) =
+      with_option (node_named old.nodes name)
+      (λ outcome new. MatchBool (has_writer old.nodes writer) (Refuses old WriterTaken outcome new) (Gives (codes "ok\n") (with_node old name writer) outcome new))
+      (λ k outcome new. Refuses old NodeTaken outcome new)
+      (λ none. with_bool (has_writer old.nodes writer) (λ outcome new. Refuses old WriterTaken outcome new) (λ outcome new. Gives (codes "ok\n") (with_node old name writer) outcome new)
+          (λ taken. refuses WriterTaken) (λ free. gives (codes "ok\n") (with_node old name writer) (λ l. lawful_with_node old name writer l free)))
+      (λ k is. refuses NodeTaken)
+  does (Put node text file) =
+      at_node node (λ k outcome new. AtPath old outcome new text (λ at. WithText old outcome new file (λ bytes. WithFile old outcome new bytes (Writes old outcome new k at))))
+      (λ k lt. at_path text (λ at outcome new. WithText old outcome new file (λ bytes. WithFile old outcome new bytes (Writes old outcome new k at)))
+      (λ at. with_text file (λ bytes outcome new. WithFile old outcome new bytes (Writes old outcome new k at))
+      (λ bytes. with_file bytes (λ c outcome new. Writes old outcome new k at c) (writes k at (content.File bytes) lt))))
+  does (Link node text target) =
+      at_node node (λ k outcome new. AtPath old outcome new text (λ at. WithTarget old outcome new target (Writes old outcome new k at)))
+      (λ k lt. at_path text (λ at outcome new. WithTarget old outcome new target (Writes old outcome new k at))
+      (λ at. with_target target (λ c outcome new. Writes old outcome new k at c) (writes k at (content.Link target) lt)))
+  does (Remove node text) =
+      at_node node (λ k outcome new. AtPath old outcome new text (λ at. MatchOption (visible_at (held old k) at) (Refuses old Nothing outcome new) (λ shown. Writes old outcome new k at content.Gone)))
+      (λ k lt. at_path text (λ at outcome new. MatchOption (visible_at (held old k) at) (Refuses old Nothing outcome new) (λ shown. Writes old outcome new k at content.Gone))
+      (λ at. with_option (visible_at (held old k) at) (λ outcome new. Refuses old Nothing outcome new) (λ shown outcome new. Writes old outcome new k at content.Gone)
+          (λ none. refuses Nothing) (λ shown is. writes k at content.Gone lt)))
+  does (Merge from to) =
+      let G : ℕ → ℕ → Outcome → World → Type 0 = λ j k outcome new. Gives (changed_line (changed_paths (held old k) (held (merged old j k) k))) (merged old j k) outcome new in
+      at_node from (λ j outcome new. AtNode old outcome new to (λ k. G j k outcome new))
+      (λ j lt_from. at_node to (G j) (λ k lt_to. gives (changed_line (changed_paths (held old k) (held (merged old j k) k))) (merged old j k) (λ l. lawful_merged old j k l lt_from lt_to)))
+  does (Part piece from to texts) =
+      let words : ℕ → ℕ → List PathParts → List ℕ = λ j k paths. entries_line (length (finmap.entries (cut (held old j) (digest_of (held old k)) (if_any paths)))) in
+      let G : ℕ → ℕ → List PathParts → Outcome → World → Type 0 = λ j k paths outcome new. Gives (words j k paths) (parted old piece j k (if_any paths)) outcome new in
+      at_node from (λ j outcome new. AtNode old outcome new to (λ k. AtPaths old outcome new texts (λ paths. G j k paths outcome new)))
+      (λ j lt_from. at_node to (λ k outcome new. AtPaths old outcome new texts (λ paths. G j k paths outcome new))
+      (λ k lt_to. at_paths texts (G j k) (λ paths. gives (words j k paths) (parted old piece j k (if_any paths)) (λ l. lawful_parted piece j k paths l lt_from lt_to))))
+    where
+      lawful_parted : (name : List ℕ) (j k : ℕ) (paths : List PathParts) → IsLawful old → j < length old.nodes → k < length old.nodes → IsLawful (parted old name j k (if_any paths))
+      lawful_parted name j k paths lawful lt_from lt_to =
+          let l = lawful_answered old j k (if_any paths) lawful lt_from lt_to in
+          record { within = l.within; apart = l.apart; own = λ e a. (let own = l.own e a in record { node = own.node; within = own.within; writer = own.writer; counter = own.counter }); honest = l.honest }
+  does (Send piece node) =
+      let G : ℕ → ℕ → Outcome → World → Type 0 = λ p k outcome new. Gives (changed_line (changed_paths (held old k) (held (happened old (event.Give p k)) k))) (happened old (event.Give p k)) outcome new in
+      at_piece piece (λ p outcome new. AtNode old outcome new node (λ k. G p k outcome new))
+      (λ p. at_node node (G p) (λ k lt. gives (changed_line (changed_paths (held old k) (held (happened old (event.Give p k)) k))) (happened old (event.Give p k)) (λ l. lawful_given old p k l lt)))
+  does Sweep = gives (codes "ok\n") (swept old) (lawful_swept old)
+  does (Files node) = reads node TellsPaths (λ s a b p q. p ∙ sym q)
+  does (Cat node unit) = reads node (TellsFiles unit) (files_are_told_once unit)
+  does (Same left right) =
+      let C : ℕ → ℕ → Outcome → World → Type 0 = λ j k outcome new. ((held old j ≡ held old k) × Gives (codes "same\n") old outcome new) ⊎ ((held old j ≡ held old k → ⊥) × Gives (codes "differ\n") old outcome new) in
+      at_node left (λ j outcome new. AtNode old outcome new right (λ k. C j k outcome new))
+      (λ j lt_left. at_node right (C j) (λ k lt_right. compares (held old j ≡ held old k) (codes "same\n") (codes "differ\n")))

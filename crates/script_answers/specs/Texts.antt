@@ -1,0 +1,81 @@
+-- How answers are written.
+use Rattle.std.specs.Prelude.{ℕ, nat_eq, codes, if◌then◌else◌, Option, Some, None, List, [], ◌++◌, length, Result, Ok, Err}
+use Rattle.std.specs.List.{flat_map, ends_with}
+use Rattle.std.specs.Fmt.{decimal}
+use Rattle.std.specs.FinMap as finmap
+use Rattle.join_law.specs.declared.versions.Version.{Version}
+use Rattle.load_path.specs.Paths.{PathParts, text_of}
+use Rattle.edit_sums.specs.declared.contents.Content.{Content}
+use Rattle.edit_sums.specs.declared.contents.Content.TheVariants.{Gone, Link, File}
+use Rattle.edit_sums.specs.declared.entries.Entry.{Entry}
+use Rattle.edit_sums.specs.Sums.{EntryMap, visible_at}
+use Rattle.script_commands.specs.declared.commands.Refusal.{Refusal}
+use Rattle.script_commands.specs.Outcomes.{Outcome}
+use Rattle.script_commands.specs.declared.commands.Refusal.TheVariants.{UnknownCommand, Arguments, UnknownNode, BadText, UnknownPiece, NodeTaken, WriterTaken, LineTooLong, Directory, Depth, Component, FileTooLarge, BadLink, VersionsSpent, Nothing, Length, Kind, EmptyPrefix, BadByte, NotFound, Masked, Bad}
+
+-- the counter, a dot, the writer
+abbrev pub version_text : Version → List ℕ
+version_text v = decimal v.counter ++ codes "." ++ decimal v.writer
+
+abbrev pub ok_line : Version → List ℕ
+ok_line v = codes "ok " ++ version_text v ++ codes "\n"
+
+abbrev pub changed_line : ℕ → List ℕ
+changed_line n = codes "changed " ++ decimal n ++ codes "\n"
+
+abbrev pub entries_line : ℕ → List ℕ
+entries_line n = codes "entries " ++ decimal n ++ codes "\n"
+
+abbrev pub content_text : Content → List ℕ
+content_text Gone = codes "gone"
+content_text (Link target) = codes "link " ++ target
+content_text (File bytes) = codes "file " ++ decimal (length bytes)
+
+-- the path, the version, the content
+abbrev pub entry_line : PathParts × Entry → List ℕ
+entry_line p = text_of p.0 ++ codes " " ++ version_text p.1.version ++ codes " " ++ content_text p.1.content ++ codes "\n"
+
+-- all that is held, in path order
+abbrev pub files_text : EntryMap → List ℕ
+files_text s = flat_map entry_line (finmap.entries s) ++ codes "end\n"
+
+-- the code and the name of a refusal
+abbrev pub refusal_name : Refusal → List ℕ
+refusal_name UnknownCommand = codes "X1 UnknownCommand"
+refusal_name Arguments = codes "X2 Arguments"
+refusal_name UnknownNode = codes "X3 UnknownNode"
+refusal_name BadText = codes "X4 BadText"
+refusal_name UnknownPiece = codes "X5 UnknownPiece"
+refusal_name NodeTaken = codes "X6 NodeTaken"
+refusal_name WriterTaken = codes "X7 WriterTaken"
+refusal_name LineTooLong = codes "X8 LineTooLong"
+refusal_name Directory = codes "F1 Directory"
+refusal_name Depth = codes "F2 Depth"
+refusal_name Component = codes "F3 Component"
+refusal_name FileTooLarge = codes "C1 FileTooLarge"
+refusal_name BadLink = codes "C2 BadLink"
+refusal_name VersionsSpent = codes "E1 VersionsSpent"
+refusal_name Nothing = codes "E2 Nothing"
+refusal_name Length = codes "N1 Length"
+refusal_name Kind = codes "N2 Kind"
+refusal_name EmptyPrefix = codes "N3 EmptyPrefix"
+refusal_name (BadByte place) = codes "N4 BadByte"
+refusal_name (NotFound unit) = codes "P2 NotFound"
+refusal_name (Masked unit) = codes "P3 Masked"
+refusal_name (Bad unit) = codes "P4 Bad"
+
+-- the values of a refusal, each behind a space
+abbrev pub refusal_values : Refusal → List ℕ
+refusal_values (BadByte place) = codes " " ++ decimal place
+refusal_values (NotFound unit) = codes " " ++ unit
+refusal_values (Masked unit) = codes " " ++ unit
+refusal_values (Bad unit) = codes " " ++ unit
+refusal_values other = []
+
+abbrev pub error_line : Refusal → List ℕ
+error_line refusal = codes "error: " ++ refusal_name refusal ++ refusal_values refusal ++ codes "\n"
+
+-- how an outcome is written
+abbrev pub outcome_text : Outcome → List ℕ
+outcome_text (Ok words) = words
+outcome_text (Err refusal) = error_line refusal

@@ -1,0 +1,148 @@
+//! How answers are written.
+ghost use Rattle.std.specs.Prelude.{◌≡◌, ◌∷◌, ◌++◌, IfOk, OnOk, codes};
+ghost use Rattle.std.specs.List.{flat_map};
+ghost use Rattle.script_answers.specs.Texts.{refusal_name, refusal_values, error_line, ok_line, changed_line, entries_line, entry_line, files_text, content_text, version_text};
+
+use edit_sums::{Content, Entry};
+use join_law::Version;
+use load_path::Path;
+use replica_store::Store;
+use script_commands::Refusal;
+use std::alloc::{AllocError, Global};
+
+// The code and the name of a refusal.
+fn name_of(refusal: &Refusal) -> &'static [u8]
+    ensures name { result.now ≡ refusal_name refusal.now }
+{
+    match refusal {
+        Refusal::UnknownCommand => b"X1 UnknownCommand",
+        Refusal::Arguments => b"X2 Arguments",
+        Refusal::UnknownNode => b"X3 UnknownNode",
+        Refusal::BadText => b"X4 BadText",
+        Refusal::UnknownPiece => b"X5 UnknownPiece",
+        Refusal::NodeTaken => b"X6 NodeTaken",
+        Refusal::WriterTaken => b"X7 WriterTaken",
+        Refusal::LineTooLong => b"X8 LineTooLong",
+        Refusal::Directory => b"F1 Directory",
+        Refusal::Depth => b"F2 Depth",
+        Refusal::Component => b"F3 Component",
+        Refusal::FileTooLarge => b"C1 FileTooLarge",
+        Refusal::BadLink => b"C2 BadLink",
+        Refusal::VersionsSpent => b"E1 VersionsSpent",
+        Refusal::Nothing => b"E2 Nothing",
+        Refusal::Length => b"N1 Length",
+        Refusal::Kind => b"N2 Kind",
+        Refusal::EmptyPrefix => b"N3 EmptyPrefix",
+        Refusal::BadByte(_) => b"N4 BadByte",
+        Refusal::NotFound(_) => b"P2 NotFound",
+        Refusal::Masked(_) => b"P3 Masked",
+        Refusal::Bad(_) => b"P4 Bad",
+    }
+}
+
+// Appends the values of a refusal, each behind a space.
+fn append_values(alloc: Global, out: &mut Vec<u8>, refusal: &Refusal) -> Result<(), AllocError>
+    ensures appended { OnOk result (out.new.items ≡ out.old.items ++ refusal_values refusal.now) }
+{
+    match refusal {
+        Refusal::BadByte(place) => {
+            let place = *place;
+            out.extend_from_slice(format!(in alloc; " {place}")?.as_bytes())
+        }
+        Refusal::NotFound(name) | Refusal::Masked(name) | Refusal::Bad(name) => {
+            out.push(b' ')?;
+            out.extend_from_slice(name.bytes())
+        }
+        _ => Ok(()),
+    }
+}
+
+/// The line of a refusal.
+pub fn refused(alloc: Global, refusal: Refusal) -> Result<Vec<u8>, AllocError>
+    ensures line { IfOk result (λ line. line.items ≡ error_line refusal) }
+{
+    let mut line = Vec::from_slice(alloc, b"error: ")?;
+    line.extend_from_slice(name_of(&refusal))?;
+    append_values(alloc, &mut line, &refusal)?;
+    line.push(b'\n')?;
+    Ok(line)
+}
+
+/// The line of an edit that was put.
+pub fn put_done(alloc: Global, version: Version) -> Result<Vec<u8>, AllocError>
+    ensures line { IfOk result (λ line. line.items ≡ ok_line version) }
+{
+    let counter = version.counter;
+    let writer = version.writer;
+    Ok(format!(in alloc; "ok {counter}.{writer}\n")?.into_bytes())
+}
+
+/// The line of a merge.
+pub fn merge_done(alloc: Global, changed: u64) -> Result<Vec<u8>, AllocError>
+    ensures line { IfOk result (λ line. line.items ≡ changed_line changed) }
+{
+    Ok(format!(in alloc; "changed {changed}\n")?.into_bytes())
+}
+
+/// The line of a piece that was cut.
+pub fn part_done(alloc: Global, entries: usize) -> Result<Vec<u8>, AllocError>
+    ensures line { IfOk result (λ line. line.items ≡ entries_line entries) }
+{
+    Ok(format!(in alloc; "entries {entries}\n")?.into_bytes())
+}
+
+// Appends a content's words.
+fn append_content(alloc: Global, out: &mut Vec<u8>, content: &Content) -> Result<(), AllocError>
+    ensures appended { OnOk result (out.new.items ≡ out.old.items ++ content_text content.now) }
+{
+    match content {
+        Content::Gone => out.extend_from_slice(b"gone"),
+        Content::Link(target) => {
+            out.extend_from_slice(b"link ")?;
+            out.extend_from_slice(target.bytes())
+        }
+        Content::File(file) => {
+            let len = file.bytes().len();
+            out.extend_from_slice(format!(in alloc; "file {len}")?.as_bytes())
+        }
+    }
+}
+
+// Appends a version's numbers.
+fn append_version(alloc: Global, out: &mut Vec<u8>, version: Version) -> Result<(), AllocError>
+    ensures appended { OnOk result (out.new.items ≡ out.old.items ++ version_text version) }
+{
+    let counter = version.counter;
+    let writer = version.writer;
+    out.extend_from_slice(format!(in alloc; "{counter}.{writer}")?.as_bytes())
+}
+
+// Appends the line of an entry.
+fn append_entry(
+    alloc: Global,
+    out: &mut Vec<u8>,
+    path: &Path,
+    entry: &Entry,
+) -> Result<(), AllocError>
+    ensures appended { OnOk result (out.new.items ≡ out.old.items ++ entry_line (path.now, entry.now)) }
+{
+    path.append_to(out)?;
+    out.push(b' ')?;
+    append_version(alloc, out, entry.version)?;
+    out.push(b' ')?;
+    append_content(alloc, out, &entry.content)?;
+    out.push(b'\n')?;
+    Ok(())
+}
+
+/// All that a store holds, a line for each entry, in path order. Linear in what is written.
+pub fn files_of(alloc: Global, store: &Store) -> Result<Vec<u8>, AllocError>
+    ensures lines { IfOk result (λ text. text.items ≡ files_text store.now) }
+{
+    let mut out = Vec::new(alloc);
+    for (path, entry) in store.entries() {
+        append_entry(alloc, &mut out, path, entry)?;
+    }
+    out.extend_from_slice(b"end\n")?;
+    Ok(out)
+}

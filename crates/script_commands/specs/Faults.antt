@@ -1,0 +1,28 @@
+-- Which refusal a fault of a layer below is.
+use Rattle.load_path.specs.declared.paths.PathFault.{PathFault}
+use Rattle.load_path.specs.declared.paths.PathFault.TheVariants as path
+use Rattle.replica_store.specs.declared.replicas.EditFault.{EditFault}
+use Rattle.replica_store.specs.declared.replicas.EditFault.TheVariants as edit
+use Rattle.script_commands.specs.declared.commands.Refusal.TheVariants.{Directory, Depth, Component, VersionsSpent, Nothing, Length, Kind, EmptyPrefix, BadByte}
+use Rattle.unit_name.specs.declared.names.NameFault.{NameFault}
+use Rattle.unit_name.specs.declared.names.NameFault.TheVariants as name
+use Rattle.script_commands.specs.declared.commands.Fault.{Fault}
+use Rattle.script_commands.specs.declared.commands.Fault.TheVariants.{Refused, Memory}
+
+abbrev pub fault_of_path : PathFault → Fault
+fault_of_path path.Directory = Refused Directory
+fault_of_path path.Depth = Refused Depth
+fault_of_path path.Component = Refused Component
+fault_of_path path.Memory = Memory
+
+abbrev pub fault_of_edit : EditFault → Fault
+fault_of_edit edit.VersionsSpent = Refused VersionsSpent
+fault_of_edit edit.Nothing = Refused Nothing
+fault_of_edit edit.Memory = Memory
+
+abbrev pub fault_of_name : NameFault → Fault
+fault_of_name name.Length = Refused Length
+fault_of_name name.Kind = Refused Kind
+fault_of_name name.EmptyPrefix = Refused EmptyPrefix
+fault_of_name (name.BadByte place) = Refused (BadByte place)
+fault_of_name name.Memory = Memory

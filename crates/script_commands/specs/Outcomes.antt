@@ -1,0 +1,15 @@
+-- What a command comes to.
+use Rattle.std.specs.Prelude.{ℕ, List, ⊤, Result, Ok, Err}
+use Rattle.script_commands.specs.declared.commands.Fault.{Fault}
+use Rattle.script_commands.specs.declared.commands.Fault.TheVariants.{Refused, Memory}
+use Rattle.script_commands.specs.declared.commands.Refusal.{Refusal}
+
+-- the words of its answer, or a refusal
+abbrev pub Outcome : Type 0
+Outcome = Result (List ℕ) Refusal
+
+-- what is said of the outcome, unless memory was refused
+abbrev pub IsSaid : {T : Type 0} → (T → List ℕ) → Result T Fault → (Outcome → Type 0) → Type 0
+IsSaid words (Ok text) P = P (Ok (words text))
+IsSaid words (Err (Refused refusal)) P = P (Err refusal)
+IsSaid words (Err Memory) P = ⊤

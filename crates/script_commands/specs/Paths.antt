@@ -1,0 +1,21 @@
+-- The paths that words write.
+use Rattle.std.specs.Prelude.{◌≡◌, ◌⊎◌, ℕ, List, [], ◌∷◌, Result, Ok, Err}
+use Rattle.load_path.specs.Paths.{PathParts, path_of}
+use Rattle.load_path.specs.declared.paths.PathFault.{PathFault}
+use Rattle.script_commands.specs.declared.commands.Fault.{Fault}
+use Rattle.script_commands.specs.declared.commands.Fault.TheVariants.{Memory}
+use Rattle.script_commands.specs.Faults.{fault_of_path}
+
+abbrev path_then : Result PathParts PathFault → Result (List PathParts) PathFault → Result (List PathParts) PathFault
+path_then (Err fault) paths = Err fault
+path_then (Ok path) (Err fault) = Err fault
+path_then (Ok path) (Ok paths) = Ok (path ∷ paths)
+
+-- the paths that some texts write, or the first thing wrong with the first that writes none
+abbrev pub paths_of : List (List ℕ) → Result (List PathParts) PathFault
+paths_of [] = Ok []
+paths_of (text ∷ texts) = path_then (path_of text) (paths_of texts)
+
+-- the fault of words that write no path, or want of memory
+abbrev pub IsPathFault : {T : Type 0} → Result T PathFault → Fault → Type 0
+IsPathFault {T} read fault = (fault ≡ Memory) ⊎ ((f : PathFault) × (◌≡◌ {A = Result T PathFault} read (Err f)) × (fault ≡ fault_of_path f))

@@ -1,0 +1,254 @@
+//! Commands, and why they are refused.
+ghost use Rattle.std.specs.Prelude.{◌≡◌, ℕ, List};
+
+use load_path::PathFault;
+use replica_store::EditFault;
+use script_words::cut_word;
+use std::alloc::{AllocError, AllocFailed};
+use std::marker::Model;
+use unit_name::{NameFault, UnitName};
+
+/// Some bytes of a line.
+#[derive(Drop)]
+pub struct Word<'a> {
+    bytes: &'a [u8],
+}
+
+impl<'a> Model for Word<'a> {
+    ghost Value = { List ℕ };
+
+    ghost view = { λ w. w.bytes.now };
+}
+
+impl<'a> Word<'a> {
+    /// These bytes as a word.
+    pub fn new(bytes: &'a [u8]) -> Self
+        ensures bytes { result ≡ bytes.now }
+    {
+        Word { bytes }
+    }
+
+    /// The bytes.
+    pub fn as_slice(&self) -> &'a [u8]
+        ensures bytes { result.now ≡ self.now }
+    {
+        self.bytes
+    }
+}
+
+/// The words that are left of a line.
+#[derive(Drop)]
+pub struct Words<'a> {
+    rest: &'a [u8],
+}
+
+impl<'a> Model for Words<'a> {
+    ghost use Rattle.std.specs.Prelude.{ℕ, List};
+    ghost use Rattle.script_words.specs.Words.{words_of};
+
+    ghost Value = { List (List ℕ) };
+
+    ghost view = { λ w. words_of w.rest.now };
+}
+
+impl<'a> Words<'a> {
+    ghost use Rattle.std.specs.Prelude.{◌≡◌, [], ◌∷◌, MatchOption};
+    ghost use Rattle.script_words.specs.Words.{words_of};
+
+    /// The words of these bytes.
+    pub fn new(rest: &'a [u8]) -> Self
+        ensures words { result ≡ words_of rest.now }
+    {
+        Words { rest }
+    }
+
+    /// Takes the first of them, if there is one.
+    pub fn take_first(&mut self) -> Option<&'a [u8]>
+        ensures first { MatchOption result ((self.old ≡ []) × (self.new ≡ [])) (λ word. self.old ≡ word.now ∷ self.new) }
+    {
+        let (word, rest) = cut_word(self.rest)?;
+        self.rest = rest;
+        Some(word)
+    }
+}
+
+/// What a line asks for.
+#[derive(Drop)]
+pub enum Command<'a> {
+    /// A new node of a name, under a writer number.
+    Node {
+        name: Word<'a>,
+        writer: u32,
+    },
+    /// A file put at a path of a node.
+    Put {
+        node: Word<'a>,
+        path: Word<'a>,
+        text: Word<'a>,
+    },
+    /// A link put at a path of a node.
+    Link {
+        node: Word<'a>,
+        path: Word<'a>,
+        target: Word<'a>,
+    },
+    /// What is visible at a path of a node, removed.
+    Remove {
+        node: Word<'a>,
+        path: Word<'a>,
+    },
+    /// One node is given all that it lacks of another.
+    Merge {
+        from: Word<'a>,
+        to: Word<'a>,
+    },
+    /// What one node cuts for the ask of another, at these paths or at all, kept under a name.
+    Part {
+        piece: Word<'a>,
+        from: Word<'a>,
+        to: Word<'a>,
+        paths: Words<'a>,
+    },
+    /// A piece, given to a node.
+    Send {
+        piece: Word<'a>,
+        node: Word<'a>,
+    },
+    /// Every node is merged into the first, and then the first into every node.
+    Sweep,
+    /// All that a node holds.
+    Files {
+        node: Word<'a>,
+    },
+    /// The fragment of a unit, as a node has it.
+    Cat {
+        node: Word<'a>,
+        unit: Word<'a>,
+    },
+    /// Whether two nodes hold the same.
+    Same {
+        left: Word<'a>,
+        right: Word<'a>,
+    },
+}
+
+/// Why a line is refused. The nodes are then as they were.
+#[derive(Debug, Drop)]
+pub enum Refusal {
+    UnknownCommand,
+    Arguments,
+    UnknownNode,
+    BadText,
+    UnknownPiece,
+    NodeTaken,
+    WriterTaken,
+    LineTooLong,
+    Directory,
+    Depth,
+    Component,
+    FileTooLarge,
+    BadLink,
+    VersionsSpent,
+    Nothing,
+    Length,
+    Kind,
+    EmptyPrefix,
+    /// The place of the byte that no name has.
+    BadByte(usize),
+    /// The unit whose file isn't there.
+    NotFound(UnitName),
+    /// The unit that is masked.
+    Masked(UnitName),
+    /// The unit that is bad.
+    Bad(UnitName),
+}
+
+/// Why a command was not done.
+#[derive(Debug, Drop)]
+pub enum Fault {
+    /// It is refused.
+    Refused(Refusal),
+    /// Memory was refused.
+    Memory,
+}
+
+impl From<Refusal> for Fault {
+    ghost use Rattle.std.specs.Prelude.{◌≡◌};
+    ghost use Rattle.script_commands.specs.declared.commands.Fault.TheVariants.{Refused};
+
+    ghost from_gives = { λ refusal fault. fault ≡ Refused refusal };
+
+    fn from(refusal: Refusal) -> Fault {
+        Fault::Refused(refusal)
+    }
+}
+
+impl From<AllocError> for Fault {
+    ghost use Rattle.std.specs.Prelude.{◌≡◌};
+    ghost use Rattle.script_commands.specs.declared.commands.Fault.TheVariants.{Memory};
+
+    ghost from_gives = { λ _ fault. fault ≡ Memory };
+
+    fn from(_refused: AllocError) -> Fault {
+        Fault::Memory
+    }
+}
+
+impl<T: Drop> From<AllocFailed<T>> for Fault {
+    ghost use Rattle.std.specs.Prelude.{◌≡◌};
+    ghost use Rattle.script_commands.specs.declared.commands.Fault.TheVariants.{Memory};
+
+    ghost from_gives = { λ _ fault. fault ≡ Memory };
+
+    fn from(_refused: AllocFailed<T>) -> Fault {
+        Fault::Memory
+    }
+}
+
+impl From<PathFault> for Fault {
+    ghost use Rattle.std.specs.Prelude.{◌≡◌};
+    ghost use Rattle.script_commands.specs.Faults.{fault_of_path};
+
+    ghost from_gives = { λ refused fault. fault ≡ fault_of_path refused };
+
+    fn from(refused: PathFault) -> Fault {
+        match refused {
+            PathFault::Directory => Fault::Refused(Refusal::Directory),
+            PathFault::Depth => Fault::Refused(Refusal::Depth),
+            PathFault::Component => Fault::Refused(Refusal::Component),
+            PathFault::Memory => Fault::Memory,
+        }
+    }
+}
+
+impl From<NameFault> for Fault {
+    ghost use Rattle.std.specs.Prelude.{◌≡◌};
+    ghost use Rattle.script_commands.specs.Faults.{fault_of_name};
+
+    ghost from_gives = { λ refused fault. fault ≡ fault_of_name refused };
+
+    fn from(refused: NameFault) -> Fault {
+        match refused {
+            NameFault::Length => Fault::Refused(Refusal::Length),
+            NameFault::Kind => Fault::Refused(Refusal::Kind),
+            NameFault::EmptyPrefix => Fault::Refused(Refusal::EmptyPrefix),
+            NameFault::BadByte(place) => Fault::Refused(Refusal::BadByte(place)),
+            NameFault::Memory => Fault::Memory,
+        }
+    }
+}
+
+impl From<EditFault> for Fault {
+    ghost use Rattle.std.specs.Prelude.{◌≡◌};
+    ghost use Rattle.script_commands.specs.Faults.{fault_of_edit};
+
+    ghost from_gives = { λ refused fault. fault ≡ fault_of_edit refused };
+
+    fn from(refused: EditFault) -> Fault {
+        match refused {
+            EditFault::VersionsSpent => Fault::Refused(Refusal::VersionsSpent),
+            EditFault::Nothing => Fault::Refused(Refusal::Nothing),
+            EditFault::Memory => Fault::Memory,
+        }
+    }
+}

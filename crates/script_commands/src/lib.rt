@@ -1,0 +1,13 @@
+//! Commands of a script: what a line asks for, and why one is refused.
+//!
+//! What a line asks for is a function of the line alone (`specs/Commands.antt`). Whatever a command needs of the nodes
+//! comes later.
+#![tactic(auto)]
+
+mod commands;
+mod parsing;
+mod path_words;
+
+pub use commands::{Command, Fault, Refusal, Word, Words};
+pub use parsing::parse;
+pub use path_words::{read_file, read_link, read_path, read_paths};

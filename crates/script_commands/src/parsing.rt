@@ -1,0 +1,253 @@
+//! From a line to a command.
+ghost use Rattle.std.specs.Prelude.{◌≡◌, [], ◌∷◌, MatchOption};
+ghost use Rattle.script_words.specs.Words.{words_of, text_after};
+ghost use Rattle.script_commands.specs.Commands.{command_of, node_of, put_of, link_of, remove_of, merge_of, part_of, send_of, sweep_of, files_of, cat_of, same_of, AreNotOne, AreNotTwo, AreNotThree};
+
+use crate::commands::{Command, Refusal, Word, Words};
+use script_words::{cut_word, is_name, parse_number, text_of_rest};
+
+/// The command of a line, or why it is none. Linear in the line, without memory.
+pub fn parse(line: &[u8]) -> Result<Command<'_>, Refusal>
+    ensures command { result ≡ command_of line.now }
+{
+    let Some((verb, rest)) = cut_word(line) else {
+        return Err(Refusal::UnknownCommand);
+    };
+    if verb == b"node".as_slice() {
+        node(rest)
+    } else if verb == b"put".as_slice() {
+        put(rest)
+    } else if verb == b"link".as_slice() {
+        link(rest)
+    } else if verb == b"remove".as_slice() {
+        remove(rest)
+    } else if verb == b"merge".as_slice() {
+        merge(rest)
+    } else if verb == b"part".as_slice() {
+        part(rest)
+    } else if verb == b"send".as_slice() {
+        send(rest)
+    } else if verb == b"sweep".as_slice() {
+        sweep(rest)
+    } else if verb == b"files".as_slice() {
+        files(rest)
+    } else if verb == b"cat".as_slice() {
+        cat(rest)
+    } else if verb == b"same".as_slice() {
+        same(rest)
+    } else {
+        Err(Refusal::UnknownCommand)
+    }
+}
+
+// The word of a line that has just one.
+fn one_word(line: &[u8]) -> Option<&[u8]>
+    ensures one { MatchOption result (AreNotOne (words_of line.now)) (λ one. words_of line.now ≡ one.now ∷ []) }
+{
+    let (first, rest) = cut_word(line)?;
+    match cut_word(rest) {
+        None => Some(first),
+        Some(_) => None,
+    }
+}
+
+// The two words of a line that has just these.
+fn two_words(line: &[u8]) -> Option<(&[u8], &[u8])>
+    ensures two { MatchOption result (AreNotTwo (words_of line.now)) (λ two. words_of line.now ≡ two.0.now ∷ two.1.now ∷ []) }
+{
+    let (first, rest) = cut_word(line)?;
+    let (second, rest) = cut_word(rest)?;
+    match cut_word(rest) {
+        None => Some((first, second)),
+        Some(_) => None,
+    }
+}
+
+// The three words of a line that has just these.
+fn three_words(line: &[u8]) -> Option<(&[u8], &[u8], &[u8])>
+    ensures three { MatchOption result (AreNotThree (words_of line.now)) (λ three. words_of line.now ≡ three.0.now ∷ three.1.now ∷ three.2.now ∷ []) }
+{
+    let (first, rest) = cut_word(line)?;
+    let (second, third) = two_words(rest)?;
+    Some((first, second, third))
+}
+
+fn node(rest: &[u8]) -> Result<Command<'_>, Refusal>
+    ensures command { result ≡ node_of (words_of rest.now) }
+{
+    let Some((name, writer)) = two_words(rest) else {
+        return Err(Refusal::Arguments);
+    };
+    match parse_number(writer) {
+        Some(writer) if is_name(name) => Ok(Command::Node {
+            name: Word::new(name),
+            writer,
+        }),
+        _ => Err(Refusal::Arguments),
+    }
+}
+
+fn put(rest: &[u8]) -> Result<Command<'_>, Refusal>
+    ensures command { result ≡ put_of (words_of rest.now) (text_after 2 rest.now) }
+{
+    let Some((node, rest)) = cut_word(rest) else {
+        return Err(Refusal::Arguments);
+    };
+    let Some((path, rest)) = cut_word(rest) else {
+        return Err(Refusal::Arguments);
+    };
+    if is_name(node) {
+        Ok(Command::Put {
+            node: Word::new(node),
+            path: Word::new(path),
+            text: Word::new(text_of_rest(rest)),
+        })
+    } else {
+        Err(Refusal::Arguments)
+    }
+}
+
+fn link(rest: &[u8]) -> Result<Command<'_>, Refusal>
+    ensures command { result ≡ link_of (words_of rest.now) }
+{
+    let Some((node, path, target)) = three_words(rest) else {
+        return Err(Refusal::Arguments);
+    };
+    if is_name(node) {
+        Ok(Command::Link {
+            node: Word::new(node),
+            path: Word::new(path),
+            target: Word::new(target),
+        })
+    } else {
+        Err(Refusal::Arguments)
+    }
+}
+
+fn remove(rest: &[u8]) -> Result<Command<'_>, Refusal>
+    ensures command { result ≡ remove_of (words_of rest.now) }
+{
+    let Some((node, path)) = two_words(rest) else {
+        return Err(Refusal::Arguments);
+    };
+    if is_name(node) {
+        Ok(Command::Remove {
+            node: Word::new(node),
+            path: Word::new(path),
+        })
+    } else {
+        Err(Refusal::Arguments)
+    }
+}
+
+fn merge(rest: &[u8]) -> Result<Command<'_>, Refusal>
+    ensures command { result ≡ merge_of (words_of rest.now) }
+{
+    let Some((from, to)) = two_words(rest) else {
+        return Err(Refusal::Arguments);
+    };
+    if is_name(from) && is_name(to) {
+        Ok(Command::Merge {
+            from: Word::new(from),
+            to: Word::new(to),
+        })
+    } else {
+        Err(Refusal::Arguments)
+    }
+}
+
+fn part(rest: &[u8]) -> Result<Command<'_>, Refusal>
+    ensures command { result ≡ part_of (words_of rest.now) }
+{
+    let Some((piece, rest)) = cut_word(rest) else {
+        return Err(Refusal::Arguments);
+    };
+    let Some((from, rest)) = cut_word(rest) else {
+        return Err(Refusal::Arguments);
+    };
+    let Some((to, rest)) = cut_word(rest) else {
+        return Err(Refusal::Arguments);
+    };
+    if is_name(piece) && is_name(from) && is_name(to) {
+        Ok(Command::Part {
+            piece: Word::new(piece),
+            from: Word::new(from),
+            to: Word::new(to),
+            paths: Words::new(rest),
+        })
+    } else {
+        Err(Refusal::Arguments)
+    }
+}
+
+fn send(rest: &[u8]) -> Result<Command<'_>, Refusal>
+    ensures command { result ≡ send_of (words_of rest.now) }
+{
+    let Some((piece, node)) = two_words(rest) else {
+        return Err(Refusal::Arguments);
+    };
+    if is_name(piece) && is_name(node) {
+        Ok(Command::Send {
+            piece: Word::new(piece),
+            node: Word::new(node),
+        })
+    } else {
+        Err(Refusal::Arguments)
+    }
+}
+
+fn sweep(rest: &[u8]) -> Result<Command<'_>, Refusal>
+    ensures command { result ≡ sweep_of (words_of rest.now) }
+{
+    match cut_word(rest) {
+        None => Ok(Command::Sweep),
+        Some(_) => Err(Refusal::Arguments),
+    }
+}
+
+fn files(rest: &[u8]) -> Result<Command<'_>, Refusal>
+    ensures command { result ≡ files_of (words_of rest.now) }
+{
+    let Some(node) = one_word(rest) else {
+        return Err(Refusal::Arguments);
+    };
+    if is_name(node) {
+        Ok(Command::Files {
+            node: Word::new(node),
+        })
+    } else {
+        Err(Refusal::Arguments)
+    }
+}
+
+fn cat(rest: &[u8]) -> Result<Command<'_>, Refusal>
+    ensures command { result ≡ cat_of (words_of rest.now) }
+{
+    let Some((node, unit)) = two_words(rest) else {
+        return Err(Refusal::Arguments);
+    };
+    if is_name(node) {
+        Ok(Command::Cat {
+            node: Word::new(node),
+            unit: Word::new(unit),
+        })
+    } else {
+        Err(Refusal::Arguments)
+    }
+}
+
+fn same(rest: &[u8]) -> Result<Command<'_>, Refusal>
+    ensures command { result ≡ same_of (words_of rest.now) }
+{
+    let Some((left, right)) = two_words(rest) else {
+        return Err(Refusal::Arguments);
+    };
+    if is_name(left) && is_name(right) {
+        Ok(Command::Same {
+            left: Word::new(left),
+            right: Word::new(right),
+        })
+    } else {
+        Err(Refusal::Arguments)
+    }
+}

@@ -1,0 +1,4 @@
+pub mod Lawful
+pub mod LawfulLaws
+pub mod NodeLaws
+pub mod Worlds
