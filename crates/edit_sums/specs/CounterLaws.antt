@@ -6,13 +6,14 @@ use Rattle.std.specs.declared.cmp.Ordering.TheVariants.{Less, Equal, Greater}
 use Rattle.std.specs.Ordering.{nat_cmp, ordering_then, is_gt}
 use Rattle.std.proofs.lemmas.Bool.Decides.{nat_tests}
 use Rattle.std.specs.FinMap as finmap
+use Rattle.list_laws.specs.Members.{IsAmong}
 use Rattle.load_path.specs.Paths.{PathParts}
 use Rattle.edit_sums.specs.declared.entries.Entry.{Entry}
 use Rattle.edit_sums.specs.declared.entries.Edit.{Edit}
 use Rattle.edit_sums.specs.Entries.{IsBelow}
 use Rattle.edit_sums.specs.GreatestLaws.{get_from_edits_of}
 use Rattle.edit_sums.specs.SumLaws.{sum_of-IsSum, sum_of-edits_of}
-use Rattle.edit_sums.specs.Sums.{EntryMap, entry_of, edit_of, edits_of, IsAmong, sum_of, join, greatest_counter, high_of, high_among}
+use Rattle.edit_sums.specs.Sums.{EntryMap, entry_of, edit_of, edits_of, sum_of, join, greatest_counter, high_of, high_among}
 
 high_among-append : (xs ys : List Edit) → high_among (xs ++ ys) ≡ max (high_among xs) (high_among ys)
 high_among-append [] ys = omega arith

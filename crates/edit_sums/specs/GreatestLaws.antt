@@ -8,12 +8,13 @@ use Rattle.std.specs.FinMap as finmap
 use Rattle.std.specs.FinMap.{find, is_sorted}
 use Rattle.std.specs.FinMap.Entries.{below_all}
 use Rattle.std.specs.Cmp.{tied_itself}
+use Rattle.list_laws.specs.Members.{IsAmong}
 use Rattle.load_path.specs.Paths.{PathParts, path_cmp}
 use Rattle.load_path.specs.PathLaws.{path_cmp_total, path_cmp-IsAntisymmetric}
 use Rattle.edit_sums.specs.declared.entries.Entry.{Entry}
 use Rattle.edit_sums.specs.declared.entries.Edit.{Edit}
 use Rattle.edit_sums.specs.Entries.{entry_cmp, IsBelow, larger}
-use Rattle.edit_sums.specs.Sums.{EntryMap, entry_of, edit_of, IsAmong, greatest_at, with_edit, sum_of, edits_of, join}
+use Rattle.edit_sums.specs.Sums.{EntryMap, entry_of, edit_of, greatest_at, with_edit, sum_of, edits_of, join}
 use Rattle.edit_sums.specs.EntryLaws.{larger_assoc, larger-left, larger-right, larger-least, larger_cases, below_trans}
 use Rattle.list_laws.specs.Truths.{T-both}
 
@@ -183,20 +184,6 @@ passed_was p q (Some y) x h =
     elim (p (edit_of (q, y))) as (λ b. cond b (Some y) None ≡ Some x → Some y ≡ Some x) [ true ↦ λ k. k | false ↦ λ k. cc ] h
 
 -- membership
-
-pub IsAmong-append_cases : (e : Edit) (xs ys : List Edit) → IsAmong e (xs ++ ys) → IsAmong e xs ⊎ IsAmong e ys
-IsAmong-append_cases e [] ys h = inr h
-IsAmong-append_cases e (x ∷ xs) ys (inl h) = inl (inl h)
-IsAmong-append_cases e (x ∷ xs) ys (inr h) = elim (IsAmong-append_cases e xs ys h) [ inl a ↦ inl (inr a) | inr b ↦ inr b ]
-
-pub IsAmong-append_left : (e : Edit) (xs ys : List Edit) → IsAmong e xs → IsAmong e (xs ++ ys)
-IsAmong-append_left e [] ys h = absurd h
-IsAmong-append_left e (x ∷ xs) ys (inl h) = inl h
-IsAmong-append_left e (x ∷ xs) ys (inr h) = inr (IsAmong-append_left e xs ys h)
-
-pub IsAmong-append_right : (e : Edit) (xs ys : List Edit) → IsAmong e ys → IsAmong e (xs ++ ys)
-IsAmong-append_right e [] ys h = h
-IsAmong-append_right e (x ∷ xs) ys h = inr (IsAmong-append_right e xs ys h)
 
 pub IsAmong_from_filter : (p : Edit → Bool) (e : Edit) (xs : List Edit) → IsAmong e (filter p xs) → IsAmong e xs
 IsAmong_from_filter p e [] h = absurd h

@@ -3,11 +3,12 @@ use Rattle.std.proofs.Common.{◌≡◌, true, false, cond, Some, None, List, []
 use Rattle.std.specs.FinMap as finmap
 use Rattle.std.specs.Ordering.{eq_by_cmp}
 use Rattle.std.specs.FinMap.{same_map}
+use Rattle.list_laws.specs.Members.{IsAmong}
 use Rattle.load_path.specs.Paths.{PathParts, path_cmp}
 use Rattle.load_path.specs.PathLaws.{path_cmp_total, path_cmp-IsAntisymmetric}
 use Rattle.edit_sums.specs.declared.entries.Edit.{Edit}
 use Rattle.edit_sums.specs.Entries.{IsBelow, larger}
-use Rattle.edit_sums.specs.Sums.{EntryMap, entry_of, IsAmong, greatest_at, with_edit, sum_of, edits_of, join, IsStoreBelow, IsSum}
+use Rattle.edit_sums.specs.Sums.{EntryMap, entry_of, greatest_at, with_edit, sum_of, edits_of, join, IsStoreBelow, IsSum}
 use Rattle.edit_sums.specs.EntryLaws.{larger_assoc, larger_comm, larger_idem, larger-None, larger-left, larger-right, larger-least, below_refl, below_trans, below_antisym}
 use Rattle.edit_sums.specs.GreatestLaws.{get-with_edit, get-sum_of, get-join, greatest_at-append, greatest_at-edits_of, greatest_at-mono, greatest_at-above, greatest_at-found}
 

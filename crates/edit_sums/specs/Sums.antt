@@ -4,6 +4,7 @@ use Rattle.std.specs.Option.{option_and_then}
 use Rattle.std.specs.Ordering.{eq_by_cmp, is_eq}
 use Rattle.std.specs.FinMap as finmap
 use Rattle.std.specs.FinMap.{FinMap}
+use Rattle.list_laws.specs.Members.{IsAmong}
 use Rattle.load_path.specs.Paths.{PathParts, path_cmp}
 use Rattle.edit_sums.specs.declared.contents.Content.{Content}
 use Rattle.edit_sums.specs.declared.contents.Content.TheVariants.{Gone, Link, File}
@@ -20,11 +21,6 @@ entry_of e = record { version = e.version; content = e.content }
 
 abbrev pub edit_of : PathParts × Entry → Edit
 edit_of p = record { path = p.0; version = p.1.version; content = p.1.content }
-
--- e is one of these edits
-abbrev pub IsAmong : Edit → List Edit → Type 0
-IsAmong e [] = ⊥
-IsAmong e (f ∷ fs) = (f ≡ e) ⊎ IsAmong e fs
 
 -- no version stands for two edits
 abbrev pub IsHonest : List Edit → Type 0

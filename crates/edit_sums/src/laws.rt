@@ -1,7 +1,8 @@
 //! Laws of sums and joins, for all lists of edits and all stores.
 ghost use Rattle.std.specs.Prelude.{◌≡◌, List, max};
+ghost use Rattle.list_laws.specs.Members.{IsAmong};
 ghost use Rattle.edit_sums.specs.declared.entries.Edit.{Edit};
-ghost use Rattle.edit_sums.specs.Sums.{EntryMap, IsSum, IsAmong, IsStoreBelow, sum_of, join, high_of, high_among};
+ghost use Rattle.edit_sums.specs.Sums.{EntryMap, IsSum, IsStoreBelow, sum_of, join, high_of, high_among};
 
 /// The sum of edits holds at each path the greatest of the edits there, and nothing else; it
 /// depends on which edits there are, and not on their order or number.

@@ -1,7 +1,8 @@
 -- Lawful worlds: in them no version stands for two edits.
 use Rattle.std.specs.Prelude.{◌≡◌, ℕ, ◌<◌, ◌≤◌, List, length}
+use Rattle.list_laws.specs.Members.{IsAmong}
 use Rattle.edit_sums.specs.declared.entries.Edit.{Edit}
-use Rattle.edit_sums.specs.Sums.{IsAmong, IsHonest, high_of}
+use Rattle.edit_sums.specs.Sums.{IsHonest, high_of}
 use Rattle.world_law.specs.Worlds.{puts_of, AreWithin}
 use Rattle.script_worlds.specs.Worlds.{World, held, writer_at}
 

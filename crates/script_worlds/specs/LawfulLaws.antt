@@ -6,8 +6,8 @@ use Rattle.std.proofs.lemmas.Bool.{true≢false, eq-eqb, eqb-true}
 use Rattle.load_path.specs.Paths.{PathParts}
 use Rattle.edit_sums.specs.declared.contents.Content.{Content}
 use Rattle.edit_sums.specs.declared.entries.Edit.{Edit}
-use Rattle.edit_sums.specs.Sums.{EntryMap, IsAmong, sum_of, with_edit, join, high_of, high_among}
-use Rattle.edit_sums.specs.GreatestLaws.{IsAmong-append_right}
+use Rattle.edit_sums.specs.Sums.{EntryMap, sum_of, with_edit, join, high_of, high_among}
+use Rattle.list_laws.specs.Members.{IsAmong, IsAmong-append_right}
 use Rattle.edit_sums.specs.SumLaws.{sum_of-push}
 use Rattle.edit_sums.specs.CounterLaws.{high_of-sum_of, counter_among, high_among-least}
 use Rattle.world_law.specs.declared.events.Event.{Event}

@@ -1,8 +1,9 @@
 -- The theorem on whole runs.
 use Rattle.std.proofs.Common.{◌≡◌, ℕ, true, false, cond, Option, Some, None, List, [], ◌∷◌, ◌++◌, refl, sym, ◌∙◌, inl, inr}
 use Rattle.std.specs.Prelude.{slice_get, nat_lt, IfSome}
+use Rattle.list_laws.specs.Members.{IsAmong}
 use Rattle.edit_sums.specs.declared.entries.Edit.{Edit}
-use Rattle.edit_sums.specs.Sums.{IsAmong, IsHonest}
+use Rattle.edit_sums.specs.Sums.{IsHonest}
 use Rattle.edit_sums.specs.SumLaws.{sum_of-same_edits}
 use Rattle.world_law.specs.declared.events.Event.{Event}
 use Rattle.world_law.specs.declared.events.Event.TheVariants.{Put, Ask, Cut, Give}

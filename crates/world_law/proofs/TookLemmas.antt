@@ -5,14 +5,15 @@ use borrow.Author.Tests.{eqb-true, eq-eqb}
 use Rattle.std.proofs.lemmas.Grind.{reverse_onto}
 use Rattle.std.proofs.lemmas.List.{append-nil}
 use Rattle.std.specs.FinMap as finmap
+use Rattle.list_laws.specs.Members.{IsAmong, IsAmong-append_cases, IsAmong-append_left, IsAmong-append_right}
 use Rattle.edit_sums.specs.declared.entries.Entry.{Entry}
 use Rattle.edit_sums.specs.declared.entries.Edit.{Edit}
 use Rattle.edit_sums.specs.Entries.{IsBelow}
 use Rattle.world_law.proofs.Theorem.{each_store_is_its_sum, IfSome_from}
 use Rattle.load_path.specs.Paths.{PathParts}
-use Rattle.edit_sums.specs.Sums.{EntryMap, IsAmong, edits_of, entry_of, edit_of, sum_of}
+use Rattle.edit_sums.specs.Sums.{EntryMap, edits_of, entry_of, edit_of, sum_of}
 use Rattle.world_law.specs.Cuts.{is_asked, at_paths, cut}
-use Rattle.edit_sums.specs.GreatestLaws.{get-sum_of, greatest_at-above, greatest_at-found, IsAmong-append_cases, IsAmong-append_left, IsAmong-append_right, IsAmong_from_filter}
+use Rattle.edit_sums.specs.GreatestLaws.{get-sum_of, greatest_at-above, greatest_at-found, IsAmong_from_filter}
 use Rattle.world_law.specs.declared.events.Event.{Event}
 use Rattle.world_law.specs.declared.events.Event.TheVariants.{Put, Ask, Cut, Give}
 use Rattle.world_law.specs.Worlds.{Node, Asked, Piece, World, taken, changed_at, asked_by, cut_for, edits_with, given_to, after, blank, took, took_by}

@@ -5,6 +5,7 @@ use Rattle.std.specs.declared.cmp.Ordering.TheVariants.{Less, Equal, Greater}
 use Rattle.std.specs.Ordering.{eq_by_cmp, is_gt, ordering_then}
 use Rattle.std.specs.FinMap as finmap
 use Rattle.std.specs.FinMap.{find}
+use Rattle.list_laws.specs.Members.{IsAmong-append_left, IsAmong-append_right}
 use Rattle.join_law.specs.VersionOrder.{version_cmp}
 use Rattle.join_law.specs.VersionOrderLaws.{version_cmp-IsAntisymmetric}
 use Rattle.load_path.specs.Paths.{PathParts, path_cmp}
@@ -15,7 +16,7 @@ use Rattle.edit_sums.specs.Contents.{content_cmp}
 use Rattle.edit_sums.specs.Entries.{IsBelow, larger}
 use Rattle.edit_sums.specs.EntryLaws.{below_refl, larger-absorb}
 use Rattle.edit_sums.specs.Sums.{EntryMap, entry_of, edit_of, IsHonest, greatest_at, edits_of, join}
-use Rattle.edit_sums.specs.GreatestLaws.{tied, passed, get-sum_of, get-join, greatest_at-filter, IsAmong-append_left, IsAmong-append_right, passed_was}
+use Rattle.edit_sums.specs.GreatestLaws.{tied, passed, get-sum_of, get-join, greatest_at-filter, passed_was}
 use Rattle.edit_sums.specs.SumLaws.{same_store}
 use Rattle.edit_sums.specs.CounterLaws.{edits_of-found}
 use Rattle.world_law.specs.Cuts.{VersionMap, digest_of, is_newer, is_asked, at_paths, is_wanted, cut, only_at}

@@ -6,16 +6,17 @@ use Rattle.std.specs.Option.{option_map}
 use Rattle.std.proofs.lemmas.Option.{slice_get_within}
 use borrow.Author.Tests.{lt-ltb, eqb-true}
 use Rattle.std.specs.FinMap as finmap
+use Rattle.list_laws.specs.Members.{IsAmong, IsAmong-append_cases}
 use Rattle.join_law.specs.declared.versions.Version.{Version}
 use Rattle.edit_sums.specs.declared.entries.Entry.{Entry}
 use Rattle.edit_sums.specs.declared.entries.Edit.{Edit}
 use Rattle.join_law.specs.VersionOrder.{version_cmp}
 use Rattle.edit_sums.specs.Entries.{IsBelow, larger}
 use Rattle.load_path.specs.Paths.{PathParts}
-use Rattle.edit_sums.specs.Sums.{EntryMap, entry_of, edit_of, IsAmong, IsStoreBelow, greatest_at, sum_of, edits_of, join}
+use Rattle.edit_sums.specs.Sums.{EntryMap, entry_of, edit_of, IsStoreBelow, greatest_at, sum_of, edits_of, join}
 use Rattle.world_law.specs.Cuts.{VersionMap, digest_of, cut, is_asked, is_newer, is_wanted, at_paths}
 use Rattle.edit_sums.specs.EntryLaws.{below_refl, below_trans, larger-left, larger-mono, larger-absorb, larger_comm, larger_assoc}
-use Rattle.edit_sums.specs.GreatestLaws.{passed, get-sum_of, get-join, get_from_edits_of, greatest_at-found, greatest_at-append, greatest_at-edits_of, IsAmong-append_cases, IsAmong_from_filter}
+use Rattle.edit_sums.specs.GreatestLaws.{passed, get-sum_of, get-join, get_from_edits_of, greatest_at-found, greatest_at-append, greatest_at-edits_of, IsAmong_from_filter}
 use Rattle.world_law.specs.CutLaws.{get-cut, get-digest_of, get_from_cut, greatest_at-at_paths, not_greater}
 use Rattle.edit_sums.specs.SumLaws.{same_store, sum_of-append, sum_of-edits_of, join-left}
 use Rattle.world_law.specs.declared.events.Event.{Event}

@@ -1,11 +1,12 @@
 -- What a node took, told from the events alone.
 use Rattle.std.specs.Prelude.{◌≡◌, ℕ, ◌<◌, true, Option, Some, List, [], ◌∷◌, ◌++◌, ◌↔◌, length, reverse, slice_get, IsSome, IfSome}
 use Rattle.std.specs.FinMap as finmap
+use Rattle.list_laws.specs.Members.{IsAmong}
 use Rattle.edit_sums.specs.declared.entries.Entry.{Entry}
 use Rattle.edit_sums.specs.declared.entries.Edit.{Edit}
 use Rattle.edit_sums.specs.Entries.{IsBelow}
 use Rattle.load_path.specs.Paths.{PathParts}
-use Rattle.edit_sums.specs.Sums.{EntryMap, IsAmong, IsHonest, edits_of, edit_of, entry_of}
+use Rattle.edit_sums.specs.Sums.{EntryMap, IsHonest, edits_of, edit_of, entry_of}
 use Rattle.world_law.specs.Cuts.{is_asked}
 use Rattle.world_law.specs.declared.events.Event.{Event}
 use Rattle.world_law.specs.declared.events.Event.TheVariants.{Put, Cut, Give}

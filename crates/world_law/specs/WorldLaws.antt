@@ -4,10 +4,11 @@ use Rattle.std.specs.Prelude.{slice_get, replicate, nat_lt}
 use Rattle.std.proofs.lemmas.Bool.{cond-true}
 use Rattle.std.proofs.lemmas.Bool.Decides.{nat_tests}
 use Rattle.std.specs.FinMap as finmap
+use Rattle.list_laws.specs.Members.{IsAmong, IsAmong-append_cases, IsAmong-append_left}
 use Rattle.load_path.specs.Paths.{PathParts}
 use Rattle.edit_sums.specs.declared.entries.Edit.{Edit}
-use Rattle.edit_sums.specs.Sums.{EntryMap, IsAmong, IsHonest, entry_of, sum_of, edits_of, join}
-use Rattle.edit_sums.specs.GreatestLaws.{get_from_edits_of, IsAmong-append_cases, IsAmong-append_left}
+use Rattle.edit_sums.specs.Sums.{EntryMap, IsHonest, entry_of, sum_of, edits_of, join}
+use Rattle.edit_sums.specs.GreatestLaws.{get_from_edits_of}
 use Rattle.edit_sums.specs.SumLaws.{sum_of-IsSum}
 use Rattle.world_law.specs.CutLaws.{whole_answer}
 use Rattle.world_law.specs.declared.events.Event.{Event}

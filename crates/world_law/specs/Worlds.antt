@@ -1,9 +1,10 @@
 -- Worlds of nodes that put, ask, cut and give.
 use Rattle.std.specs.Prelude.{◌≡◌, ◌<◌, ℕ, zero, suc, if◌then◌else◌, ◌==◌, nat_lt, Option, Some, None, IfSome, List, [], ◌∷◌, ◌++◌, slice_get, replicate}
 use Rattle.std.specs.FinMap as finmap
+use Rattle.list_laws.specs.Members.{IsAmong}
 use Rattle.edit_sums.specs.declared.entries.Edit.{Edit}
 use Rattle.load_path.specs.Paths.{PathParts}
-use Rattle.edit_sums.specs.Sums.{EntryMap, IsAmong, IsHonest, sum_of, edits_of, join}
+use Rattle.edit_sums.specs.Sums.{EntryMap, IsHonest, sum_of, edits_of, join}
 use Rattle.world_law.specs.Cuts.{VersionMap, digest_of, cut, at_paths}
 use Rattle.world_law.specs.declared.events.Event.{Event}
 use Rattle.world_law.specs.declared.events.Event.TheVariants.{Put, Ask, Cut, Give}
