@@ -170,7 +170,7 @@ module _ (old : World) where
       (λ outcome new. MatchBool (has_writer old.nodes writer) (Refuses old WriterTaken outcome new) (Gives (codes "ok\n") (with_node old name writer) outcome new))
       (λ k outcome new. Refuses old NodeTaken outcome new)
       (λ none. with_bool (has_writer old.nodes writer) (λ outcome new. Refuses old WriterTaken outcome new) (λ outcome new. Gives (codes "ok\n") (with_node old name writer) outcome new)
-          (λ taken. refuses WriterTaken) (λ free. gives (codes "ok\n") (with_node old name writer) (λ l. lawful_with_node old name writer l free)))
+      (λ taken. refuses WriterTaken) (λ free. gives (codes "ok\n") (with_node old name writer) (λ l. lawful_with_node old name writer l free)))
       (λ k is. refuses NodeTaken)
   does (Put node text file) =
       at_node node (λ k outcome new. AtPath old outcome new text (λ at. WithText old outcome new file (λ bytes. WithFile old outcome new bytes (Writes old outcome new k at))))
@@ -185,7 +185,7 @@ module _ (old : World) where
       at_node node (λ k outcome new. AtPath old outcome new text (λ at. MatchOption (visible_at (held old k) at) (Refuses old Nothing outcome new) (λ shown. Writes old outcome new k at content.Gone)))
       (λ k lt. at_path text (λ at outcome new. MatchOption (visible_at (held old k) at) (Refuses old Nothing outcome new) (λ shown. Writes old outcome new k at content.Gone))
       (λ at. with_option (visible_at (held old k) at) (λ outcome new. Refuses old Nothing outcome new) (λ shown outcome new. Writes old outcome new k at content.Gone)
-          (λ none. refuses Nothing) (λ shown is. writes k at content.Gone lt)))
+      (λ none. refuses Nothing) (λ shown is. writes k at content.Gone lt)))
   does (Merge from to) =
       let G : ℕ → ℕ → Outcome → World → Type 0 = λ j k outcome new. Gives (changed_line (changed_paths (held old k) (held (merged old j k) k))) (merged old j k) outcome new in
       at_node from (λ j outcome new. AtNode old outcome new to (λ k. G j k outcome new))
