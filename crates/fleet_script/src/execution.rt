@@ -152,10 +152,11 @@ impl Shell {
 
 impl Shell {
     // Does what a line asks for.
-    fn execute(&mut self, alloc: Global, line: &[u8]) -> Result<Vec<u8>, Fault>
+    fn execute<R: AllocGlobal>(&mut self, rt: &R, line: &[u8]) -> Result<Vec<u8>, Fault>
         ensures done { Goes (kept_in self.old) (kept_in self.new) (λ before outcome after.
             MatchResult (command_of line.now) (λ command. Does before command outcome after) (λ refusal. Refuses before refusal outcome after)) result }
     {
+        let alloc = rt.alloc();
         match parse(line)? {
             Command::Node { name, writer } => self.node(alloc, name.as_slice(), writer),
             Command::Put { node, path, text } => self.put(
@@ -193,17 +194,18 @@ impl Shell {
     }
 
     /// The answer to a line.
-    pub fn answer_line(&mut self, alloc: Global, line: &[u8]) -> Result<Vec<u8>, AllocError>
+    pub fn answer_line<R: AllocGlobal>(&mut self, rt: &R, line: &[u8]) -> Result<Vec<u8>, AllocError>
         ensures answered { IfOk result (λ answer. Continues (kept_in self.old) (kept_in self.new)
             (λ old new. AnswersLine old line.now answer.items new)) }
     {
+        let alloc = rt.alloc();
         if line.len() > LINE_LIMIT {
             return refused(alloc, Refusal::LineTooLong);
         }
         if is_passed_over(line) {
             return Ok(Vec::new(alloc));
         }
-        match self.execute(alloc, line) {
+        match self.execute(rt, line) {
             Ok(text) => Ok(text),
             Err(Fault::Refused(refusal)) => refused(alloc, refusal),
             Err(Fault::Memory) => Err(AllocError),

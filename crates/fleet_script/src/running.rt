@@ -8,7 +8,6 @@ ghost use Rattle.fleet_script.specs.Scripts.{Answers, AnswersFront};
 use crate::states::Shell;
 use script_pipes::{MAX_SCRIPT_BYTES, ReadFault, Sink, Source, WriteFault, read_all, write_all};
 use script_words::cut_line;
-use std::alloc::Global;
 use thiserror::Error;
 
 /// How many bytes of answers are gathered before they are written.
@@ -50,7 +49,11 @@ fn give_up<K: Sink>(writer: &mut K, pending: &[u8]) -> Result<(), ShellFault>
 }
 
 // Writes the answers to a script, gathered in large pieces.
-fn answer_all<K: Sink>(alloc: Global, script: &[u8], writer: &mut K) -> Result<(), ShellFault>
+fn answer_all<R: AllocGlobal, K: Sink>(
+    rt: &R,
+    script: &[u8],
+    writer: &mut K,
+) -> Result<(), ShellFault>
     ensures ok { OnOk result ((written : List ℕ) × Answers script.now written
         × Appends (K.contents writer.old) (K.contents writer.new) written) }
     ensures front { OnErr result ((written : List ℕ) × AnswersFront script.now written
@@ -58,12 +61,12 @@ fn answer_all<K: Sink>(alloc: Global, script: &[u8], writer: &mut K) -> Result<(
     ensures write { IsErrOf result ShellFault.Write → FailedSince (K.refusals writer.old) (K.refusals writer.new) }
     ensures read { IsErrOf result ShellFault.Read → ⊥ }
 {
-    let mut shell = Shell::new(alloc);
-    let mut pending = Vec::new(alloc);
+    let mut shell = Shell::new(rt.alloc());
+    let mut pending = Vec::new(rt.alloc());
     let mut rest = script;
     while !rest.is_empty() {
         let (line, later) = cut_line(rest);
-        let Ok(answer) = shell.answer_line(alloc, line) else {
+        let Ok(answer) = shell.answer_line(rt, line) else {
             return give_up(writer, &pending);
         };
         if pending.extend_from_slice(&answer).is_err() {
@@ -103,9 +106,8 @@ pub fn run<R: AllocGlobal, S: Source, K: Sink>(
         × AnswersFront script written × Appends (K.contents writer.old) (K.contents writer.new) written) }
     ensures write { IsErrOf result ShellFault.Write → FailedSince (K.refusals writer.old) (K.refusals writer.new) }
 {
-    let alloc = rt.alloc();
-    match read_all(alloc, reader) {
-        Ok(script) => answer_all(alloc, &script, writer),
+    match read_all(rt.alloc(), reader) {
+        Ok(script) => answer_all(rt, &script, writer),
         Err(ReadFault::Failed) => Err(ShellFault::Read),
         Err(ReadFault::Memory) => Err(ShellFault::Memory),
     }

@@ -5,34 +5,34 @@ use Rattle.script_commands.specs.declared.commands.Command.TheVariants.{Node, Pu
 use Rattle.fleet_script.proofs.states.Shell.execute.Goals as goal
 
 pub returns-in-Node : goal.returns-in-Node
-returns-in-Node c = record { done = executed (kept_in c.args.self.now) (kept_in c.node.new.self) c.args.line.now (Node c.in-Node.name c.in-Node.writer) c.node.result (ap Ok (sym c.in-Node.is) ∙ c.in_ok-name.ensures.command) (rw c.as_slice.ensures.bytes at c.node.ensures.done) }
+returns-in-Node g c = record { done = executed (kept_in c.args.self.now) (kept_in c.node.new.self) c.args.line.now (Node c.in-Node.name c.in-Node.writer) c.node.result (ap Ok (sym c.in-Node.is) ∙ c.in_ok-name.ensures.command) (rw c.as_slice.ensures.bytes at c.node.ensures.done) }
 
 pub returns-in-Put : goal.returns-in-Put
-returns-in-Put c = record { done = executed (kept_in c.args.self.now) (kept_in c.put.new.self) c.args.line.now (Put c.in-Put.node c.in-Put.path c.in-Put.text) c.put.result (ap Ok (sym c.in-Put.is) ∙ c.in_ok-name.ensures.command) (rw c.as_slice-in-Put-3.ensures.bytes at (rw c.as_slice-in-Put-2.ensures.bytes at (rw c.as_slice-in-Put.ensures.bytes at c.put.ensures.done))) }
+returns-in-Put g c = record { done = executed (kept_in c.args.self.now) (kept_in c.put.new.self) c.args.line.now (Put c.in-Put.node c.in-Put.path c.in-Put.text) c.put.result (ap Ok (sym c.in-Put.is) ∙ c.in_ok-name.ensures.command) (rw c.as_slice-in-Put-3.ensures.bytes at (rw c.as_slice-in-Put-2.ensures.bytes at (rw c.as_slice-in-Put.ensures.bytes at c.put.ensures.done))) }
 
 pub returns-in-Remove : goal.returns-in-Remove
-returns-in-Remove c = record { done = executed (kept_in c.args.self.now) (kept_in c.remove.new.self) c.args.line.now (Remove c.in-Remove.node c.in-Remove.path) c.remove.result (ap Ok (sym c.in-Remove.is) ∙ c.in_ok-name.ensures.command) (rw c.as_slice-in-Remove-2.ensures.bytes at (rw c.as_slice-in-Remove.ensures.bytes at c.remove.ensures.done)) }
+returns-in-Remove g c = record { done = executed (kept_in c.args.self.now) (kept_in c.remove.new.self) c.args.line.now (Remove c.in-Remove.node c.in-Remove.path) c.remove.result (ap Ok (sym c.in-Remove.is) ∙ c.in_ok-name.ensures.command) (rw c.as_slice-in-Remove-2.ensures.bytes at (rw c.as_slice-in-Remove.ensures.bytes at c.remove.ensures.done)) }
 
 pub returns-in-Merge : goal.returns-in-Merge
-returns-in-Merge c = record { done = executed (kept_in c.args.self.now) (kept_in c.merge.new.self) c.args.line.now (Merge c.in-Merge.from c.in-Merge.to) c.merge.result (ap Ok (sym c.in-Merge.is) ∙ c.in_ok-name.ensures.command) (rw c.as_slice-in-Merge-2.ensures.bytes at (rw c.as_slice-in-Merge.ensures.bytes at c.merge.ensures.done)) }
+returns-in-Merge g c = record { done = executed (kept_in c.args.self.now) (kept_in c.merge.new.self) c.args.line.now (Merge c.in-Merge.from c.in-Merge.to) c.merge.result (ap Ok (sym c.in-Merge.is) ∙ c.in_ok-name.ensures.command) (rw c.as_slice-in-Merge-2.ensures.bytes at (rw c.as_slice-in-Merge.ensures.bytes at c.merge.ensures.done)) }
 
 pub returns-in-Files : goal.returns-in-Files
-returns-in-Files c = record { done = executed (kept_in c.args.self.now) (kept_in c.files.new.self) c.args.line.now (Files c.in-Files.node) c.files.result (ap Ok (sym c.in-Files.is) ∙ c.in_ok-name.ensures.command) (rw c.as_slice-in-Files.ensures.bytes at c.files.ensures.done) }
+returns-in-Files g c = record { done = executed (kept_in c.args.self.now) (kept_in c.files.new.self) c.args.line.now (Files c.in-Files.node) c.files.result (ap Ok (sym c.in-Files.is) ∙ c.in_ok-name.ensures.command) (rw c.as_slice-in-Files.ensures.bytes at c.files.ensures.done) }
 
 pub returns-in-Same : goal.returns-in-Same
-returns-in-Same c = record { done = executed (kept_in c.args.self.now) (kept_in c.same.new.self) c.args.line.now (Same c.in-Same.left c.in-Same.right) c.same.result (ap Ok (sym c.in-Same.is) ∙ c.in_ok-name.ensures.command) (rw c.as_slice-in-Same-2.ensures.bytes at (rw c.as_slice-in-Same.ensures.bytes at c.same.ensures.done)) }
+returns-in-Same g c = record { done = executed (kept_in c.args.self.now) (kept_in c.same.new.self) c.args.line.now (Same c.in-Same.left c.in-Same.right) c.same.result (ap Ok (sym c.in-Same.is) ∙ c.in_ok-name.ensures.command) (rw c.as_slice-in-Same-2.ensures.bytes at (rw c.as_slice-in-Same.ensures.bytes at c.same.ensures.done)) }
 
 pub returns-in-Link : goal.returns-in-Link
-returns-in-Link c = record { done = executed (kept_in c.args.self.now) (kept_in c.link.new.self) c.args.line.now (Link c.in-Link.node c.in-Link.path c.in-Link.target) c.link.result (ap Ok (sym c.in-Link.is) ∙ c.in_ok-name.ensures.command) (rw c.as_slice-in-Link-3.ensures.bytes at (rw c.as_slice-in-Link-2.ensures.bytes at (rw c.as_slice-in-Link.ensures.bytes at c.link.ensures.done))) }
+returns-in-Link g c = record { done = executed (kept_in c.args.self.now) (kept_in c.link.new.self) c.args.line.now (Link c.in-Link.node c.in-Link.path c.in-Link.target) c.link.result (ap Ok (sym c.in-Link.is) ∙ c.in_ok-name.ensures.command) (rw c.as_slice-in-Link-3.ensures.bytes at (rw c.as_slice-in-Link-2.ensures.bytes at (rw c.as_slice-in-Link.ensures.bytes at c.link.ensures.done))) }
 
 pub returns-in-Part : goal.returns-in-Part
-returns-in-Part c = record { done = executed (kept_in c.args.self.now) (kept_in c.part.new.self) c.args.line.now (Part c.in-Part.piece c.in-Part.from c.in-Part.to c.in-Part.paths) c.part.result (ap Ok (sym c.in-Part.is) ∙ c.in_ok-name.ensures.command) (rw c.as_slice-in-Part-3.ensures.bytes at (rw c.as_slice-in-Part-2.ensures.bytes at (rw c.as_slice-in-Part.ensures.bytes at c.part.ensures.done))) }
+returns-in-Part g c = record { done = executed (kept_in c.args.self.now) (kept_in c.part.new.self) c.args.line.now (Part c.in-Part.piece c.in-Part.from c.in-Part.to c.in-Part.paths) c.part.result (ap Ok (sym c.in-Part.is) ∙ c.in_ok-name.ensures.command) (rw c.as_slice-in-Part-3.ensures.bytes at (rw c.as_slice-in-Part-2.ensures.bytes at (rw c.as_slice-in-Part.ensures.bytes at c.part.ensures.done))) }
 
 pub returns-in-Send : goal.returns-in-Send
-returns-in-Send c = record { done = executed (kept_in c.args.self.now) (kept_in c.send.new.self) c.args.line.now (Send c.in-Send.piece c.in-Send.node) c.send.result (ap Ok (sym c.in-Send.is) ∙ c.in_ok-name.ensures.command) (rw c.as_slice-in-Send-2.ensures.bytes at (rw c.as_slice-in-Send.ensures.bytes at c.send.ensures.done)) }
+returns-in-Send g c = record { done = executed (kept_in c.args.self.now) (kept_in c.send.new.self) c.args.line.now (Send c.in-Send.piece c.in-Send.node) c.send.result (ap Ok (sym c.in-Send.is) ∙ c.in_ok-name.ensures.command) (rw c.as_slice-in-Send-2.ensures.bytes at (rw c.as_slice-in-Send.ensures.bytes at c.send.ensures.done)) }
 
 pub returns-in-Sweep : goal.returns-in-Sweep
-returns-in-Sweep c = record { done = executed (kept_in c.args.self.now) (kept_in c.sweep.new.self) c.args.line.now Sweep c.sweep.result (ap Ok (sym c.in-Sweep.is) ∙ c.in_ok-name.ensures.command) c.sweep.ensures.done }
+returns-in-Sweep g c = record { done = executed (kept_in c.args.self.now) (kept_in c.sweep.new.self) c.args.line.now Sweep c.sweep.result (ap Ok (sym c.in-Sweep.is) ∙ c.in_ok-name.ensures.command) c.sweep.ensures.done }
 
 pub returns-in-Cat : goal.returns-in-Cat
-returns-in-Cat c = record { done = executed (kept_in c.args.self.now) (kept_in c.cat.new.self) c.args.line.now (Cat c.in-Cat.node c.in-Cat.unit) c.cat.result (ap Ok (sym c.in-Cat.is) ∙ c.in_ok-name.ensures.command) (rw c.as_slice-in-Cat-2.ensures.bytes at (rw c.as_slice-in-Cat.ensures.bytes at c.cat.ensures.done)) }
+returns-in-Cat g c = record { done = executed (kept_in c.args.self.now) (kept_in c.cat.new.self) c.args.line.now (Cat c.in-Cat.node c.in-Cat.unit) c.cat.result (ap Ok (sym c.in-Cat.is) ∙ c.in_ok-name.ensures.command) (rw c.as_slice-in-Cat-2.ensures.bytes at (rw c.as_slice-in-Cat.ensures.bytes at c.cat.ensures.done)) }
