@@ -194,7 +194,11 @@ impl Shell {
     }
 
     /// The answer to a line.
-    pub fn answer_line<R: AllocGlobal>(&mut self, rt: &R, line: &[u8]) -> Result<Vec<u8>, AllocError>
+    pub fn answer_line<R: AllocGlobal>(
+        &mut self,
+        rt: &R,
+        line: &[u8],
+    ) -> Result<Vec<u8>, AllocError>
         ensures answered { IfOk result (λ answer. Continues (kept_in self.old) (kept_in self.new)
             (λ old new. AnswersLine old line.now answer.items new)) }
     {

@@ -1,8 +1,9 @@
 //! A script is read, and its answers are written.
-ghost use Rattle.std.specs.Prelude.{◌≡◌, ◌⊎◌, ◌≤◌, length, ℕ, List, Err, OnOk, OnErr, IsErrOf};
-ghost use Rattle.std.specs.Io.KnownBytes.{Keeps, Appends};
+ghost use Rattle.std.specs.Prelude.{◌≡◌, ℕ, List, Err, OnOk, OnErr, IsErrOf};
+ghost use Rattle.std.specs.Io.KnownBytes.{Appends};
 ghost use Rattle.script_pipes.specs.Failures.{FailedSince};
-ghost use Rattle.script_pipes.specs.KnownBytes.{AppendsFront, AreAll, IsOver};
+ghost use Rattle.script_pipes.specs.KnownBytes.{AppendsFront};
+ghost use Rattle.fleet_script.specs.Ends.{IsAnswered, IsFronted, IsUnread};
 ghost use Rattle.fleet_script.specs.Scripts.{Answers, AnswersFront};
 
 use crate::states::Shell;
@@ -92,18 +93,15 @@ pub fn run<R: AllocGlobal, S: Source, K: Sink>(
     reader: &mut S,
     writer: &mut K,
 ) -> Result<(), ShellFault>
-    // What is written is the answers to the whole script.
-    ensures ok { OnOk result ((script : List ℕ) × (written : List ℕ) × AreAll (S.remaining reader.old) script × (length script ≤ MAX_SCRIPT_BYTES)
-        × Answers script written × Appends (K.contents writer.old) (K.contents writer.new) written) }
+    // The answers to the whole script are written.
+    ensures ok { OnOk result (IsAnswered MAX_SCRIPT_BYTES (S.remaining reader.old) (K.contents writer.old) (K.contents writer.new)) }
 
     // Nothing is written where the script was not read, and then a read failed or it is too long.
-    ensures read_writes_nothing { IsErrOf result ShellFault.Read → Keeps (K.contents writer.old) (K.contents writer.new) }
-    ensures read { IsErrOf result ShellFault.Read →
-        FailedSince (S.failures reader.old) (S.failures reader.new) ⊎ IsOver MAX_SCRIPT_BYTES (S.remaining reader.old) }
+    ensures read { IsErrOf result ShellFault.Read → IsUnread MAX_SCRIPT_BYTES (S.remaining reader.old)
+        (S.failures reader.old) (S.failures reader.new) (K.contents writer.old) (K.contents writer.new) }
 
     // On every fault a front of the answers is written.
-    ensures front { OnErr result ((script : List ℕ) × (written : List ℕ) × AreAll (S.remaining reader.old) script
-        × AnswersFront script written × Appends (K.contents writer.old) (K.contents writer.new) written) }
+    ensures front { OnErr result (IsFronted (S.remaining reader.old) (K.contents writer.old) (K.contents writer.new)) }
     ensures write { IsErrOf result ShellFault.Write → FailedSince (K.refusals writer.old) (K.refusals writer.new) }
 {
     match read_all(rt.alloc(), reader) {

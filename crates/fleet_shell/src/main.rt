@@ -6,7 +6,7 @@
 
 ghost use Rattle.std.specs.Prelude.{◌≡◌, ◌⊎◌, ◌≤◌};
 ghost use Rattle.std.specs.Process.{exit_status};
-ghost use Rattle.fleet_shell.specs.Ends.{IsAnswered, IsFronted, IsUnread, IsUnwritten};
+ghost use Rattle.fleet_script.specs.Ends.{IsAnswered, IsFronted, IsUnread, IsUnwritten};
 ghost use Rattle.fleet_shell.specs.Status.{status_of};
 
 use fleet_script::ShellFault;
