@@ -1,5 +1,5 @@
 -- Laws of whole scripts: one list of answers, and lawful worlds.
-use Rattle.std.proofs.Common.{◌≡◌, ℕ, Bool, true, false, Result, Ok, Err, List, [], ◌∷◌, ◌++◌, length, nat_lt, sym, ap, subst, ◌∙◌}
+use Rattle.std.proofs.Common.{◌≡◌, ℕ, zero, suc, Bool, true, false, Result, Ok, Err, List, [], ◌∷◌, ◌++◌, length, take, nat_lt, refl, sym, ap, subst, ◌∙◌, append_assoc}
 use Rattle.std.specs.Prelude.{MatchResult}
 use Rattle.std.specs.Bool.{MatchBool}
 use Rattle.script_words.specs.Lines.{lines_of, is_passed_over}
@@ -12,6 +12,7 @@ use Rattle.script_answers.specs.Texts.{error_line, outcome_text}
 use Rattle.script_worlds.specs.Worlds.{World, blank}
 use Rattle.script_worlds.specs.Lawful.{IsLawful}
 use Rattle.fleet_script.specs.Does.{Does, Refuses}
+use Rattle.fleet_script.specs.ScriptLaws.{FrontsAreOfTheWhole}
 use Rattle.fleet_script.specs.Scripts.{Answers, AnswersCommand, AnswersLine, Run, Says}
 use Rattle.fleet_script.proofs.StepKinds.{IsStep, does, refuses}
 
@@ -59,6 +60,29 @@ run_same old (line ∷ lines) a b x y p q =
 
 pub one : (script first second : List ℕ) → Answers script first → Answers script second → first ≡ second
 one script first second p q = (run_same blank (lines_of script) first second p.0 q.0 p.1 q.1).0
+
+-- a run of all lines begins with the run of the first of them
+front_of_run : (k : ℕ) (lines : List (List ℕ)) (old : World) (a b : List ℕ) (x y : World) → Run old (take k lines) a x → Run old lines b y → (rest : List ℕ) × (b ≡ a ++ rest)
+front_of_run zero [] old a b x y p q = (b, ap (λ v. v ++ b) (sym p.0))
+front_of_run zero (line ∷ lines) old a b x y p q = (b, ap (λ v. v ++ b) (sym p.0))
+front_of_run (suc k) [] old a b x y p q = (b, ap (λ v. v ++ b) (sym p.0))
+front_of_run (suc k) (line ∷ lines) old a b x y p q =
+    let now = (line_is old line).one p.0 q.0 p.2 q.2 p.4 q.4 in
+    let later = front_of_run k lines p.2 p.1 q.1 x y p.5 (subst (λ w. Run w lines q.1 y) (sym now.1) q.5) in
+    (later.0, q.3 ∙ ap (λ v. v ++ q.1) (sym now.0) ∙ ap (λ v. p.0 ++ v) later.1 ∙ sym (append_assoc p.0 p.1 later.0) ∙ ap (λ v. v ++ later.0) (sym p.3))
+
+-- a front of a front is a front
+front_of_front : (n : ℕ) (a rest : List ℕ) → (m : ℕ) × (take n a ≡ take m (a ++ rest))
+front_of_front zero [] rest = (0, refl)
+front_of_front zero (x ∷ a) rest = (0, refl)
+front_of_front (suc n) [] rest = (0, refl)
+front_of_front (suc n) (x ∷ a) rest = let later = front_of_front n a rest in (suc later.0, ap (λ v. x ∷ v) later.1)
+
+pub fronts_are_of_the_whole : FrontsAreOfTheWhole
+fronts_are_of_the_whole script written answers front whole =
+    let goes_on = front_of_run front.0 (lines_of script) blank front.2 answers front.3 whole.0 front.4 whole.1 in
+    let cut = front_of_front front.1 front.2 goes_on.0 in
+    (cut.0, front.5 ∙ cut.1 ∙ ap (take cut.0) (sym goes_on.1))
 
 pub run_lawful : (lines : List (List ℕ)) (old : World) (written : List ℕ) (new : World) → IsLawful old → Run old lines written new → IsLawful new
 run_lawful [] old written new lawful r = subst (λ (w : World). IsLawful w) (sym r.1) lawful

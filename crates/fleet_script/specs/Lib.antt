@@ -1,3 +1,4 @@
 pub mod Does
 pub mod Holds
+pub mod ScriptLaws
 pub mod Scripts

@@ -3,12 +3,18 @@ ghost use Rattle.std.specs.Prelude.{◌≡◌, ℕ, List, slice_get};
 ghost use Rattle.edit_sums.specs.Sums.{IsHonest};
 ghost use Rattle.world_law.specs.Worlds as worlds;
 ghost use Rattle.fleet_script.specs.Scripts.{Answers, Run};
+ghost use Rattle.fleet_script.specs.ScriptLaws.{FrontsAreOfTheWhole};
 ghost use Rattle.script_worlds.specs.Worlds.{World, blank, held, state};
 ghost use Rattle.script_worlds.specs.Lawful.{puts};
 
 /// A script has one list of answers at most, so whatever `run` writes for it is the same.
 pub fn one_answer()
     ensures one { (script first second : List ℕ) → Answers script first → Answers script second → first ≡ second }
+{}
+
+/// What a fault leaves written is a front of the answers to the whole script, whenever that has answers.
+pub fn fronts_of_answers()
+    ensures front { FrontsAreOfTheWhole }
 {}
 
 /// In no world that a script comes to does a version stand for two edits, since no two nodes have

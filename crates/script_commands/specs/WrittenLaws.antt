@@ -1,0 +1,184 @@
+-- A command is read back from how it is written: its words, with one space between each two.
+use Rattle.std.proofs.Common.{◌≡◌, ◌≢◌, ◌<◌, ◌≤◌, ◌^◌, ℕ, Bool, true, false, ◌&&◌, List, [], ◌∷◌, ◌++◌, length, Ok, codes, refl, sym, ap, ◌∙◌, append_assoc, arith, rules}
+use Rattle.std.specs.Prelude.{nat_lt}
+use Rattle.std.specs.Char.{is_ascii_alphanumeric, is_ascii_digit}
+use Rattle.std.specs.Fmt.{decimal}
+use Rattle.std.specs.List.{All, AllByRecursion, join_with_byte, list_all}
+use Rattle.std.proofs.lemmas.Bool.{cond-true, and_from, and_parts, true≢false}
+use Rattle.std.proofs.lemmas.Bool.Decides.{nat_tests}
+use Rattle.std.proofs.lemmas.Fmt.{decimal_nonempty, digits_decimal, length-decimal-le}
+use Rattle.std.proofs.lemmas.List.Elements.{All-from_recursion, recursion_from_All}
+use Rattle.std.proofs.lemmas.Str.Parse.{IsDigitsTest, numerals_by_value}
+use Rattle.script_words.specs.Names.{is_name}
+use Rattle.script_words.specs.NumbersLaws.{number_of-decimal}
+use Rattle.script_words.specs.Words.{IsWord, spaced, text_after, words_of}
+use Rattle.script_words.specs.WordsLaws.{text_after-last, text_after-spaced, words_of-nil, words_of-spaced, words_of-word, words_of-word_space}
+use Rattle.script_commands.specs.declared.commands.Command.TheVariants.{Node, Put, Link, Remove, Merge, Part, Send, Sweep, Files, Cat, Same}
+use Rattle.script_commands.specs.Commands.{command_of, command_of_words, node_with}
+
+-- words, with one space between each two
+abbrev pub line_of : List (List ℕ) → List ℕ
+line_of words = join_with_byte 32 words
+
+-- a word that may be a name
+abbrev pub IsName : List ℕ → Type 0
+IsName word = is_name word ≡ true
+
+-- ---- what is written for each command
+
+-- a writer number of 32 bits, in decimal
+abbrev pub NodeIsReadBack : Type 0
+NodeIsReadBack = (name : List ℕ) (writer : ℕ) → IsName name → writer < 2 ^ 32 → command_of (line_of (codes "node" ∷ name ∷ decimal writer ∷ [])) ≡ Ok (Node name writer)
+
+-- the text behind the path and one space is any bytes, spaces too
+abbrev pub PutIsReadBack : Type 0
+PutIsReadBack = (node path text : List ℕ) → IsName node → IsWord path → command_of (line_of (codes "put" ∷ node ∷ path ∷ text ∷ [])) ≡ Ok (Put node path text)
+
+-- there may be no text
+abbrev pub EmptyPutIsReadBack : Type 0
+EmptyPutIsReadBack = (node path : List ℕ) → IsName node → IsWord path → command_of (line_of (codes "put" ∷ node ∷ path ∷ [])) ≡ Ok (Put node path [])
+
+abbrev pub LinkIsReadBack : Type 0
+LinkIsReadBack = (node path target : List ℕ) → IsName node → IsWord path → IsWord target → command_of (line_of (codes "link" ∷ node ∷ path ∷ target ∷ [])) ≡ Ok (Link node path target)
+
+abbrev pub RemoveIsReadBack : Type 0
+RemoveIsReadBack = (node path : List ℕ) → IsName node → IsWord path → command_of (line_of (codes "remove" ∷ node ∷ path ∷ [])) ≡ Ok (Remove node path)
+
+abbrev pub MergeIsReadBack : Type 0
+MergeIsReadBack = (from to : List ℕ) → IsName from → IsName to → command_of (line_of (codes "merge" ∷ from ∷ to ∷ [])) ≡ Ok (Merge from to)
+
+-- any number of paths, also none
+abbrev pub PartIsReadBack : Type 0
+PartIsReadBack = (piece from to : List ℕ) (paths : List (List ℕ)) → IsName piece → IsName from → IsName to → All IsWord paths
+    → command_of (line_of (codes "part" ∷ piece ∷ from ∷ to ∷ paths)) ≡ Ok (Part piece from to paths)
+
+abbrev pub SendIsReadBack : Type 0
+SendIsReadBack = (piece node : List ℕ) → IsName piece → IsName node → command_of (line_of (codes "send" ∷ piece ∷ node ∷ [])) ≡ Ok (Send piece node)
+
+abbrev pub SweepIsReadBack : Type 0
+SweepIsReadBack = command_of (line_of (codes "sweep" ∷ [])) ≡ Ok Sweep
+
+abbrev pub FilesIsReadBack : Type 0
+FilesIsReadBack = (node : List ℕ) → IsName node → command_of (line_of (codes "files" ∷ node ∷ [])) ≡ Ok (Files node)
+
+abbrev pub CatIsReadBack : Type 0
+CatIsReadBack = (node unit : List ℕ) → IsName node → IsWord unit → command_of (line_of (codes "cat" ∷ node ∷ unit ∷ [])) ≡ Ok (Cat node unit)
+
+abbrev pub SameIsReadBack : Type 0
+SameIsReadBack = (left right : List ℕ) → IsName left → IsName right → command_of (line_of (codes "same" ∷ left ∷ right ∷ [])) ≡ Ok (Same left right)
+
+-- ---- words of a line
+
+words_of-line : (words : List (List ℕ)) → AllByRecursion IsWord words → words_of (line_of words) ≡ words
+words_of-line [] all = words_of-nil
+words_of-line (word ∷ []) all = words_of-word word all.0
+words_of-line (word ∷ next ∷ words) all = words_of-word_space word (line_of (next ∷ words)) all.0 ∙ ap (λ v. word ∷ v) (words_of-line (next ∷ words) all.1)
+
+read_words : (words : List (List ℕ)) → AllByRecursion IsWord words → command_of (line_of words) ≡ command_of_words words (line_of words)
+read_words words all = ap (λ v. command_of_words v (line_of words)) (words_of-line words all)
+
+-- a text behind words
+line_of-text : (words : List (List ℕ)) (text : List ℕ) → line_of (words ++ text ∷ []) ≡ spaced words ++ text
+line_of-text [] text = refl
+line_of-text (word ∷ []) text =
+    let parts : (word ++ 32 ∷ [] ++ spaced []) ++ text ≡ word ++ 32 ∷ (spaced [] ++ text) = simp append_assoc in
+    sym parts
+line_of-text (word ∷ next ∷ words) text =
+    let parts : (word ++ 32 ∷ [] ++ spaced (next ∷ words)) ++ text ≡ word ++ 32 ∷ (spaced (next ∷ words) ++ text) = simp append_assoc in
+    ap (λ v. word ++ 32 ∷ v) (line_of-text (next ∷ words) text) ∙ sym parts
+
+-- ---- which words may stand in a line
+
+without_space : (p : ℕ → Bool) → p 32 ≡ false → (word : List ℕ) → list_all p word ≡ true → AllByRecursion (λ b. b ≢ 32) word
+without_space p free [] all = tt
+without_space p free (b ∷ word) all =
+    let parts = and_parts (p b) (list_all p word) all in
+    (λ same. true≢false (sym parts.0 ∙ ap p same ∙ free), without_space p free word parts.1)
+
+some_bytes : (n : ℕ) → nat_lt 0 n ≡ true → 0 < n
+some_bytes n some = grind (arith, nat_tests)
+
+name_is_word : (word : List ℕ) → IsName word → IsWord word
+unfolding is_name
+name_is_word word is =
+    let parts = and_parts _ _ is in
+    let some : nat_lt 0 (length word) ≡ true = (and_parts _ _ parts.0).0 in
+    (some_bytes (length word) some, All-from_recursion (λ b. b ≢ 32) word (without_space is_ascii_alphanumeric refl word parts.1))
+
+-- each byte is a decimal digit
+abbrev AreDigits : List ℕ → Type 0
+AreDigits digits = list_all is_ascii_digit digits ≡ true
+
+tells_digits : IsDigitsTest AreDigits
+tells_digits = search rules
+
+number_is_word : (n : ℕ) → n < 2 ^ 32 → IsWord (decimal n)
+number_is_word n small = (
+  decimal_nonempty n (omega arith),
+  All-from_recursion (λ b. b ≢ 32) (decimal n) (without_space is_ascii_digit refl (decimal n) (digits_decimal (numerals_by_value _ tells_digits) n (omega arith))),
+)
+
+-- the words that name commands are some letters
+is_verb : (word : List ℕ) → (nat_lt 0 (length word) && list_all is_ascii_alphanumeric word) ≡ true → IsWord word
+is_verb word is =
+    let parts = and_parts _ _ is in
+    (some_bytes (length word) parts.0, All-from_recursion (λ b. b ≢ 32) word (without_space is_ascii_alphanumeric refl word parts.1))
+
+-- ---- each command
+
+pub node_is_read_back : NodeIsReadBack
+node_is_read_back name writer is small =
+    let fits : length (decimal writer) ≤ 10 = length-decimal-le 10 writer (omega arith) (omega arith) (omega arith) in
+    read_words (codes "node" ∷ name ∷ decimal writer ∷ []) (is_verb (codes "node") refl, (name_is_word name is, (number_is_word writer small, tt)))
+    ∙ ap (node_with name) (number_of-decimal writer 0 small (omega arith))
+    ∙ cond-true _ _ _ is
+
+pub put_is_read_back : PutIsReadBack
+put_is_read_back node path text is at =
+    let words : List (List ℕ) = codes "put" ∷ node ∷ path ∷ [] in
+    let all : AllByRecursion IsWord words = (is_verb (codes "put") refl, (name_is_word node is, (at, tt))) in
+    ap command_of (line_of-text words text)
+    ∙ ap (λ v. command_of_words v (spaced words ++ text)) (words_of-spaced words text all)
+    ∙ cond-true _ _ _ is
+    ∙ ap (λ v. Ok (Put node path v)) (text_after-spaced (codes "put") (node ∷ path ∷ []) text all)
+
+pub empty_put_is_read_back : EmptyPutIsReadBack
+empty_put_is_read_back node path is at =
+    let words : List (List ℕ) = codes "put" ∷ node ∷ [] in
+    let all : AllByRecursion IsWord words = (is_verb (codes "put") refl, (name_is_word node is, tt)) in
+    read_words (codes "put" ∷ node ∷ path ∷ []) (is_verb (codes "put") refl, (name_is_word node is, (at, tt)))
+    ∙ cond-true _ _ _ is
+    ∙ ap (λ v. Ok (Put node path v)) (ap (text_after 3) (line_of-text words path) ∙ text_after-last words path all at)
+
+pub link_is_read_back : LinkIsReadBack
+link_is_read_back node path target is at to =
+    read_words (codes "link" ∷ node ∷ path ∷ target ∷ []) (is_verb (codes "link") refl, (name_is_word node is, (at, (to, tt)))) ∙ cond-true _ _ _ is
+
+pub remove_is_read_back : RemoveIsReadBack
+remove_is_read_back node path is at = read_words (codes "remove" ∷ node ∷ path ∷ []) (is_verb (codes "remove") refl, (name_is_word node is, (at, tt))) ∙ cond-true _ _ _ is
+
+pub merge_is_read_back : MergeIsReadBack
+merge_is_read_back from to is and =
+    read_words (codes "merge" ∷ from ∷ to ∷ []) (is_verb (codes "merge") refl, (name_is_word from is, (name_is_word to and, tt))) ∙ cond-true _ _ _ (and_from _ _ is and)
+
+pub part_is_read_back : PartIsReadBack
+part_is_read_back piece from to paths named is and all =
+    read_words (codes "part" ∷ piece ∷ from ∷ to ∷ paths) (is_verb (codes "part") refl, (name_is_word piece named, (name_is_word from is, (name_is_word to and, recursion_from_All IsWord paths all))))
+    ∙ cond-true _ _ _ (and_from _ _ (and_from _ _ named is) and)
+
+pub send_is_read_back : SendIsReadBack
+send_is_read_back piece node named is =
+    read_words (codes "send" ∷ piece ∷ node ∷ []) (is_verb (codes "send") refl, (name_is_word piece named, (name_is_word node is, tt))) ∙ cond-true _ _ _ (and_from _ _ named is)
+
+pub sweep_is_read_back : SweepIsReadBack
+sweep_is_read_back = read_words (codes "sweep" ∷ []) (is_verb (codes "sweep") refl, tt)
+
+pub files_is_read_back : FilesIsReadBack
+files_is_read_back node is = read_words (codes "files" ∷ node ∷ []) (is_verb (codes "files") refl, (name_is_word node is, tt)) ∙ cond-true _ _ _ is
+
+pub cat_is_read_back : CatIsReadBack
+cat_is_read_back node unit is word = read_words (codes "cat" ∷ node ∷ unit ∷ []) (is_verb (codes "cat") refl, (name_is_word node is, (word, tt))) ∙ cond-true _ _ _ is
+
+pub same_is_read_back : SameIsReadBack
+same_is_read_back left right is and =
+    read_words (codes "same" ∷ left ∷ right ∷ []) (is_verb (codes "same") refl, (name_is_word left is, (name_is_word right and, tt))) ∙ cond-true _ _ _ (and_from _ _ is and)
