@@ -1,11 +1,10 @@
--- Kinds of steps: each has one outcome, leaves one world, and keeps the world lawful. One lemma for each word of the meaning.
-use Rattle.std.proofs.Common.{◌≡◌, ◌⊎◌, inl, inr, ℕ, zero, suc, ◌+◌, ◌-◌, ◌<◌, ◌≤◌, ◌==◌, Bool, true, false, cond, nat_lt, List, [], ◌∷◌, map, length, Option, Some, None, Result, Ok, Err, codes, refl, sym, ap, subst, ◌∙◌, arith}
+-- Kinds of steps: each has one outcome, leaves one world, keeps the world lawful, puts counters up by one at most, and doesn't find them spent
+-- where they aren't. One lemma for each word of the meaning.
+use Rattle.std.proofs.Common.{◌≡◌, ◌⊎◌, inl, inr, ℕ, zero, suc, ◌+◌, ◌-◌, ◌<◌, ◌≤◌, ◌==◌, Bool, true, false, List, ◌++◌, map, length, Option, Some, None, Result, Ok, Err, codes, refl, sym, ap, subst, ◌∙◌, arith}
 use Rattle.std.specs.Prelude.{MatchOption, MatchResult}
 use Rattle.std.specs.Bool.{MatchBool}
 use Rattle.std.specs.FinMap as finmap
-use Rattle.std.specs.List.{position_or_len}
-use Rattle.std.specs.Str.{bytes_eq}
-use Rattle.std.proofs.lemmas.Bool.Decides.{nat_tests}
+use Rattle.std.proofs.lemmas.Bool.{true≢false}
 use Rattle.load_path.specs.Paths.{PathParts, path_of}
 use Rattle.load_path.specs.declared.paths.PathFault.{PathFault}
 use Rattle.load_path.specs.declared.paths.PathFault.TheVariants as path
@@ -15,28 +14,39 @@ use Rattle.edit_sums.specs.Limits.{is_file, is_target}
 use Rattle.edit_sums.specs.Sums.{EntryMap, changed_paths, high_of, visible_at}
 use Rattle.world_law.specs.declared.events.Event.TheVariants as event
 use Rattle.world_law.specs.Cuts.{cut, digest_of}
-use Rattle.script_words.specs.Text.{Spells, IsBadText}
 use Rattle.script_words.specs.TextLaws.{spells_one}
 use Rattle.script_commands.specs.declared.commands.Command.{Command}
 use Rattle.script_commands.specs.declared.commands.Command.TheVariants.{Node, Put, Link, Remove, Merge, Part, Send, Sweep, Files, Cat, Same}
 use Rattle.script_commands.specs.declared.commands.Refusal.{Refusal}
 use Rattle.script_commands.specs.declared.commands.Refusal.TheVariants.{BadLink, BadText, Component, Depth, Directory, FileTooLarge, NodeTaken, Nothing, UnknownNode, UnknownPiece, VersionsSpent, WriterTaken}
-use Rattle.script_commands.specs.Outcomes.{Outcome}
+use Rattle.script_commands.specs.Outcomes.{Outcome, is_spent}
 use Rattle.script_commands.specs.Paths.{paths_of}
 use Rattle.script_answers.specs.Texts.{changed_line, entries_line, ok_line}
 use Rattle.script_worlds.specs.Worlds.{World, Member, happened, has_writer, held, merged, merged_all, next_edit, node_named, numbers_from, parted, piece_named, swept, with_node}
-use Rattle.script_worlds.specs.Lawful.{IsLawful}
+use Rattle.script_worlds.specs.Counts.{IsPutUpTo}
+use Rattle.script_worlds.specs.CountsLaws.{put_next, put_same, puts_merged_all}
+use Rattle.script_worlds.specs.Lawful.{IsLawful, puts}
 use Rattle.script_worlds.specs.NodeLaws.{named_within}
-use Rattle.script_worlds.specs.LawfulLaws.{lawful_answered, lawful_given, lawful_merged, lawful_put, lawful_with_node}
+use Rattle.script_worlds.specs.LawfulLaws.{lawful_answered, lawful_given, lawful_merged, lawful_put, lawful_with_node, puts_with_node}
 use Rattle.unit_answers.specs.Units.{TellsFiles}
-use Rattle.unit_answers.specs.UnitLaws.{files_are_told_once}
+use Rattle.unit_answers.specs.UnitLaws.{files_are_told_once, files_spend_nothing}
 use Rattle.fleet_script.specs.Does.{AtNode, AtPath, AtPaths, AtPiece, Does, Gives, IsRead, Reads, Refuses, RefusesPath, TellsPaths, WithFile, WithTarget, WithText, Writes, if_any}
 use Rattle.fleet_script.proofs.Between.{merged_all-append, merged_nodes}
 
--- a step from a world has one outcome and leaves one world, and a lawful world stays lawful
+-- a lawful world is followed by a lawful one, and the greatest counter that was put grows by one at most
+pub record Follows (old new : World) : Type 0 where
+  pub lawful : IsLawful old → IsLawful new
+  pub counted : (n : ℕ) → IsLawful old → IsPutUpTo n old → IsPutUpTo (suc n) new
+
+-- no node holds the greatest counter
+abbrev pub HasCounters : World → Type 0
+HasCounters world = (k : ℕ) → (high_of (held world k) == 18446744073709551615) ≡ false
+
+-- a step from a world has one outcome and leaves one world, which follows, and counters are spent only where the greatest is held
 pub record IsStep (old : World) (S : Outcome → World → Type 0) : Type 0 where
   pub one : (a b : Outcome) (x y : World) → S a x → S b y → (a ≡ b) × (x ≡ y)
-  pub lawful : IsLawful old → (outcome : Outcome) (new : World) → S outcome new → IsLawful new
+  pub follows : (outcome : Outcome) (new : World) → S outcome new → Follows old new
+  pub unspent : HasCounters old → (outcome : Outcome) (new : World) → S outcome new → is_spent outcome ≡ false
 
 -- ---- what the world's own words need
 
@@ -64,20 +74,40 @@ lawful_swept world lawful =
 -- ---- one lemma for each word
 
 module _ (old : World) where
-  pub gives : (words : List ℕ) (world : World) → (IsLawful old → IsLawful world) → IsStep old (λ outcome new. Gives words world outcome new)
-  gives words world keeps = record {
+  -- nothing more is put
+  puts_nothing : (new : World) → (IsLawful old → IsLawful new) → puts new ≡ puts old → Follows old new
+  puts_nothing new lawful same = record { lawful = lawful; counted = λ n l up. put_same n old new same up }
+
+  pub stays : (new : World) → new ≡ old → Follows old new
+  stays new same = subst (λ (w : World). Follows old w) (sym same) (puts_nothing old (λ l. l) refl)
+
+  pub gives : (words : List ℕ) (world : World) → Follows old world → IsStep old (λ outcome new. Gives words world outcome new)
+  gives words world follows = record {
     one = λ a b x y p q. (p.outcome_is ∙ sym q.outcome_is, p.world_is ∙ sym q.world_is);
-    lawful = λ l outcome new g. subst (λ (w : World). IsLawful w) (sym g.world_is) (keeps l);
+    follows = λ outcome new g. subst (λ (w : World). Follows old w) (sym g.world_is) follows;
+    unspent = λ free outcome new g. ap is_spent g.outcome_is;
   }
 
-  pub refuses : (refusal : Refusal) → IsStep old (λ outcome new. Refuses old refusal outcome new)
-  refuses refusal = record {
-    one = λ a b x y p q. (p.outcome_is ∙ sym q.outcome_is, p.world_is ∙ sym q.world_is);
-    lawful = λ l outcome new r. subst (λ (w : World). IsLawful w) (sym r.world_is) l;
+  pub refused_once : (refusal : Refusal) (a b : Outcome) (x y : World) → Refuses old refusal a x → Refuses old refusal b y → (a ≡ b) × (x ≡ y)
+  refused_once refusal a b x y p q = (p.outcome_is ∙ sym q.outcome_is, p.world_is ∙ sym q.world_is)
+
+  refuses : (refusal : Refusal) → is_spent (Err refusal) ≡ false → IsStep old (λ outcome new. Refuses old refusal outcome new)
+  refuses refusal other = record {
+    one = refused_once refusal;
+    follows = λ outcome new r. stays new r.world_is;
+    unspent = λ free outcome new r. ap is_spent r.outcome_is ∙ other;
+  }
+
+  -- the one refusal for want of counters
+  spends : (k : ℕ) → (high_of (held old k) == 18446744073709551615) ≡ true → IsStep old (λ outcome new. Refuses old VersionsSpent outcome new)
+  spends k spent = record {
+    one = refused_once VersionsSpent;
+    follows = λ outcome new r. stays new r.world_is;
+    unspent = λ free outcome new r. absurd (true≢false (sym spent ∙ free k));
   }
 
   never : IsStep old (λ outcome new. ⊥)
-  never = record { one = λ a b x y p q. absurd p; lawful = λ l outcome new p. absurd p }
+  never = record { one = λ a b x y p q. absurd p; follows = λ outcome new p. absurd p; unspent = λ free outcome new p. absurd p }
 
   with_bool : (t : Bool) (P Q : Outcome → World → Type 0) → (t ≡ true → IsStep old P) → (t ≡ false → IsStep old Q) → IsStep old (λ outcome new. MatchBool t (P outcome new) (Q outcome new))
   with_bool true P Q p q = p refl
@@ -94,15 +124,15 @@ module _ (old : World) where
   with_result (Err e) P Q p q = q e
 
   at_node : (name : List ℕ) (P : ℕ → Outcome → World → Type 0) → ((k : ℕ) → k < length old.nodes → IsStep old (P k)) → IsStep old (λ outcome new. AtNode old outcome new name (λ k. P k outcome new))
-  at_node name P f = with_option (node_named old.nodes name) (λ outcome new. Refuses old UnknownNode outcome new) P (λ none. refuses UnknownNode) (λ k is. f k (named_within old.nodes name k is))
+  at_node name P f = with_option (node_named old.nodes name) (λ outcome new. Refuses old UnknownNode outcome new) P (λ none. refuses UnknownNode refl) (λ k is. f k (named_within old.nodes name k is))
 
   at_piece : (name : List ℕ) (P : ℕ → Outcome → World → Type 0) → ((p : ℕ) → IsStep old (P p)) → IsStep old (λ outcome new. AtPiece old outcome new name (λ p. P p outcome new))
-  at_piece name P f = with_option (piece_named old.pieces name) (λ outcome new. Refuses old UnknownPiece outcome new) P (λ none. refuses UnknownPiece) (λ p is. f p)
+  at_piece name P f = with_option (piece_named old.pieces name) (λ outcome new. Refuses old UnknownPiece outcome new) P (λ none. refuses UnknownPiece refl) (λ p is. f p)
 
   refuses_path : (fault : PathFault) → IsStep old (λ outcome new. RefusesPath old outcome new fault)
-  refuses_path path.Directory = refuses Directory
-  refuses_path path.Depth = refuses Depth
-  refuses_path path.Component = refuses Component
+  refuses_path path.Directory = refuses Directory refl
+  refuses_path path.Depth = refuses Depth refl
+  refuses_path path.Component = refuses Component refl
   refuses_path path.Memory = never
 
   at_path : (text : List ℕ) (P : PathParts → Outcome → World → Type 0) → ((at : PathParts) → IsStep old (P at)) → IsStep old (λ outcome new. AtPath old outcome new text (λ at. P at outcome new))
@@ -112,7 +142,7 @@ module _ (old : World) where
   at_paths texts P f = with_result (paths_of texts) P (λ fault outcome new. RefusesPath old outcome new fault) f refuses_path
 
   with_text : (text : List ℕ) (P : List ℕ → Outcome → World → Type 0) → ((bytes : List ℕ) → IsStep old (P bytes)) → IsStep old (λ outcome new. WithText old outcome new text (λ bytes. P bytes outcome new))
-  with_text text P f = record { one = one; lawful = lawful }
+  with_text text P f = record { one = one; follows = follows; unspent = unspent }
     where
       W : Outcome → World → Type 0
       W outcome new = WithText old outcome new text (λ bytes. P bytes outcome new)
@@ -121,46 +151,57 @@ module _ (old : World) where
       one a b x y (inl p) (inl q) = (f q.0).one a b x y (subst (λ bytes. P bytes a x) (spells_one text p.0 q.0 p.1 q.1) p.2) q.2
       one a b x y (inl p) (inr q) = absurd (q.0 p.0 p.1)
       one a b x y (inr p) (inl q) = absurd (p.0 q.0 q.1)
-      one a b x y (inr p) (inr q) = (refuses BadText).one a b x y p.1 q.1
+      one a b x y (inr p) (inr q) = refused_once BadText a b x y p.1 q.1
 
-      lawful : IsLawful old → (outcome : Outcome) (new : World) → W outcome new → IsLawful new
-      lawful l outcome new (inl p) = (f p.0).lawful l outcome new p.2
-      lawful l outcome new (inr p) = (refuses BadText).lawful l outcome new p.1
+      follows : (outcome : Outcome) (new : World) → W outcome new → Follows old new
+      follows outcome new (inl p) = (f p.0).follows outcome new p.2
+      follows outcome new (inr p) = stays new p.1.world_is
+
+      unspent : HasCounters old → (outcome : Outcome) (new : World) → W outcome new → is_spent outcome ≡ false
+      unspent free outcome new (inl p) = (f p.0).unspent free outcome new p.2
+      unspent free outcome new (inr p) = ap is_spent p.1.outcome_is
 
   writes : (k : ℕ) (at : PathParts) (c : Content) → k < length old.nodes → IsStep old (λ outcome new. Writes old outcome new k at c)
   writes k at c lt =
       let edit = next_edit old k at c in
       with_bool (high_of (held old k) == 18446744073709551615) (λ outcome new. Refuses old VersionsSpent outcome new) (λ outcome new. Gives (ok_line edit.version) (happened old (event.Put k edit)) outcome new)
-      (λ spent. refuses VersionsSpent) (λ free. gives (ok_line edit.version) (happened old (event.Put k edit)) (λ l. lawful_put old k at c l lt))
+      (λ spent. spends k spent)
+      (λ free. gives (ok_line edit.version) (happened old (event.Put k edit)) (record { lawful = λ l. lawful_put old k at c l lt; counted = λ n l up. put_next n old k at c l lt up }))
 
   with_file : (bytes : List ℕ) (P : Content → Outcome → World → Type 0) → IsStep old (P (content.File bytes)) → IsStep old (λ outcome new. WithFile old outcome new bytes (λ c. P c outcome new))
-  with_file bytes P f = with_bool (is_file bytes) (P (content.File bytes)) (λ outcome new. Refuses old FileTooLarge outcome new) (λ is. f) (λ no. refuses FileTooLarge)
+  with_file bytes P f = with_bool (is_file bytes) (P (content.File bytes)) (λ outcome new. Refuses old FileTooLarge outcome new) (λ is. f) (λ no. refuses FileTooLarge refl)
 
   with_target : (target : List ℕ) (P : Content → Outcome → World → Type 0) → IsStep old (P (content.Link target)) → IsStep old (λ outcome new. WithTarget old outcome new target (λ c. P c outcome new))
-  with_target target P f = with_bool (is_target target) (P (content.Link target)) (λ outcome new. Refuses old BadLink outcome new) (λ is. f) (λ no. refuses BadLink)
+  with_target target P f = with_bool (is_target target) (P (content.Link target)) (λ outcome new. Refuses old BadLink outcome new) (λ is. f) (λ no. refuses BadLink refl)
 
   -- a command that only reads has one outcome if what it tells of a store is one thing
-  reads : (node : List ℕ) (Tells : EntryMap → Outcome → Type 0) → ((s : EntryMap) (a b : Outcome) → Tells s a → Tells s b → a ≡ b) → IsStep old (λ outcome new. Reads old outcome new node Tells)
-  reads node Tells once = at_node node (λ k outcome new. IsRead (Tells (held old k)) old outcome new) (λ k lt. record {
+  reads : (node : List ℕ) (Tells : EntryMap → Outcome → Type 0) → ((s : EntryMap) (a b : Outcome) → Tells s a → Tells s b → a ≡ b) → ((s : EntryMap) (outcome : Outcome) → Tells s outcome → is_spent outcome ≡ false)
+      → IsStep old (λ outcome new. Reads old outcome new node Tells)
+  reads node Tells once unspent = at_node node (λ k outcome new. IsRead (Tells (held old k)) old outcome new) (λ k lt. record {
     one = λ a b x y p q. (once (held old k) a b p.told q.told, p.world_is ∙ sym q.world_is);
-    lawful = λ l outcome new r. subst (λ (w : World). IsLawful w) (sym r.world_is) l;
+    follows = λ outcome new r. stays new r.world_is;
+    unspent = λ free outcome new r. unspent (held old k) outcome r.told;
   })
 
   compares : (P : Type 0) (alike apart : List ℕ) → IsStep old (λ outcome new. (P × Gives alike old outcome new) ⊎ ((P → ⊥) × Gives apart old outcome new))
-  compares P alike apart = record { one = one; lawful = lawful }
+  compares P alike apart = record { one = one; follows = follows; unspent = unspent }
     where
       C : Outcome → World → Type 0
       C outcome new = (P × Gives alike old outcome new) ⊎ ((P → ⊥) × Gives apart old outcome new)
 
       one : (a b : Outcome) (x y : World) → C a x → C b y → (a ≡ b) × (x ≡ y)
-      one a b x y (inl p) (inl q) = (gives alike old (λ l. l)).one a b x y p.1 q.1
+      one a b x y (inl p) (inl q) = (gives alike old (stays old refl)).one a b x y p.1 q.1
       one a b x y (inl p) (inr q) = absurd (q.0 p.0)
       one a b x y (inr p) (inl q) = absurd (p.0 q.0)
-      one a b x y (inr p) (inr q) = (gives apart old (λ l. l)).one a b x y p.1 q.1
+      one a b x y (inr p) (inr q) = (gives apart old (stays old refl)).one a b x y p.1 q.1
 
-      lawful : IsLawful old → (outcome : Outcome) (new : World) → C outcome new → IsLawful new
-      lawful l outcome new (inl p) = (gives alike old (λ k. k)).lawful l outcome new p.1
-      lawful l outcome new (inr p) = (gives apart old (λ k. k)).lawful l outcome new p.1
+      follows : (outcome : Outcome) (new : World) → C outcome new → Follows old new
+      follows outcome new (inl p) = stays new p.1.world_is
+      follows outcome new (inr p) = stays new p.1.world_is
+
+      unspent : HasCounters old → (outcome : Outcome) (new : World) → C outcome new → is_spent outcome ≡ false
+      unspent free outcome new (inl p) = ap is_spent p.1.outcome_is
+      unspent free outcome new (inr p) = ap is_spent p.1.outcome_is
 
   -- ---- one recursion over the commands
 
@@ -170,8 +211,11 @@ module _ (old : World) where
       (λ outcome new. MatchBool (has_writer old.nodes writer) (Refuses old WriterTaken outcome new) (Gives (codes "ok\n") (with_node old name writer) outcome new))
       (λ k outcome new. Refuses old NodeTaken outcome new)
       (λ none. with_bool (has_writer old.nodes writer) (λ outcome new. Refuses old WriterTaken outcome new) (λ outcome new. Gives (codes "ok\n") (with_node old name writer) outcome new)
-      (λ taken. refuses WriterTaken) (λ free. gives (codes "ok\n") (with_node old name writer) (λ l. lawful_with_node old name writer l free)))
-      (λ k is. refuses NodeTaken)
+      (λ taken. refuses WriterTaken refl) (λ free. gives (codes "ok\n") (with_node old name writer) (record {
+        lawful = λ l. lawful_with_node old name writer l free;
+        counted = λ n l up. put_same n old (with_node old name writer) (puts_with_node old name writer l.within) up;
+      })))
+      (λ k is. refuses NodeTaken refl)
   does (Put node text file) =
       at_node node (λ k outcome new. AtPath old outcome new text (λ at. WithText old outcome new file (λ bytes. WithFile old outcome new bytes (Writes old outcome new k at))))
       (λ k lt. at_path text (λ at outcome new. WithText old outcome new file (λ bytes. WithFile old outcome new bytes (Writes old outcome new k at)))
@@ -185,17 +229,17 @@ module _ (old : World) where
       at_node node (λ k outcome new. AtPath old outcome new text (λ at. MatchOption (visible_at (held old k) at) (Refuses old Nothing outcome new) (λ shown. Writes old outcome new k at content.Gone)))
       (λ k lt. at_path text (λ at outcome new. MatchOption (visible_at (held old k) at) (Refuses old Nothing outcome new) (λ shown. Writes old outcome new k at content.Gone))
       (λ at. with_option (visible_at (held old k) at) (λ outcome new. Refuses old Nothing outcome new) (λ shown outcome new. Writes old outcome new k at content.Gone)
-      (λ none. refuses Nothing) (λ shown is. writes k at content.Gone lt)))
+      (λ none. refuses Nothing refl) (λ shown is. writes k at content.Gone lt)))
   does (Merge from to) =
       let G : ℕ → ℕ → Outcome → World → Type 0 = λ j k outcome new. Gives (changed_line (changed_paths (held old k) (held (merged old j k) k))) (merged old j k) outcome new in
       at_node from (λ j outcome new. AtNode old outcome new to (λ k. G j k outcome new))
-      (λ j lt_from. at_node to (G j) (λ k lt_to. gives (changed_line (changed_paths (held old k) (held (merged old j k) k))) (merged old j k) (λ l. lawful_merged old j k l lt_from lt_to)))
+      (λ j lt_from. at_node to (G j) (λ k lt_to. gives (changed_line (changed_paths (held old k) (held (merged old j k) k))) (merged old j k) (puts_nothing (merged old j k) (λ l. lawful_merged old j k l lt_from lt_to) refl)))
   does (Part piece from to texts) =
       let words : ℕ → ℕ → List PathParts → List ℕ = λ j k paths. entries_line (length (finmap.entries (cut (held old j) (digest_of (held old k)) (if_any paths)))) in
       let G : ℕ → ℕ → List PathParts → Outcome → World → Type 0 = λ j k paths outcome new. Gives (words j k paths) (parted old piece j k (if_any paths)) outcome new in
       at_node from (λ j outcome new. AtNode old outcome new to (λ k. AtPaths old outcome new texts (λ paths. G j k paths outcome new)))
       (λ j lt_from. at_node to (λ k outcome new. AtPaths old outcome new texts (λ paths. G j k paths outcome new))
-      (λ k lt_to. at_paths texts (G j k) (λ paths. gives (words j k paths) (parted old piece j k (if_any paths)) (λ l. lawful_parted piece j k paths l lt_from lt_to))))
+      (λ k lt_to. at_paths texts (G j k) (λ paths. gives (words j k paths) (parted old piece j k (if_any paths)) (puts_nothing (parted old piece j k (if_any paths)) (λ l. lawful_parted piece j k paths l lt_from lt_to) refl))))
     where
       lawful_parted : (name : List ℕ) (j k : ℕ) (paths : List PathParts) → IsLawful old → j < length old.nodes → k < length old.nodes → IsLawful (parted old name j k (if_any paths))
       lawful_parted name j k paths lawful lt_from lt_to =
@@ -204,10 +248,12 @@ module _ (old : World) where
   does (Send piece node) =
       let G : ℕ → ℕ → Outcome → World → Type 0 = λ p k outcome new. Gives (changed_line (changed_paths (held old k) (held (happened old (event.Give p k)) k))) (happened old (event.Give p k)) outcome new in
       at_piece piece (λ p outcome new. AtNode old outcome new node (λ k. G p k outcome new))
-      (λ p. at_node node (G p) (λ k lt. gives (changed_line (changed_paths (held old k) (held (happened old (event.Give p k)) k))) (happened old (event.Give p k)) (λ l. lawful_given old p k l lt)))
-  does Sweep = gives (codes "ok\n") (swept old) (lawful_swept old)
-  does (Files node) = reads node TellsPaths (λ s a b p q. p ∙ sym q)
-  does (Cat node unit) = reads node (TellsFiles unit) (files_are_told_once unit)
+      (λ p. at_node node (G p) (λ k lt. gives (changed_line (changed_paths (held old k) (held (happened old (event.Give p k)) k))) (happened old (event.Give p k)) (puts_nothing (happened old (event.Give p k)) (λ l. lawful_given old p k l lt) refl)))
+  does Sweep =
+      let others = numbers_from 1 (length old.nodes - 1) in
+      gives (codes "ok\n") (swept old) (puts_nothing (swept old) (lawful_swept old) (puts_merged_all old (map (λ k. (k, 0)) others ++ map (λ k. (0, k)) others)))
+  does (Files node) = reads node TellsPaths (λ s a b p q. p ∙ sym q) (λ s outcome p. ap is_spent p)
+  does (Cat node unit) = reads node (TellsFiles unit) (files_are_told_once unit) (files_spend_nothing unit)
   does (Same left right) =
       let C : ℕ → ℕ → Outcome → World → Type 0 = λ j k outcome new. ((held old j ≡ held old k) × Gives (codes "same\n") old outcome new) ⊎ ((held old j ≡ held old k → ⊥) × Gives (codes "differ\n") old outcome new) in
       at_node left (λ j outcome new. AtNode old outcome new right (λ k. C j k outcome new))

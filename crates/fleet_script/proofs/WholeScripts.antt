@@ -1,42 +1,53 @@
--- Laws of whole scripts: one list of answers, and lawful worlds.
-use Rattle.std.proofs.Common.{◌≡◌, ℕ, Bool, true, false, Result, Ok, Err, List, [], ◌∷◌, ◌++◌, length, nat_lt, sym, ap, subst, ◌∙◌}
+-- Laws of whole scripts: one list of answers, of which a fault leaves a front, lawful worlds, and counters that are never spent.
+use Rattle.std.proofs.Common.{◌≡◌, ℕ, zero, suc, ◌+◌, ◌≤◌, ◌==◌, Bool, true, false, Result, Ok, Err, List, [], ◌∷◌, ◌++◌, length, take, nat_lt, refl, sym, ap, subst, ◌∙◌, append_assoc, cond, arith}
 use Rattle.std.specs.Prelude.{MatchResult}
 use Rattle.std.specs.Bool.{MatchBool}
+use Rattle.std.specs.List.{slice_split}
+use Rattle.std.specs.Str.Lines.{lines_of_parts}
+use Rattle.std.proofs.lemmas.Bool.{ne_eqb, true≢false}
+use Rattle.std.proofs.lemmas.List.{length-take}
+use Rattle.std.proofs.lemmas.List.Splits.{length-slice_split}
+use Rattle.std.proofs.lemmas.List.Sums.{count_by-le-length}
+use Rattle.edit_sums.specs.Sums.{high_of}
 use Rattle.script_words.specs.Lines.{lines_of, is_passed_over}
 use Rattle.script_commands.specs.declared.commands.Command.{Command}
 use Rattle.script_commands.specs.declared.commands.Refusal.{Refusal}
-use Rattle.script_commands.specs.declared.commands.Refusal.TheVariants.{LineTooLong}
+use Rattle.script_commands.specs.declared.commands.Refusal.TheVariants.{LineTooLong, VersionsSpent}
 use Rattle.script_commands.specs.Commands.{command_of}
 use Rattle.script_commands.specs.Outcomes.{Outcome}
 use Rattle.script_answers.specs.Texts.{error_line, outcome_text}
-use Rattle.script_worlds.specs.Worlds.{World, blank}
+use Rattle.script_worlds.specs.Counts.{IsPutUpTo}
+use Rattle.script_worlds.specs.CountsLaws.{counted, put_blank}
+use Rattle.script_worlds.specs.Worlds.{World, blank, held}
 use Rattle.script_worlds.specs.Lawful.{IsLawful}
+use Rattle.script_worlds.specs.LawfulLaws.{lawful_blank}
 use Rattle.fleet_script.specs.Does.{Does, Refuses}
+use Rattle.fleet_script.specs.ScriptLaws.{CountersAreLines, FrontsAreOfTheWhole, VersionsAreNeverSpent}
 use Rattle.fleet_script.specs.Scripts.{Answers, AnswersCommand, AnswersLine, Run, Says}
-use Rattle.fleet_script.proofs.StepKinds.{IsStep, does, refuses}
+use Rattle.fleet_script.proofs.StepKinds.{Follows, HasCounters, does, refused_once, stays}
 
--- a line has one answer, leaves one world, and keeps the world lawful
-record IsLine (old : World) (A : List ℕ → World → Type 0) : Type 0 where
-  one : (a b : List ℕ) (x y : World) → A a x → A b y → (a ≡ b) × (x ≡ y)
-  lawful : IsLawful old → (answer : List ℕ) (new : World) → A answer new → IsLawful new
+-- a line has one answer and leaves one world, which follows
+record IsLine {X : Type 0} (old : World) (A : X → World → Type 0) : Type 0 where
+  one : (a b : X) (x y : World) → A a x → A b y → (a ≡ b) × (x ≡ y)
+  follows : (answer : X) (new : World) → A answer new → Follows old new
 
 module _ (old : World) where
   says : (words : List ℕ) → IsLine old (λ answer new. Says words old answer new)
   says words = record {
     one = λ a b x y p q. (p.answer_is ∙ sym q.answer_is, p.world_is ∙ sym q.world_is);
-    lawful = λ l answer new s. subst (λ (w : World). IsLawful w) (sym s.world_is) l;
+    follows = λ answer new s. stays old new s.world_is;
   }
 
-  asked : (r : Result Command Refusal) → IsStep old (λ outcome new. MatchResult r (λ command. Does old command outcome new) (λ refusal. Refuses old refusal outcome new))
-  asked (Ok command) = does old command
-  asked (Err refusal) = refuses old refusal
+  asked : (r : Result Command Refusal) → IsLine {X = Outcome} old (λ outcome new. MatchResult r (λ command. Does old command outcome new) (λ refusal. Refuses old refusal outcome new))
+  asked (Ok command) = let step = does old command in record { one = step.one; follows = step.follows }
+  asked (Err refusal) = record { one = refused_once old refusal; follows = λ outcome new r. stays old new r.world_is }
 
   answered : (line : List ℕ) → IsLine old (λ answer new. AnswersCommand old line answer new)
   answered line =
       let step = asked (command_of line) in
       record {
         one = λ a b x y p q. (let same = step.one p.0 q.0 x y p.2 q.2 in (p.1 ∙ ap outcome_text same.0 ∙ sym q.1, same.1));
-        lawful = λ l answer new p. step.lawful l p.0 new p.2;
+        follows = λ answer new p. step.follows p.0 new p.2;
       }
 
   either : (t : Bool) (P Q : List ℕ → World → Type 0) → IsLine old P → IsLine old Q → IsLine old (λ answer new. MatchBool t (P answer new) (Q answer new))
@@ -60,6 +71,65 @@ run_same old (line ∷ lines) a b x y p q =
 pub one : (script first second : List ℕ) → Answers script first → Answers script second → first ≡ second
 one script first second p q = (run_same blank (lines_of script) first second p.0 q.0 p.1 q.1).0
 
+-- a run of all lines begins with the run of the first of them
+front_of_run : (k : ℕ) (lines : List (List ℕ)) (old : World) (a b : List ℕ) (x y : World) → Run old (take k lines) a x → Run old lines b y → (rest : List ℕ) × (b ≡ a ++ rest)
+front_of_run zero [] old a b x y p q = (b, ap (λ v. v ++ b) (sym p.0))
+front_of_run zero (line ∷ lines) old a b x y p q = (b, ap (λ v. v ++ b) (sym p.0))
+front_of_run (suc k) [] old a b x y p q = (b, ap (λ v. v ++ b) (sym p.0))
+front_of_run (suc k) (line ∷ lines) old a b x y p q =
+    let now = (line_is old line).one p.0 q.0 p.2 q.2 p.4 q.4 in
+    let later = front_of_run k lines p.2 p.1 q.1 x y p.5 (subst (λ w. Run w lines q.1 y) (sym now.1) q.5) in
+    (later.0, q.3 ∙ ap (λ v. v ++ q.1) (sym now.0) ∙ ap (λ v. p.0 ++ v) later.1 ∙ sym (append_assoc p.0 p.1 later.0) ∙ ap (λ v. v ++ later.0) (sym p.3))
+
+-- a front of a front is a front
+front_of_front : (n : ℕ) (a rest : List ℕ) → (m : ℕ) × (take n a ≡ take m (a ++ rest))
+front_of_front zero [] rest = (0, refl)
+front_of_front zero (x ∷ a) rest = (0, refl)
+front_of_front (suc n) [] rest = (0, refl)
+front_of_front (suc n) (x ∷ a) rest = let later = front_of_front n a rest in (suc later.0, ap (λ v. x ∷ v) later.1)
+
+pub fronts_are_of_the_whole : FrontsAreOfTheWhole
+fronts_are_of_the_whole script written answers front whole =
+    let goes_on = front_of_run front.0 (lines_of script) blank front.2 answers front.3 whole.0 front.4 whole.1 in
+    let cut = front_of_front front.1 front.2 goes_on.0 in
+    (cut.0, front.5 ∙ cut.1 ∙ ap (take cut.0) (sym goes_on.1))
+
 pub run_lawful : (lines : List (List ℕ)) (old : World) (written : List ℕ) (new : World) → IsLawful old → Run old lines written new → IsLawful new
 run_lawful [] old written new lawful r = subst (λ (w : World). IsLawful w) (sym r.1) lawful
-run_lawful (line ∷ lines) old written new lawful r = run_lawful lines r.2 r.1 new ((line_is old line).lawful lawful r.0 r.2 r.4) r.5
+run_lawful (line ∷ lines) old written new lawful r = run_lawful lines r.2 r.1 new (((line_is old line).follows r.0 r.2 r.4).lawful lawful) r.5
+
+run_counted : (lines : List (List ℕ)) (old : World) (written : List ℕ) (new : World) (n : ℕ) → IsLawful old → IsPutUpTo n old → Run old lines written new → IsPutUpTo (n + length lines) new
+run_counted [] old written new n lawful up r e a = let most = subst (λ (w : World). IsPutUpTo n w) (sym r.1) up e a in omega arith
+run_counted (line ∷ lines) old written new n lawful up r e a =
+    let step = (line_is old line).follows r.0 r.2 r.4 in
+    let most = run_counted lines r.2 r.1 new (suc n) (step.lawful lawful) (step.counted n lawful up) r.5 e a in
+    omega arith
+
+pub counters_are_lines : CountersAreLines
+counters_are_lines lines written world r =
+    counted (length lines) world (run_lawful lines blank written world lawful_blank r)
+    (λ e a. let most = run_counted lines blank written world 0 lawful_blank put_blank r e a in omega arith)
+
+fewer_lines : (parts : List (List ℕ)) → length (lines_of_parts parts) ≤ length parts
+fewer_lines [] = omega arith
+fewer_lines (part ∷ []) = by (length part == 0)
+  where
+    by : (b : Bool) → length (cond b [] (part ∷ [])) ≤ 1
+    by true = omega arith
+    by false = omega arith
+fewer_lines (part ∷ next ∷ parts) = let later = fewer_lines (next ∷ parts) in omega arith
+
+-- a script has no more lines than bytes, but for one
+lines_are_few : (script : List ℕ) → length (lines_of script) ≤ length script + 1
+unfolding lines_of
+lines_are_few script =
+    let fewer = fewer_lines (slice_split (λ b. b == 10) script) in
+    omega (arith, length-slice_split (λ b. b == 10) script, count_by-le-length (λ b. b == 10) script)
+
+pub versions_are_never_spent : VersionsAreNeverSpent
+versions_are_never_spent script k written world command new short r spent =
+    let lines = take k (lines_of script) in
+    let few : length lines ≤ 16777217 = omega (arith, length-take k (lines_of script), lines_are_few script) in
+    let count = counters_are_lines lines written world r in
+    let free : HasCounters world = λ j. ne_eqb (high_of (held world j)) 18446744073709551615 (λ same. let most = count.stores j in omega arith) in
+    true≢false ((does world command).unspent free (Err VersionsSpent) new spent)

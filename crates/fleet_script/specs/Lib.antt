@@ -1,4 +1,5 @@
 pub mod Does
 pub mod Ends
 pub mod Holds
+pub mod ScriptLaws
 pub mod Scripts

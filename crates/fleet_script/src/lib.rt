@@ -10,5 +10,5 @@ mod laws;
 mod running;
 mod states;
 
-pub use laws::{one_answer, scripts_are_honest};
+pub use laws::{counters_never_spent, fronts_of_answers, one_answer, scripts_are_honest};
 pub use running::{ShellFault, run};

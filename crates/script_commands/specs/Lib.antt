@@ -3,3 +3,4 @@ pub mod Faults
 pub mod Files
 pub mod Outcomes
 pub mod Paths
+pub mod WrittenLaws

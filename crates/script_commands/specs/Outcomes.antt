@@ -1,8 +1,9 @@
 -- What a command comes to.
-use Rattle.std.specs.Prelude.{ℕ, List, ⊤, Result, Ok, Err}
+use Rattle.std.specs.Prelude.{ℕ, Bool, true, false, List, ⊤, Result, Ok, Err}
 use Rattle.script_commands.specs.declared.commands.Fault.{Fault}
 use Rattle.script_commands.specs.declared.commands.Fault.TheVariants.{Refused, Memory}
 use Rattle.script_commands.specs.declared.commands.Refusal.{Refusal}
+use Rattle.script_commands.specs.declared.commands.Refusal.TheVariants.{VersionsSpent}
 
 -- the words of its answer, or a refusal
 abbrev pub Outcome : Type 0
@@ -13,3 +14,8 @@ abbrev pub IsSaid : {T : Type 0} → (T → List ℕ) → Result T Fault → (Ou
 IsSaid words (Ok text) P = P (Ok (words text))
 IsSaid words (Err (Refused refusal)) P = P (Err refusal)
 IsSaid words (Err Memory) P = ⊤
+
+-- the outcome is that the counters are spent
+abbrev pub is_spent : Outcome → Bool
+is_spent (Err VersionsSpent) = true
+is_spent outcome = false

@@ -5,9 +5,11 @@
 #![tactic(auto)]
 
 mod commands;
+mod laws;
 mod parsing;
 mod path_words;
 
 pub use commands::{Command, Fault, Refusal, Word, Words};
+pub use laws::commands_read_back;
 pub use parsing::parse;
 pub use path_words::{read_file, read_link, read_path, read_paths};

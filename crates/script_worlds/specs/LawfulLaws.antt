@@ -144,6 +144,9 @@ module _ (world : World) (name : List ℕ) (writer : ℕ) where
   pub held_with_node : AreWithin (length world.nodes) world.events → (k : ℕ) → held (with_node world name writer) k ≡ held world k
   held_with_node within k = ap (λ (w : worlds.World). sum_of (took w k)) (state_with_node within) ∙ ap sum_of (took-with_new_node (state world) k)
 
+  pub puts_with_node : AreWithin (length world.nodes) world.events → puts (with_node world name writer) ≡ puts world
+  puts_with_node within = ap (λ n. puts_of n world.events) count_is ∙ puts_of-one_more (length world.nodes) world.events within
+
 -- the writer numbers with one more
 writer_before : (nodes : List Member) (m : Member) (k : ℕ) → k < length nodes → writer_at (nodes ++ m ∷ []) k ≡ writer_at nodes k
 writer_before [] m k lt = absurd (omega arith)
@@ -175,7 +178,7 @@ lawful_with_node world name writer lawful free = record {
     m = record { name = name; writer = writer }
 
     puts_are : puts (with_node world name writer) ≡ puts world
-    puts_are = ap (λ n. puts_of n world.events) (count_is world name writer) ∙ puts_of-one_more (length world.nodes) world.events lawful.within
+    puts_are = puts_with_node world name writer lawful.within
 
     owned : (e : Edit) → IsAmong e (puts world) → IsOwn (with_node world name writer) e
     owned e a =

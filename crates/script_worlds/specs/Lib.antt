@@ -1,3 +1,5 @@
+pub mod Counts
+pub mod CountsLaws
 pub mod Lawful
 pub mod LawfulLaws
 pub mod NodeLaws

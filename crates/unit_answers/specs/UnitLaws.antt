@@ -1,5 +1,5 @@
 -- Each question on units has one answer.
-use Rattle.std.proofs.Common.{◌≡◌, ℕ, List, ◌∷◌, Result, Ok, Err, sym, ap, ◌∙◌, subst}
+use Rattle.std.proofs.Common.{◌≡◌, ℕ, false, List, ◌∷◌, Result, Ok, Err, sym, ap, ◌∙◌, subst}
 use Rattle.std.specs.Prelude.{MatchResult}
 use Rattle.load_path.specs.Paths.{PathParts}
 use Rattle.edit_sums.specs.Sums.{EntryMap}
@@ -12,7 +12,7 @@ use Rattle.fragment_choice.specs.Resolutions.{resolution}
 use Rattle.fragment_choice.specs.UnitNameLaws.{one_list_of_names}
 use Rattle.dropins.specs.Taken.{IsDropIn}
 use Rattle.dropins.specs.OrderLaws.{one_order}
-use Rattle.script_commands.specs.Outcomes.{Outcome}
+use Rattle.script_commands.specs.Outcomes.{Outcome, is_spent}
 use Rattle.unit_answers.specs.Units.{IsCat, RefusesName, TellsChoice, TellsFiles, cat_text}
 
 -- the files of a unit are told in one way, or refused in one way
@@ -51,3 +51,25 @@ module _ (s : EntryMap) (a b : Outcome) where
 
 pub files_are_told_once : FilesAreToldOnce
 files_are_told_once word s a b p q = told_once s a b (name_of word) p q
+
+-- what is told of a unit's files is never that counters are spent
+pub files_spend_nothing : (word : List ℕ) (s : EntryMap) (outcome : Outcome) → TellsFiles word s outcome → is_spent outcome ≡ false
+files_spend_nothing word s outcome t = by (name_of word) t
+  where
+    choice_unspent : (main : Name) (c : Choice) → TellsChoice s main c outcome → is_spent outcome ≡ false
+    choice_unspent main choice.NotFound p = ap is_spent p
+    choice_unspent main choice.Masked p = ap is_spent p
+    choice_unspent main (choice.Fragment path) p = ap is_spent p.2
+    choice_unspent main (choice.Alias other) p = absurd p
+    choice_unspent main (choice.Bad cause) p = ap is_spent p
+
+    name_unspent : (fault : NameFault) → RefusesName fault outcome → is_spent outcome ≡ false
+    name_unspent name.Length p = ap is_spent p
+    name_unspent name.Kind p = ap is_spent p
+    name_unspent name.EmptyPrefix p = ap is_spent p
+    name_unspent (name.BadByte place) p = ap is_spent p
+    name_unspent name.Memory p = absurd p
+
+    by : (r : Result Name NameFault) → MatchResult r (λ n. TellsChoice s (resolution s n).main (resolution s n).choice outcome) (λ fault. RefusesName fault outcome) → is_spent outcome ≡ false
+    by (Ok n) p = choice_unspent (resolution s n).main (resolution s n).choice p
+    by (Err fault) p = name_unspent fault p

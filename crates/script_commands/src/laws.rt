@@ -1,0 +1,22 @@
+//! Laws of commands: each is read back from how it is written.
+ghost use Rattle.script_commands.specs.WrittenLaws.{CatIsReadBack, EmptyPutIsReadBack, FilesIsReadBack, JustItsWordsAreRead, LinkIsReadBack, MergeIsReadBack, NodeIsReadBack, PartIsReadBack, PutIsReadBack, RemoveIsReadBack, SameIsReadBack, SendIsReadBack, SweepIsReadBack};
+
+/// Each command is read back from its words with one space between each two: names as names may be, a writer number in
+/// decimal, and paths, targets and units as any words. What `put` writes is all that follows the path and one space.
+pub fn commands_read_back()
+    ensures node { NodeIsReadBack }
+    ensures put { PutIsReadBack }
+    ensures empty_put { EmptyPutIsReadBack }
+    ensures link { LinkIsReadBack }
+    ensures remove { RemoveIsReadBack }
+    ensures merge { MergeIsReadBack }
+    ensures part { PartIsReadBack }
+    ensures send { SendIsReadBack }
+    ensures sweep { SweepIsReadBack }
+    ensures files { FilesIsReadBack }
+    ensures cat { CatIsReadBack }
+    ensures same { SameIsReadBack }
+
+    // However many spaces there are, a line is a command just where it has that command's words.
+    ensures words { JustItsWordsAreRead }
+{}
