@@ -1,12 +1,16 @@
 //! What a replica asks with.
-ghost use Rattle.std.specs.Prelude.{◌≡◌, IfOk, map};
-ghost use Rattle.world_law.specs.Cuts.{digest_of};
+ghost use Rattle.std.specs.Prelude.{◌≡◌, Some, IsTrue, IfOk, OnOk, map};
+ghost use Rattle.std.specs.FinMap.{is_sorted, put};
+ghost use Rattle.load_path.specs.Paths.{path_cmp};
+ghost use Rattle.edit_sums.specs.Sums.{EntryMap};
+ghost use Rattle.world_law.specs.Cuts.{cut, digest_of, only_at};
 
 use crate::digests::Digest;
 use edit_sums::Entry;
 use join_law::{Key, Version};
 use load_path::Path;
 use replica_store::Replica;
+use sorted_pairs::seek;
 use std::alloc::{AllocError, Global};
 
 /// The digest of all that a replica holds, removals included. One pass. It fails for want of memory
@@ -27,4 +31,44 @@ fn versions_of(alloc: Global, entries: &[(Path, Entry)]) -> Result<Vec<(Path, Ve
         versions.push((path.try_clone()?, entry.version))?;
     }
     Ok(versions)
+}
+
+/// The digest of what a replica holds at these paths, which are read as a set. What is cut for it at
+/// these paths is what is cut there for the whole digest.
+///
+/// For each path a search in the store and one among the versions found before, and at most one
+/// shift of these, none where the paths rise. No other path is copied. It fails for want of memory
+/// alone.
+pub fn digest_at(alloc: Global, replica: &Replica, paths: &[Path]) -> Result<Digest, AllocError>
+    ensures digest { IfOk result (λ digest. digest ≡ digest_of (only_at paths.now replica.now.store)) }
+    ensures same_cut { IfOk result (λ digest. (s : EntryMap) → cut s digest (Some paths.now) ≡ cut s (digest_of replica.now.store) (Some paths.now)) }
+{
+    let mut versions = Vec::new(alloc);
+    for path in paths {
+        if let Some(entry) = replica.store().get(path) {
+            put_version(&mut versions, path, entry.version)?;
+        }
+    }
+    Ok(Digest::from_versions(versions))
+}
+
+// Puts a version at a path.
+fn put_version(
+    versions: &mut Vec<(Path, Version)>,
+    path: &Path,
+    version: Version,
+) -> Result<(), AllocError>
+    requires sorted { IsTrue (is_sorted path_cmp versions.old.items) }
+    ensures put { OnOk result (versions.new.items ≡ put path_cmp path.now version versions.old.items) }
+{
+    match seek(versions, path) {
+        Ok(at) => {
+            versions[at].1 = version;
+            Ok(())
+        }
+        Err(at) => {
+            versions.insert(at, (path.try_clone()?, version))?;
+            Ok(())
+        }
+    }
 }

@@ -14,7 +14,7 @@ mod newer;
 mod pieces;
 mod takes;
 
-pub use asks::digest;
+pub use asks::{digest, digest_at};
 pub use cuts::{delta_at, delta_for};
 pub use digests::Digest;
 pub use join_law::Rest;

@@ -1,13 +1,20 @@
 -- Commands between nodes: from what is kept to the outcome.
-use Rattle.std.proofs.Common.{◌≡◌, ℕ, zero, suc, ◌+◌, ◌-◌, ◌<◌, ◌≤◌, ◌==◌, Bool, true, false, cond, List, [], ◌∷◌, ◌++◌, map, length, set, get_or, Vec, Global, Option, Some, None, Result, Ok, Err, codes, refl, sym, ap, subst, ◌∙◌, arith}
-use Rattle.std.specs.Prelude.{slice_get, MatchOption, OnOk}
+use Rattle.std.proofs.Common.{◌≡◌, inl, inr, ℕ, zero, suc, ◌+◌, ◌-◌, ◌<◌, ◌≤◌, ◌==◌, Bool, true, false, cond, List, [], ◌∷◌, ◌++◌, map, length, set, get_or, Vec, Global, Option, Some, None, Result, Ok, Err, codes, refl, sym, ap, subst, ◌∙◌, arith}
+use Rattle.std.specs.Prelude.{slice_get, count_by, not, MatchOption, OnOk}
+use Rattle.std.specs.Ordering.{is_eq}
+use Rattle.std.specs.Cmp.{tied_itself}
 use Rattle.std.specs.Str.{bytes_eq}
 use Rattle.std.specs.FinMap as finmap
 use Rattle.std.proofs.lemmas.Bool.{true≢false, eq-eqb, eqb-true}
-use Rattle.std.proofs.lemmas.List.{map-append, nil_from_length}
+use Rattle.std.proofs.lemmas.List.{map-append, nil_from_length, set-get_or}
+use Rattle.std.proofs.lemmas.List.Sums.{sum_by-cons}
 use Rattle.load_path.specs.Paths.{PathParts}
 use Rattle.edit_sums.specs.SumLaws.{join-nothing, join_idem}
-use Rattle.edit_sums.specs.Sums.{EntryMap, changed_paths, sum_of, join}
+use Rattle.edit_sums.specs.declared.entries.Edit.{Edit}
+use Rattle.edit_sums.specs.declared.entries.Entry.{Entry}
+use Rattle.edit_sums.specs.EntryLaws.{entry_cmp_total}
+use Rattle.edit_sums.specs.GreatestLaws.{get_from_edits_of}
+use Rattle.edit_sums.specs.Sums.{EntryMap, IsAmong, changed_paths, edit_of, entry_of, is_other, join, sum_of}
 use Rattle.replica_store.specs.Replicas.{Replicated}
 use Rattle.world_law.specs.declared.events.Event.TheVariants.{Give}
 use Rattle.world_law.specs.Cuts.{VersionMap, cut, digest_of}
@@ -21,6 +28,25 @@ use Rattle.fleet_script.proofs.Goes.{Told}
 use Rattle.fleet_script.proofs.Nodes.{at_place, get_or_any, get_or_here, get_or_there, get_or_twice, holds_merge, holds_part, holds_send, length_set, set_twice, slice_get_at}
 
 -- ---- merging two nodes
+
+-- what stays as it is has no other path
+none_other : (s : EntryMap) (es : List (PathParts × Entry)) → ((e : Edit) → IsAmong e (map edit_of es) → finmap.get s e.path ≡ Some (entry_of e)) → count_by (λ p. is_other (finmap.get s p.0) p.1) es ≡ 0
+none_other s [] held = refl
+none_other s (p ∷ ps) held =
+    let same : is_other (finmap.get s p.0) p.1 ≡ false = ap (λ y. is_other y p.1) (held (edit_of p) (inl refl)) ∙ ap (λ r. not (is_eq r)) (tied_itself entry_cmp_total p.1) in
+    sum_by-cons _ p ps ∙ (λ i. cond (same i) 1 0 + none_other s ps (λ e a. held e (inr a)) i)
+
+pub none_changed : (s : EntryMap) → 0 ≡ changed_paths s s
+none_changed s = sym (none_other s (finmap.entries s) (λ e a. get_from_edits_of e s a))
+
+-- a node has all that it holds
+pub joined_itself : (shell : Keeps) (from to : ℕ) → from ≡ to → IsJoinedAt shell from to shell
+joined_itself shell from to same d =
+    let node = get_or shell.nodes to d in
+    let whole : joined_with node (get_or shell.nodes from d) ≡ node =
+    (λ i. record node { store = join node.store (get_or shell.nodes (same i) d).store }) ∙ (λ i. record node { store = join_idem node.store i })
+    in
+    λ i. record shell { nodes = sym (ap (set shell.nodes to) whole ∙ set-get_or shell.nodes to d) i }
 
 module _ (nodes : List Replicated) (from to : ℕ) (lt_from : from < length nodes) (lt_to : to < length nodes) (r : Replicated) (is : r ≡ get_or nodes to r) (empty : Replicated) (nothing : empty.store ≡ sum_of []) where
   -- the other store, unless it is the one that was taken out

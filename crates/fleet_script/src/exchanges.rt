@@ -10,7 +10,7 @@ ghost use Rattle.fleet_script.specs.Does.{if_any};
 ghost use Rattle.fleet_script.specs.Holds.{Continues, Executes, IsJoinedAt, kept_in};
 
 use crate::states::Shell;
-use delta_pieces::{Piece, delta_at, delta_for, digest};
+use delta_pieces::{Piece, delta_at, delta_for, digest, digest_at};
 use load_path::{Bytes, Path};
 use replica_store::Replica;
 use script_answers::{merge_done, part_done};
@@ -75,7 +75,8 @@ impl Shell {
 }
 
 impl Shell {
-    // Joins the store of one node into that of another, and answers how many paths changed. A node has all that it holds.
+    // Joins the store of one node into that of another, and answers how many paths changed. A node
+    // has all that it holds, so it is not joined into itself.
     fn merge_nodes(&mut self, alloc: Global, from: usize, to: usize) -> Result<u64, AllocError>
         requires from_within { from < vec_len self.old.nodes }
         requires to_within { to < vec_len self.old.nodes }
@@ -84,6 +85,9 @@ impl Shell {
             (slice_index_or self.old.nodes.items to d).store (slice_index_or self.new.nodes.items to d).store) }
         ensures count { vec_len self.new.nodes ≡ vec_len self.old.nodes }
     {
+        if from == to {
+            return Ok(0);
+        }
         // Taken out, so that both can be borrowed at once.
         let mut taken = mem::replace(&mut self.nodes[to], Replica::new(alloc, 0));
         let outcome = taken.merge(self.nodes[from].store());
@@ -113,7 +117,8 @@ impl Shell {
         Ok(())
     }
 
-    // What one node cuts for the ask of another, at these paths, or at all where none are given.
+    // What one node cuts for the ask of another, at these paths, or at all where none are given. The
+    // versions at the paths are asked with, and no others.
     fn cut(
         &self,
         alloc: Global,
@@ -126,11 +131,11 @@ impl Shell {
         ensures cut { IfOk result (λ piece. (d : Replicated) → piece ≡ cut (slice_index_or self.now.nodes.items from d).store
             (digest_of (slice_index_or self.now.nodes.items to d).store) (if_any paths.now)) }
     {
-        let asked = digest(alloc, &self.nodes[to])?;
         if paths.is_empty() {
-            delta_for(alloc, &self.nodes[from], &asked)
-        } else {
-            delta_at(alloc, &self.nodes[from], &asked, paths)
+            let asked = digest(alloc, &self.nodes[to])?;
+            return delta_for(alloc, &self.nodes[from], &asked);
         }
+        let asked = digest_at(alloc, &self.nodes[to], paths)?;
+        delta_at(alloc, &self.nodes[from], &asked, paths)
     }
 }

@@ -4,6 +4,7 @@ ghost use Rattle.std.specs.List.{flat_map};
 ghost use Rattle.script_answers.specs.Texts.{refusal_name, refusal_values, error_line, ok_line, changed_line, entries_line, entry_line, files_text, content_text, version_text};
 
 use edit_sums::{Content, Entry};
+use itoa::Buffer;
 use join_law::Version;
 use load_path::Path;
 use replica_store::Store;
@@ -92,7 +93,7 @@ pub fn part_done(alloc: Global, entries: usize) -> Result<Vec<u8>, AllocError>
 }
 
 // Appends a content's words.
-fn append_content(alloc: Global, out: &mut Vec<u8>, content: &Content) -> Result<(), AllocError>
+fn append_content(out: &mut Vec<u8>, content: &Content) -> Result<(), AllocError>
     ensures appended { OnOk result (out.new.items ≡ out.old.items ++ content_text content.now) }
 {
     match content {
@@ -102,46 +103,44 @@ fn append_content(alloc: Global, out: &mut Vec<u8>, content: &Content) -> Result
             out.extend_from_slice(target.bytes())
         }
         Content::File(file) => {
-            let len = file.bytes().len();
-            out.extend_from_slice(format!(in alloc; "file {len}")?.as_bytes())
+            let mut digits = Buffer::new();
+            out.extend_from_slice(b"file ")?;
+            out.extend_from_slice(digits.format(file.bytes().len()).as_bytes())
         }
     }
 }
 
 // Appends a version's numbers.
-fn append_version(alloc: Global, out: &mut Vec<u8>, version: Version) -> Result<(), AllocError>
+fn append_version(out: &mut Vec<u8>, version: Version) -> Result<(), AllocError>
     ensures appended { OnOk result (out.new.items ≡ out.old.items ++ version_text version) }
 {
-    let counter = version.counter;
-    let writer = version.writer;
-    out.extend_from_slice(format!(in alloc; "{counter}.{writer}")?.as_bytes())
+    let mut digits = Buffer::new();
+    out.extend_from_slice(digits.format(version.counter).as_bytes())?;
+    out.push(b'.')?;
+    out.extend_from_slice(digits.format(version.writer).as_bytes())
 }
 
 // Appends the line of an entry.
-fn append_entry(
-    alloc: Global,
-    out: &mut Vec<u8>,
-    path: &Path,
-    entry: &Entry,
-) -> Result<(), AllocError>
+fn append_entry(out: &mut Vec<u8>, path: &Path, entry: &Entry) -> Result<(), AllocError>
     ensures appended { OnOk result (out.new.items ≡ out.old.items ++ entry_line (path.now, entry.now)) }
 {
     path.append_to(out)?;
     out.push(b' ')?;
-    append_version(alloc, out, entry.version)?;
+    append_version(out, entry.version)?;
     out.push(b' ')?;
-    append_content(alloc, out, &entry.content)?;
+    append_content(out, &entry.content)?;
     out.push(b'\n')?;
     Ok(())
 }
 
-/// All that a store holds, a line for each entry, in path order. Linear in what is written.
+/// All that a store holds, a line for each entry, in path order. Linear in what is written; no
+/// number takes memory of its own.
 pub fn files_of(alloc: Global, store: &Store) -> Result<Vec<u8>, AllocError>
     ensures lines { IfOk result (λ text. text.items ≡ files_text store.now) }
 {
     let mut out = Vec::new(alloc);
     for (path, entry) in store.entries() {
-        append_entry(alloc, &mut out, path, entry)?;
+        append_entry(&mut out, path, entry)?;
     }
     out.extend_from_slice(b"end\n")?;
     Ok(out)

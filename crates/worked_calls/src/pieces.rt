@@ -2,7 +2,7 @@
 use crate::calls::{CallFault, Words, append_path};
 use crate::edits::{append_store, append_version, edits, paths, told};
 use crate::stores::changed;
-use delta_pieces::{Digest, Piece, delta_at, delta_for, digest, take};
+use delta_pieces::{Digest, Piece, delta_at, delta_for, digest, digest_at, take};
 use replica_store::Replica;
 use std::alloc::{AllocError, Global};
 
@@ -25,6 +25,7 @@ pub fn answer_digest(alloc: Global, words: &mut Words) -> Result<Vec<u8>, CallFa
     match words.word()? {
         b"of" => versions(alloc, &asked(alloc, words)?),
         b"copy" => versions(alloc, &asked(alloc, words)?.try_clone()?),
+        b"at" => versions_at(alloc, words),
         b"get" => version_at(alloc, words),
         _ => Err(CallFault::Line),
     }
@@ -115,6 +116,13 @@ fn taken(alloc: Global, words: &mut Words) -> Result<Vec<u8>, CallFault> {
     let mut replica = holder(alloc, words)?;
     let count = took(&mut replica, piece(alloc, words)?)?;
     changed(alloc, count, replica.store())
+}
+
+// The digest of a replica at some paths.
+fn versions_at(alloc: Global, words: &mut Words) -> Result<Vec<u8>, CallFault> {
+    let paths = paths(alloc, words)?;
+    let held = holder(alloc, words)?;
+    versions(alloc, &digest_at(alloc, &held, &paths)?)
 }
 
 // The version of a digest at a path.
