@@ -14,7 +14,8 @@ use Rattle.edit_sums.specs.declared.entries.Edit.{Edit}
 use Rattle.edit_sums.specs.declared.entries.Entry.{Entry}
 use Rattle.edit_sums.specs.EntryLaws.{entry_cmp_total}
 use Rattle.edit_sums.specs.GreatestLaws.{get_from_edits_of}
-use Rattle.edit_sums.specs.Sums.{EntryMap, IsAmong, changed_paths, edit_of, entry_of, is_other, join, sum_of}
+use Rattle.list_laws.specs.Members.{IsAmong}
+use Rattle.edit_sums.specs.Sums.{EntryMap, changed_paths, edit_of, entry_of, is_other, join, sum_of}
 use Rattle.replica_store.specs.Replicas.{Replicated}
 use Rattle.world_law.specs.declared.events.Event.TheVariants.{Give}
 use Rattle.world_law.specs.Cuts.{VersionMap, cut, digest_of}

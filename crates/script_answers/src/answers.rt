@@ -4,12 +4,12 @@ ghost use Rattle.std.specs.List.{flat_map};
 ghost use Rattle.script_answers.specs.Texts.{refusal_name, refusal_values, error_line, ok_line, changed_line, entries_line, entry_line, files_text, content_text, version_text};
 
 use edit_sums::{Content, Entry};
-use itoa::Buffer;
 use join_law::Version;
 use load_path::Path;
 use replica_store::Store;
 use script_commands::Refusal;
 use std::alloc::{AllocError, Global};
+use std::fmt::Write;
 
 // The code and the name of a refusal.
 fn name_of(refusal: &Refusal) -> &'static [u8]
@@ -92,8 +92,12 @@ pub fn part_done(alloc: Global, entries: usize) -> Result<Vec<u8>, AllocError>
     Ok(format!(in alloc; "entries {entries}\n")?.into_bytes())
 }
 
-// Appends a content's words.
-fn append_content(out: &mut Vec<u8>, content: &Content) -> Result<(), AllocError>
+// Appends a content's words. The scratch is room for numbers.
+fn append_content(
+    out: &mut Vec<u8>,
+    scratch: &mut String,
+    content: &Content,
+) -> Result<(), AllocError>
     ensures appended { OnOk result (out.new.items ≡ out.old.items ++ content_text content.now) }
 {
     match content {
@@ -103,44 +107,56 @@ fn append_content(out: &mut Vec<u8>, content: &Content) -> Result<(), AllocError
             out.extend_from_slice(target.bytes())
         }
         Content::File(file) => {
-            let mut digits = Buffer::new();
-            out.extend_from_slice(b"file ")?;
-            out.extend_from_slice(digits.format(file.bytes().len()).as_bytes())
+            let len = file.bytes().len();
+            scratch.clear();
+            write!(scratch, "file {len}")?;
+            out.extend_from_slice(scratch.as_bytes())
         }
     }
 }
 
-// Appends a version's numbers.
-fn append_version(out: &mut Vec<u8>, version: Version) -> Result<(), AllocError>
+// Appends a version's numbers. The scratch is room for them.
+fn append_version(
+    out: &mut Vec<u8>,
+    scratch: &mut String,
+    version: Version,
+) -> Result<(), AllocError>
     ensures appended { OnOk result (out.new.items ≡ out.old.items ++ version_text version) }
 {
-    let mut digits = Buffer::new();
-    out.extend_from_slice(digits.format(version.counter).as_bytes())?;
-    out.push(b'.')?;
-    out.extend_from_slice(digits.format(version.writer).as_bytes())
+    let counter = version.counter;
+    let writer = version.writer;
+    scratch.clear();
+    write!(scratch, "{counter}.{writer}")?;
+    out.extend_from_slice(scratch.as_bytes())
 }
 
 // Appends the line of an entry.
-fn append_entry(out: &mut Vec<u8>, path: &Path, entry: &Entry) -> Result<(), AllocError>
+fn append_entry(
+    out: &mut Vec<u8>,
+    scratch: &mut String,
+    path: &Path,
+    entry: &Entry,
+) -> Result<(), AllocError>
     ensures appended { OnOk result (out.new.items ≡ out.old.items ++ entry_line (path.now, entry.now)) }
 {
     path.append_to(out)?;
     out.push(b' ')?;
-    append_version(out, entry.version)?;
+    append_version(out, scratch, entry.version)?;
     out.push(b' ')?;
-    append_content(out, &entry.content)?;
+    append_content(out, scratch, &entry.content)?;
     out.push(b'\n')?;
     Ok(())
 }
 
-/// All that a store holds, a line for each entry, in path order. Linear in what is written; no
-/// number takes memory of its own.
+/// All that a store holds, a line for each entry, in path order. Linear in what is written; all
+/// numbers share one piece of memory.
 pub fn files_of(alloc: Global, store: &Store) -> Result<Vec<u8>, AllocError>
     ensures lines { IfOk result (λ text. text.items ≡ files_text store.now) }
 {
     let mut out = Vec::new(alloc);
+    let mut scratch = String::new(alloc);
     for (path, entry) in store.entries() {
-        append_entry(&mut out, path, entry)?;
+        append_entry(&mut out, &mut scratch, path, entry)?;
     }
     out.extend_from_slice(b"end\n")?;
     Ok(out)

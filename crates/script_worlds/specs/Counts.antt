@@ -1,7 +1,8 @@
 -- How high the counters of a world are.
 use Rattle.std.specs.Prelude.{ℕ, ◌≤◌}
 use Rattle.edit_sums.specs.declared.entries.Edit.{Edit}
-use Rattle.edit_sums.specs.Sums.{IsAmong, high_of}
+use Rattle.edit_sums.specs.Sums.{high_of}
+use Rattle.list_laws.specs.Members.{IsAmong}
 use Rattle.script_worlds.specs.Worlds.{World, held}
 use Rattle.script_worlds.specs.Lawful.{puts}
 

@@ -4,7 +4,8 @@ use Rattle.std.specs.Prelude.{slice_get}
 use Rattle.load_path.specs.Paths.{PathParts}
 use Rattle.edit_sums.specs.declared.contents.Content.{Content}
 use Rattle.edit_sums.specs.declared.entries.Edit.{Edit}
-use Rattle.edit_sums.specs.Sums.{IsAmong, IsHonest, high_of}
+use Rattle.edit_sums.specs.Sums.{IsHonest, high_of}
+use Rattle.list_laws.specs.Members.{IsAmong}
 use Rattle.edit_sums.specs.CounterLaws.{high_among-least, high_of-sum_of}
 use Rattle.world_law.specs.declared.events.Event.{Event}
 use Rattle.world_law.specs.declared.events.Event.TheVariants.{Put}
