@@ -1,5 +1,5 @@
 -- Laws of whole scripts: one list of answers, of which a fault leaves a front, lawful worlds, and counters that are never spent.
-use Rattle.std.proofs.Common.{◌≡◌, ℕ, zero, suc, ◌+◌, ◌≤◌, ◌==◌, Bool, true, false, Result, Ok, Err, List, [], ◌∷◌, ◌++◌, length, take, nat_lt, refl, sym, ap, subst, ◌∙◌, append_assoc, cond, arith}
+use Rattle.std.proofs.Common.{◌≡◌, ◌⊎◌, inl, inr, ℕ, zero, suc, ◌+◌, ◌≤◌, ◌==◌, Bool, true, false, Result, Ok, Err, List, [], ◌∷◌, ◌++◌, length, take, nat_lt, refl, sym, ap, subst, ◌∙◌, append_assoc, cond, arith}
 use Rattle.std.specs.Prelude.{MatchResult}
 use Rattle.std.specs.Bool.{MatchBool}
 use Rattle.std.specs.List.{slice_split}
@@ -10,11 +10,13 @@ use Rattle.std.proofs.lemmas.List.Splits.{length-slice_split}
 use Rattle.std.proofs.lemmas.List.Sums.{count_by-le-length}
 use Rattle.edit_sums.specs.Sums.{high_of}
 use Rattle.script_words.specs.Lines.{lines_of, is_passed_over}
+use Rattle.script_words.specs.Words.{words_of}
 use Rattle.script_commands.specs.declared.commands.Command.{Command}
 use Rattle.script_commands.specs.declared.commands.Refusal.{Refusal}
-use Rattle.script_commands.specs.declared.commands.Refusal.TheVariants.{LineTooLong, VersionsSpent}
+use Rattle.script_commands.specs.declared.commands.Refusal.TheVariants.{Arguments, LineTooLong, UnknownCommand, VersionsSpent}
 use Rattle.script_commands.specs.Commands.{command_of}
-use Rattle.script_commands.specs.Outcomes.{Outcome}
+use Rattle.script_commands.specs.WrittenLaws.{BeginsWithVerb, others_are_refused}
+use Rattle.script_commands.specs.Outcomes.{Outcome, is_spent}
 use Rattle.script_answers.specs.Texts.{error_line, outcome_text}
 use Rattle.script_worlds.specs.Counts.{IsPutUpTo}
 use Rattle.script_worlds.specs.CountsLaws.{counted, put_blank}
@@ -22,7 +24,7 @@ use Rattle.script_worlds.specs.Worlds.{World, blank, held}
 use Rattle.script_worlds.specs.Lawful.{IsLawful}
 use Rattle.script_worlds.specs.LawfulLaws.{lawful_blank}
 use Rattle.fleet_script.specs.Does.{Does, Refuses}
-use Rattle.fleet_script.specs.ScriptLaws.{CountersAreLines, FrontsAreOfTheWhole, VersionsAreNeverSpent}
+use Rattle.fleet_script.specs.ScriptLaws.{CountersAreLines, FrontsAreOfTheWhole, NoLineIsRefusedForVersions, VersionsAreNeverSpent}
 use Rattle.fleet_script.specs.Scripts.{Answers, AnswersCommand, AnswersLine, Run, Says}
 use Rattle.fleet_script.proofs.StepKinds.{Follows, HasCounters, does, refused_once, stays}
 
@@ -133,3 +135,17 @@ versions_are_never_spent script k written world command new short r spent =
     let count = counters_are_lines lines written world r in
     let free : HasCounters world = λ j. ne_eqb (high_of (held world j)) 18446744073709551615 (λ same. let most = count.stores j in omega arith) in
     true≢false ((does world command).unspent free (Err VersionsSpent) new spent)
+
+pub no_line_is_refused_for_versions : NoLineIsRefusedForVersions
+no_line_is_refused_for_versions script k written world line answer new short r answered same = by (command_of line) refl answered.2
+  where
+    by : (c : Result Command Refusal) → command_of line ≡ c → MatchResult c (λ command. Does world command answered.0 new) (λ refusal. Refuses world refusal answered.0 new) → ⊥
+    by (Ok command) is d = versions_are_never_spent script k written world command new short r (subst (λ (o : Outcome). Does world command o new) same d)
+    by (Err refusal) is d = other (others_are_refused line refusal is)
+      where
+        spent : is_spent (Err refusal) ≡ true
+        spent = sym (ap is_spent d.outcome_is) ∙ ap is_spent same
+
+        other : (BeginsWithVerb (words_of line) × (refusal ≡ Arguments)) ⊎ ((BeginsWithVerb (words_of line) → ⊥) × (refusal ≡ UnknownCommand)) → ⊥
+        other (inl why) = true≢false (sym spent ∙ ap (λ (f : Refusal). is_spent (Err f)) why.1)
+        other (inr why) = true≢false (sym spent ∙ ap (λ (f : Refusal). is_spent (Err f)) why.1)

@@ -6,7 +6,7 @@ use Rattle.script_commands.specs.declared.commands.Refusal.TheVariants.{Versions
 use Rattle.script_worlds.specs.Counts.{IsCountedTo}
 use Rattle.script_worlds.specs.Worlds.{World, blank}
 use Rattle.fleet_script.specs.Does.{Does}
-use Rattle.fleet_script.specs.Scripts.{Answers, AnswersFront, Run}
+use Rattle.fleet_script.specs.Scripts.{Answers, AnswersCommand, AnswersFront, Run}
 
 -- a front of the answers to a script's first lines is a front of the answers to the whole script, if it has some
 abbrev pub FrontsAreOfTheWhole : Type 0
@@ -22,3 +22,9 @@ CountersAreLines = (lines : List (List ℕ)) (written : List ℕ) (world : World
 abbrev pub VersionsAreNeverSpent : Type 0
 VersionsAreNeverSpent = (script : List ℕ) (k : ℕ) (written : List ℕ) (world : World) (command : Command) (new : World)
     → length script ≤ 16777216 → Run blank (take k (lines_of script)) written world → Does world command (Err VersionsSpent) new → ⊥
+
+-- and so no line is answered by that refusal, whatever it holds
+abbrev pub NoLineIsRefusedForVersions : Type 0
+NoLineIsRefusedForVersions = (script : List ℕ) (k : ℕ) (written : List ℕ) (world : World) (line answer : List ℕ) (new : World)
+    → length script ≤ 16777216 → Run blank (take k (lines_of script)) written world
+    → (answered : AnswersCommand world line answer new) → answered.0 ≡ Err VersionsSpent → ⊥

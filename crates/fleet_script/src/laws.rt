@@ -3,7 +3,7 @@ ghost use Rattle.std.specs.Prelude.{◌≡◌, ℕ, List, slice_get};
 ghost use Rattle.edit_sums.specs.Sums.{IsHonest};
 ghost use Rattle.world_law.specs.Worlds as worlds;
 ghost use Rattle.fleet_script.specs.Scripts.{Answers, Run};
-ghost use Rattle.fleet_script.specs.ScriptLaws.{CountersAreLines, FrontsAreOfTheWhole, VersionsAreNeverSpent};
+ghost use Rattle.fleet_script.specs.ScriptLaws.{CountersAreLines, FrontsAreOfTheWhole, NoLineIsRefusedForVersions, VersionsAreNeverSpent};
 ghost use Rattle.script_worlds.specs.Worlds.{World, blank, held, state};
 ghost use Rattle.script_worlds.specs.Lawful.{puts};
 
@@ -31,4 +31,5 @@ pub fn scripts_are_honest()
 pub fn counters_never_spent()
     ensures counters { CountersAreLines }
     ensures unspent { VersionsAreNeverSpent }
+    ensures lines { NoLineIsRefusedForVersions }
 {}

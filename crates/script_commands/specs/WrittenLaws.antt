@@ -1,5 +1,5 @@
 -- A command is read back from how it is written: its words, with one space between each two.
-use Rattle.std.proofs.Common.{◌≡◌, ◌≢◌, ◌<◌, ◌≤◌, ◌^◌, ℕ, Bool, true, false, ◌&&◌, List, [], ◌∷◌, ◌++◌, length, Option, Some, None, Result, Ok, Err, cond, codes, refl, sym, ap, subst, ◌∙◌, append_assoc, arith, rules}
+use Rattle.std.proofs.Common.{◌≡◌, ◌≢◌, ◌⊎◌, inl, inr, ◌<◌, ◌≤◌, ◌^◌, ℕ, Bool, true, false, ◌&&◌, List, [], ◌∷◌, ◌++◌, length, Option, Some, None, Result, Ok, Err, cond, codes, refl, sym, ap, subst, ◌∙◌, append_assoc, arith, rules}
 use Rattle.std.specs.Prelude.{◌↔◌, nat_lt}
 use Rattle.std.specs.Char.{is_ascii_alphanumeric, is_ascii_digit}
 use Rattle.std.specs.Fmt.{decimal}
@@ -103,6 +103,25 @@ AreWordsOf (Same left right) words line = (words ≡ codes "same" ∷ left ∷ r
 -- a line is read as a command just where it has that command's words
 abbrev pub JustItsWordsAreRead : Type 0
 JustItsWordsAreRead = (line : List ℕ) (command : Command) → (command_of line ≡ Ok command) ↔ AreWordsOf command (words_of line) line
+
+-- the words that name commands
+abbrev pub verbs : List (List ℕ)
+verbs = codes "node" ∷ codes "put" ∷ codes "link" ∷ codes "remove" ∷ codes "merge" ∷ codes "part" ∷ codes "send" ∷ codes "sweep" ∷ codes "files" ∷ codes "cat" ∷ codes "same" ∷ []
+
+-- the word is one of these
+abbrev pub IsOneOf : List ℕ → List (List ℕ) → Type 0
+IsOneOf word [] = ⊥
+IsOneOf word (other ∷ others) = (word ≡ other) ⊎ IsOneOf word others
+
+-- the first word names a command
+abbrev pub BeginsWithVerb : List (List ℕ) → Type 0
+BeginsWithVerb [] = ⊥
+BeginsWithVerb (word ∷ words) = IsOneOf word verbs
+
+-- a line that is no command is refused for what follows a word that names one, or because its first word names none
+abbrev pub OthersAreRefused : Type 0
+OthersAreRefused = (line : List ℕ) (refusal : Refusal) → command_of line ≡ Err refusal
+    → (BeginsWithVerb (words_of line) × (refusal ≡ Arguments)) ⊎ ((BeginsWithVerb (words_of line) → ⊥) × (refusal ≡ UnknownCommand))
 
 -- ---- words of a line
 
@@ -370,3 +389,122 @@ read_as (Same left right) words line (same, is, and) = ap (λ v. command_of_word
 
 pub just_its_words_are_read : JustItsWordsAreRead
 just_its_words_are_read line command = (λ e. read_words_of command line (words_of line) e, λ are. read_as command (words_of line) line are)
+
+-- ---- why a line is no command
+
+same_refusal : (r other : Refusal) → ◌≡◌ {A = Result Command Refusal} (Err other) (Err r) → r ≡ other
+same_refusal r other e = cc
+
+done : (c : Command) (r : Refusal) → ◌≡◌ {A = Result Command Refusal} (Ok c) (Err r) → ⊥
+done c r e = cc
+
+refused_where : (t : Bool) (command : Command) (r : Refusal) → ◌≡◌ {A = Result Command Refusal} (cond t (Ok command) (Err Arguments)) (Err r) → r ≡ Arguments
+refused_where true command r e = absurd (done command r e)
+refused_where false command r e = same_refusal r Arguments e
+
+module _ (r : Refusal) (line : List ℕ) where
+  node_refused : (words : List (List ℕ)) → node_of words ≡ Err r → r ≡ Arguments
+  node_refused [] e = same_refusal r Arguments e
+  node_refused (name ∷ []) e = same_refusal r Arguments e
+  node_refused (name ∷ number ∷ []) e = by (number_of number) e
+    where
+      by : (o : Option ℕ) → node_with name o ≡ Err r → r ≡ Arguments
+      by None e = same_refusal r Arguments e
+      by (Some writer) e = refused_where (is_name name) (Node name writer) r e
+  node_refused (name ∷ number ∷ word ∷ words) e = same_refusal r Arguments e
+
+  put_refused : (words : List (List ℕ)) → put_of words (text_after 3 line) ≡ Err r → r ≡ Arguments
+  put_refused [] e = same_refusal r Arguments e
+  put_refused (node ∷ []) e = same_refusal r Arguments e
+  put_refused (node ∷ path ∷ rest) e = refused_where (is_name node) (Put node path (text_after 3 line)) r e
+
+  link_refused : (words : List (List ℕ)) → link_of words ≡ Err r → r ≡ Arguments
+  link_refused [] e = same_refusal r Arguments e
+  link_refused (node ∷ []) e = same_refusal r Arguments e
+  link_refused (node ∷ path ∷ []) e = same_refusal r Arguments e
+  link_refused (node ∷ path ∷ target ∷ []) e = refused_where (is_name node) (Link node path target) r e
+  link_refused (node ∷ path ∷ target ∷ word ∷ words) e = same_refusal r Arguments e
+
+  remove_refused : (words : List (List ℕ)) → remove_of words ≡ Err r → r ≡ Arguments
+  remove_refused [] e = same_refusal r Arguments e
+  remove_refused (node ∷ []) e = same_refusal r Arguments e
+  remove_refused (node ∷ path ∷ []) e = refused_where (is_name node) (Remove node path) r e
+  remove_refused (node ∷ path ∷ word ∷ words) e = same_refusal r Arguments e
+
+  merge_refused : (words : List (List ℕ)) → merge_of words ≡ Err r → r ≡ Arguments
+  merge_refused [] e = same_refusal r Arguments e
+  merge_refused (from ∷ []) e = same_refusal r Arguments e
+  merge_refused (from ∷ to ∷ []) e = refused_where (is_name from && is_name to) (Merge from to) r e
+  merge_refused (from ∷ to ∷ word ∷ words) e = same_refusal r Arguments e
+
+  part_refused : (words : List (List ℕ)) → part_of words ≡ Err r → r ≡ Arguments
+  part_refused [] e = same_refusal r Arguments e
+  part_refused (piece ∷ []) e = same_refusal r Arguments e
+  part_refused (piece ∷ from ∷ []) e = same_refusal r Arguments e
+  part_refused (piece ∷ from ∷ to ∷ paths) e = refused_where (is_name piece && is_name from && is_name to) (Part piece from to paths) r e
+
+  send_refused : (words : List (List ℕ)) → send_of words ≡ Err r → r ≡ Arguments
+  send_refused [] e = same_refusal r Arguments e
+  send_refused (piece ∷ []) e = same_refusal r Arguments e
+  send_refused (piece ∷ node ∷ []) e = refused_where (is_name piece && is_name node) (Send piece node) r e
+  send_refused (piece ∷ node ∷ word ∷ words) e = same_refusal r Arguments e
+
+  sweep_refused : (words : List (List ℕ)) → sweep_of words ≡ Err r → r ≡ Arguments
+  sweep_refused [] e = absurd (done Sweep r e)
+  sweep_refused (word ∷ words) e = same_refusal r Arguments e
+
+  files_refused : (words : List (List ℕ)) → files_of words ≡ Err r → r ≡ Arguments
+  files_refused [] e = same_refusal r Arguments e
+  files_refused (node ∷ []) e = refused_where (is_name node) (Files node) r e
+  files_refused (node ∷ word ∷ words) e = same_refusal r Arguments e
+
+  cat_refused : (words : List (List ℕ)) → cat_of words ≡ Err r → r ≡ Arguments
+  cat_refused [] e = same_refusal r Arguments e
+  cat_refused (node ∷ []) e = same_refusal r Arguments e
+  cat_refused (node ∷ unit ∷ []) e = refused_where (is_name node) (Cat node unit) r e
+  cat_refused (node ∷ unit ∷ word ∷ words) e = same_refusal r Arguments e
+
+  same_refused : (words : List (List ℕ)) → same_of words ≡ Err r → r ≡ Arguments
+  same_refused [] e = same_refusal r Arguments e
+  same_refused (left ∷ []) e = same_refusal r Arguments e
+  same_refused (left ∷ right ∷ []) e = refused_where (is_name left && is_name right) (Same left right) r e
+  same_refused (left ∷ right ∷ word ∷ words) e = same_refusal r Arguments e
+
+  abbrev IsWhy : List ℕ → List (List ℕ) → Type 0
+  IsWhy verb names = (IsOneOf verb names × (r ≡ Arguments)) ⊎ ((IsOneOf verb names → ⊥) × (r ≡ UnknownCommand))
+
+  refused_at : (verb name : List ℕ) (names : List (List ℕ)) (here later : Result Command Refusal) → ◌≡◌ {A = Result Command Refusal} (cond (bytes_eq verb name) here later) (Err r)
+      → (here ≡ Err r → r ≡ Arguments) → (later ≡ Err r → IsWhy verb names) → IsWhy verb (name ∷ names)
+  refused_at verb name names here later e is other = by (bytes_eq verb name) refl e
+    where
+      more : bytes_eq verb name ≡ false → IsWhy verb names → IsWhy verb (name ∷ names)
+      more apart (inl why) = inl (inr why.0, why.1)
+      more apart (inr why) = inr (none, why.1)
+        where
+          none : (verb ≡ name) ⊎ IsOneOf verb names → ⊥
+          none (inl same) = true≢false (sym ((bytes_eq-Decides verb name).1 same) ∙ apart)
+          none (inr one) = why.0 one
+
+      by : (b : Bool) → bytes_eq verb name ≡ b → ◌≡◌ {A = Result Command Refusal} (cond b here later) (Err r) → IsWhy verb (name ∷ names)
+      by true same e = inl (inl ((bytes_eq-Decides verb name).0 same), is e)
+      by false apart e = more apart (other e)
+
+  why_refused : (words : List (List ℕ)) → command_of_words words line ≡ Err r
+      → (BeginsWithVerb words × (r ≡ Arguments)) ⊎ ((BeginsWithVerb words → ⊥) × (r ≡ UnknownCommand))
+  why_refused [] e = inr (λ none. none, same_refusal r UnknownCommand e)
+  why_refused (verb ∷ words) e =
+      refused_at verb (codes "node") (codes "put" ∷ codes "link" ∷ codes "remove" ∷ codes "merge" ∷ codes "part" ∷ codes "send" ∷ codes "sweep" ∷ codes "files" ∷ codes "cat" ∷ codes "same" ∷ []) (node_of words) _ e (node_refused words) (λ e0.
+      refused_at verb (codes "put") (codes "link" ∷ codes "remove" ∷ codes "merge" ∷ codes "part" ∷ codes "send" ∷ codes "sweep" ∷ codes "files" ∷ codes "cat" ∷ codes "same" ∷ []) (put_of words (text_after 3 line)) _ e0 (put_refused words) (λ e1.
+      refused_at verb (codes "link") (codes "remove" ∷ codes "merge" ∷ codes "part" ∷ codes "send" ∷ codes "sweep" ∷ codes "files" ∷ codes "cat" ∷ codes "same" ∷ []) (link_of words) _ e1 (link_refused words) (λ e2.
+      refused_at verb (codes "remove") (codes "merge" ∷ codes "part" ∷ codes "send" ∷ codes "sweep" ∷ codes "files" ∷ codes "cat" ∷ codes "same" ∷ []) (remove_of words) _ e2 (remove_refused words) (λ e3.
+      refused_at verb (codes "merge") (codes "part" ∷ codes "send" ∷ codes "sweep" ∷ codes "files" ∷ codes "cat" ∷ codes "same" ∷ []) (merge_of words) _ e3 (merge_refused words) (λ e4.
+      refused_at verb (codes "part") (codes "send" ∷ codes "sweep" ∷ codes "files" ∷ codes "cat" ∷ codes "same" ∷ []) (part_of words) _ e4 (part_refused words) (λ e5.
+      refused_at verb (codes "send") (codes "sweep" ∷ codes "files" ∷ codes "cat" ∷ codes "same" ∷ []) (send_of words) _ e5 (send_refused words) (λ e6.
+      refused_at verb (codes "sweep") (codes "files" ∷ codes "cat" ∷ codes "same" ∷ []) (sweep_of words) _ e6 (sweep_refused words) (λ e7.
+      refused_at verb (codes "files") (codes "cat" ∷ codes "same" ∷ []) (files_of words) _ e7 (files_refused words) (λ e8.
+      refused_at verb (codes "cat") (codes "same" ∷ []) (cat_of words) _ e8 (cat_refused words) (λ e9.
+      refused_at verb (codes "same") ([]) (same_of words) _ e9 (same_refused words) (λ e10.
+      inr (λ none. none, same_refusal r UnknownCommand e10))))))))))))
+
+pub others_are_refused : OthersAreRefused
+others_are_refused line refusal e = why_refused refusal line (words_of line) e

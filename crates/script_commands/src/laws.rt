@@ -1,5 +1,5 @@
 //! Laws of commands: each is read back from how it is written.
-ghost use Rattle.script_commands.specs.WrittenLaws.{CatIsReadBack, EmptyPutIsReadBack, FilesIsReadBack, JustItsWordsAreRead, LinkIsReadBack, MergeIsReadBack, NodeIsReadBack, PartIsReadBack, PutIsReadBack, RemoveIsReadBack, SameIsReadBack, SendIsReadBack, SweepIsReadBack};
+ghost use Rattle.script_commands.specs.WrittenLaws.{CatIsReadBack, EmptyPutIsReadBack, FilesIsReadBack, JustItsWordsAreRead, LinkIsReadBack, MergeIsReadBack, NodeIsReadBack, OthersAreRefused, PartIsReadBack, PutIsReadBack, RemoveIsReadBack, SameIsReadBack, SendIsReadBack, SweepIsReadBack};
 
 /// Each command is read back from its words with one space between each two: names as names may be, a writer number in
 /// decimal, and paths, targets and units as any words. What `put` writes is all that follows the path and one space.
@@ -19,4 +19,5 @@ pub fn commands_read_back()
 
     // However many spaces there are, a line is a command just where it has that command's words.
     ensures words { JustItsWordsAreRead }
+    ensures refused { OthersAreRefused }
 {}
