@@ -1,4 +1,4 @@
-use Rattle.std.proofs.Common.{◌≡◌, List, IsTrue, ap, sym, subst, ◌∙◌}
+use Rattle.std.proofs.Common.{List, IsTrue, ap, sym, subst, ◌∙◌}
 use Rattle.std.proofs.lemmas.Bool.{and_parts}
 use Rattle.std.specs.FinMap.Entries.{is_sorted, below_all}
 use Rattle.load_path.specs.Paths.{path_cmp}

@@ -1,10 +1,9 @@
-use Rattle.std.proofs.Common.{◌≡◌, Some, true, sym, ap, ◌∙◌}
+use Rattle.std.proofs.Common.{sym, ap, ◌∙◌}
 use Rattle.std.specs.Ordering.{is_lt}
 use Rattle.load_path.specs.Paths.{path_cmp}
 use Rattle.load_path.specs.PathLaws.{path_cmp_total}
-use Rattle.edit_sums.specs.Entries.{entry_cmp}
 use Rattle.sorted_pairs.specs.PlaceLaws.{find_at, find_gap}
-use Rattle.replica_store.specs.Merges.{Pair, is_rise}
+use Rattle.replica_store.specs.Merges.{is_rise}
 use Rattle.replica_store.proofs.merges.rises_among.Goals as goal
 
 pub returns-in-Ok : goal.returns-in-Ok
