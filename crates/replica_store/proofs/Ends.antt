@@ -60,3 +60,20 @@ merged_when_ok first other passed rest now (Err e) s is m = tt
 pub part_when_err : (first other passed rest now : List Pair) {E : Type 0} (r : Result ℕ E) → now ≡ passed ++ rest → OnErr r ((left : List Pair) × (changed : ℕ) × Merges first other passed rest left changed) → OnErr r (IsPartOf first other now)
 part_when_err first other passed rest now (Ok changed) is m = tt
 part_when_err first other passed rest now (Err e) is m = merges_part first other passed rest m.0 now m.1 is m.2
+
+-- ---- where some of the others are left out, and the join is the same
+
+module _ (first left other now : List Pair) (whole : join (map_of first) (map_of left) ≡ join (map_of first) (map_of other)) where
+  pub merged_with_all : {E : Type 0} (r : Result ℕ E) → IfOk r (IsMerged first left now) → IfOk r (IsMerged first other now)
+  merged_with_all (Ok changed) m = record { sorted = m.sorted; joined = m.joined ∙ whole; counted = m.counted }
+  merged_with_all (Err e) m = tt
+
+  pub part_of_all : {E : Type 0} (r : Result ℕ E) → OnErr r (IsPartOf first left now) → OnErr r (IsPartOf first other now)
+  part_of_all (Ok changed) m = tt
+  part_of_all (Err e) m = record { sorted = m.sorted; kept = m.kept; within = subst (λ (t : EntryMap). IsStoreBelow (map_of now) t) whole m.within }
+
+-- none of the others is greater
+pub merged_unchanged : (first left other : List Pair) → IsTrue (is_sorted path_cmp first) → join (map_of first) (map_of left) ≡ join (map_of first) (map_of other) → left ≡ [] → IsMerged first other first 0
+merged_unchanged first left other s whole none =
+    let m = merges_end first [] [] first first 0 s refl (merges_start first [] s refl) in
+    record { sorted = m.sorted; joined = m.joined ∙ ap (λ ps. join (map_of first) (map_of ps)) (sym none) ∙ whole; counted = m.counted }

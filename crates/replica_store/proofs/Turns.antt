@@ -74,7 +74,7 @@ module _ (k : PathParts) (v : Entry) (left : List Pair) (s : IsTrue (is_sorted p
 
   module _ (es : List Pair) (t : IsTrue (is_sorted path_cmp es)) where
     -- an entry that is not greater adds nothing
-    whole_without : is_rise (find path_cmp k es) v ≡ false → join (map_of es) (map_of left) ≡ join (map_of es) (map_of ((k, v) ∷ left))
+    pub whole_without : is_rise (find path_cmp k es) v ≡ false → join (map_of es) (map_of left) ≡ join (map_of es) (map_of ((k, v) ∷ left))
     whole_without h = same_store _ _ (λ q.
         get-join (map_of es) (map_of left) q
         ∙ (λ i. larger (get-map_of es q t i) (get-map_of left q (and_parts (below_all path_cmp k left) _ s).1 i))

@@ -5,7 +5,7 @@ ghost use Rattle.std.specs.FinMap.{is_sorted, find, put};
 ghost use Rattle.load_path.specs.Paths.{path_cmp};
 ghost use Rattle.edit_sums.specs.declared.entries.Entry.{Entry};
 ghost use Rattle.sorted_pairs.specs.Places.{AreBelow, IsNotBelow};
-ghost use Rattle.edit_sums.specs.Sums.{edit_of, with_edit};
+ghost use Rattle.edit_sums.specs.Sums.{edit_of, join, with_edit};
 ghost use Rattle.replica_store.specs.Merges.{Pair, Merges, IsMerged, IsPartOf, is_rise, map_of};
 
 use edit_sums::Entry;
@@ -146,12 +146,56 @@ fn join_moved(
     changed
 }
 
-// Joins copies of another store's entries into these, and answers how many paths changed. One
-// growth at most, then one pass over both.
+// Joins copies of another store's entries into these, and answers how many paths changed. Where none
+// of the others is greater, a search for each of them; else one growth at most, then one pass over
+// both.
 pub fn merge_copies(
     entries: &mut Vec<(Path, Entry)>,
     other: &[(Path, Entry)],
 ) -> Result<u64, AllocError>
+    requires sorted { IsTrue (is_sorted path_cmp entries.old.items) }
+    requires other_sorted { IsTrue (is_sorted path_cmp other.now) }
+    ensures ok { IfOk result (IsMerged entries.old.items other.now entries.new.items) }
+    ensures err { OnErr result (IsPartOf entries.old.items other.now entries.new.items) }
+{
+    let greater = from_rise(entries, other);
+    if greater.is_empty() {
+        return Ok(0);
+    }
+    pass_copies(entries, greater)
+}
+
+// The others from the first on that is greater than what is held at its path. For each that isn't, a
+// search.
+fn from_rise<'a>(entries: &[(Path, Entry)], other: &'a [(Path, Entry)]) -> &'a [(Path, Entry)]
+    requires sorted { IsTrue (is_sorted path_cmp entries.now) }
+    requires other_sorted { IsTrue (is_sorted path_cmp other.now) }
+    ensures sorted { IsTrue (is_sorted path_cmp result.now) }
+    ensures whole { join (map_of entries.now) (map_of result.now) ≡ join (map_of entries.now) (map_of other.now) }
+{
+    let mut left = other;
+    while let Some((next, further)) = left.split_first() {
+        if rises_among(entries, &next.0, &next.1) {
+            return left;
+        }
+        left = further;
+    }
+    left
+}
+
+// Whether an entry is greater than what is held at its path. O(log n).
+fn rises_among(entries: &[(Path, Entry)], path: &Path, entry: &Entry) -> bool
+    requires sorted { IsTrue (is_sorted path_cmp entries.now) }
+    ensures rises { result ≡ is_rise (find path_cmp path.now entries.now) entry.now }
+{
+    match seek(entries, path) {
+        Ok(at) => entries[at].1.cmp(entry).is_lt(),
+        Err(_) => true,
+    }
+}
+
+// The same by one growth at most, then one pass over both.
+fn pass_copies(entries: &mut Vec<(Path, Entry)>, other: &[(Path, Entry)]) -> Result<u64, AllocError>
     requires sorted { IsTrue (is_sorted path_cmp entries.old.items) }
     requires other_sorted { IsTrue (is_sorted path_cmp other.now) }
     ensures ok { IfOk result (IsMerged entries.old.items other.now entries.new.items) }

@@ -141,8 +141,9 @@ impl Replica {
         self.put(path, Content::gone())
     }
 
-    /// Joins copies of what a store holds, and answers how many paths changed. At most one growth,
-    /// then one pass over both.
+    /// Joins copies of what a store holds, and answers how many paths changed. Where nothing
+    /// changes, a search for each of its entries, without memory; else at most one growth, then one
+    /// pass over both.
     ///
     /// Where memory is refused, the store lies between what it was and the join, and the same call
     /// may be made again.
