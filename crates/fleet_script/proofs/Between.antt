@@ -1,6 +1,6 @@
 -- Commands between nodes: from what is kept to the outcome.
 use Rattle.std.proofs.Common.{◌≡◌, inl, inr, ℕ, zero, suc, ◌+◌, ◌-◌, ◌<◌, ◌≤◌, ◌==◌, Bool, true, false, cond, List, [], ◌∷◌, ◌++◌, map, length, set, get_or, Vec, Global, Option, Some, None, Result, Ok, Err, codes, refl, sym, ap, subst, ◌∙◌, arith}
-use Rattle.std.specs.Prelude.{slice_get, count_by, not, MatchOption, OnOk}
+use Rattle.std.specs.Prelude.{count_by, not, MatchOption, OnOk}
 use Rattle.std.specs.Ordering.{is_eq}
 use Rattle.std.specs.Cmp.{tied_itself}
 use Rattle.std.specs.Str.{bytes_eq}
@@ -19,13 +19,11 @@ use Rattle.edit_sums.specs.Sums.{EntryMap, changed_paths, edit_of, entry_of, is_
 use Rattle.replica_store.specs.Replicas.{Replicated}
 use Rattle.world_law.specs.declared.events.Event.TheVariants.{Give}
 use Rattle.world_law.specs.Cuts.{VersionMap, cut, digest_of}
-use Rattle.script_commands.specs.declared.commands.Fault.{Fault}
 use Rattle.script_commands.specs.declared.commands.Refusal.TheVariants.{UnknownNode, UnknownPiece}
 use Rattle.script_answers.specs.Texts.{changed_line, entries_line}
 use Rattle.script_worlds.specs.Worlds.{World, held, happened, merged, merged_all, numbers_from, parted, piece_named}
 use Rattle.fleet_script.specs.Does.{AtNode, Gives, Refuses, Sends, SendsTo, Sweeps, if_any}
 use Rattle.fleet_script.specs.Holds.{Continues, Goes, Holds, IsJoinedAt, IsNamed, IsPiece, Keeps, joined_with}
-use Rattle.fleet_script.proofs.Goes.{Told}
 use Rattle.fleet_script.proofs.Nodes.{at_place, get_or_any, get_or_here, get_or_there, get_or_twice, holds_merge, holds_part, holds_send, length_set, set_twice, slice_get_at}
 
 -- ---- merging two nodes

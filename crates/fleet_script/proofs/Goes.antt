@@ -1,5 +1,5 @@
 -- What a step came to, one lemma for each word of the meaning.
-use Rattle.std.proofs.Common.{◌≡◌, ◌≢◌, ◌⊎◌, inl, inr, ℕ, ◌+◌, ◌<◌, ◌==◌, Bool, true, false, cond, List, [], ◌∷◌, ◌++◌, length, set, get_or, Vec, Global, Option, Some, None, is_some, Result, Ok, Err, codes, refl, sym, ap, subst, ◌∙◌, arith}
+use Rattle.std.proofs.Common.{◌≡◌, ◌≢◌, inl, inr, ℕ, ◌+◌, ◌<◌, ◌==◌, Bool, true, false, cond, List, [], ◌∷◌, ◌++◌, length, set, get_or, Vec, Global, Option, Some, None, is_some, Result, Ok, Err, codes, refl, sym, ap, subst, ◌∙◌, arith}
 use Rattle.std.specs.Prelude.{slice_get, MatchOption, MatchResult, IsErrOf, IsSome}
 use Rattle.std.specs.Bool.{MatchBool}
 use Rattle.std.specs.Str.{bytes_eq}
@@ -15,15 +15,13 @@ use Rattle.load_path.specs.Paths.{PathParts, path_of}
 use Rattle.load_path.specs.declared.paths.PathFault.{PathFault}
 use Rattle.load_path.specs.declared.paths.PathFault.TheVariants as path
 use Rattle.edit_sums.specs.declared.contents.Content.{Content}
-use Rattle.edit_sums.specs.declared.contents.Content.TheVariants.{Gone, Link, File}
+use Rattle.edit_sums.specs.declared.contents.Content.TheVariants.{Gone}
 use Rattle.edit_sums.specs.declared.entries.Edit.{Edit}
-use Rattle.edit_sums.specs.Limits.{is_file, is_target}
 use Rattle.edit_sums.specs.Sums.{EntryMap, high_of, sum_of, visible_at, with_edit}
 use Rattle.replica_store.specs.declared.replicas.EditFault.{EditFault}
 use Rattle.replica_store.specs.declared.replicas.EditFault.TheVariants as edit
 use Rattle.replica_store.specs.Replicas.{Replicated, next_version, with_put}
 use Rattle.world_law.specs.declared.events.Event.TheVariants.{Put}
-use Rattle.script_words.specs.Text.{Spells, IsBadText}
 use Rattle.script_commands.specs.declared.commands.Fault.{Fault}
 use Rattle.script_commands.specs.declared.commands.Fault.TheVariants.{Refused, Memory}
 use Rattle.script_commands.specs.declared.commands.Refusal.{Refusal}
@@ -37,7 +35,7 @@ use Rattle.script_worlds.specs.Worlds.{World, happened, has_writer, held, next_e
 use Rattle.script_worlds.specs.Worlds.{with_node as with_new_node}
 use Rattle.script_worlds.specs.NodeLaws.{named_within}
 use Rattle.fleet_script.specs.Does.{AtNode, AtPath, AtPaths, Gives, IsRead, Names, Refuses, RefusesPath, WithFile, WithTarget, WithText, Writes}
-use Rattle.fleet_script.specs.Holds.{Continues, Goes, HasNoNode, Holds, Keeps}
+use Rattle.fleet_script.specs.Holds.{Goes, HasNoNode, Holds, Keeps}
 use Rattle.fleet_script.proofs.Nodes.{holds_node, holds_put, set_same}
 
 -- steps, and what they leave open

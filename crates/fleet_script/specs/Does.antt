@@ -1,5 +1,5 @@
 -- What each command does: which outcome it may have in a world, and which world it leaves.
-use Rattle.std.specs.Prelude.{◌≡◌, ◌≢◌, ◌⊎◌, ℕ, ◌==◌, codes, List, [], ◌∷◌, length, Option, Some, None, Result, Ok, Err, MatchOption, MatchResult, MatchBool}
+use Rattle.std.specs.Prelude.{◌≡◌, ◌≢◌, ◌⊎◌, ℕ, ◌==◌, codes, List, [], ◌∷◌, length, Option, Some, None, Ok, Err, MatchOption, MatchResult, MatchBool}
 use Rattle.std.specs.FinMap as finmap
 use Rattle.load_path.specs.Paths.{PathParts, path_of}
 use Rattle.load_path.specs.declared.paths.PathFault.{PathFault}
@@ -15,7 +15,7 @@ use Rattle.script_commands.specs.declared.commands.Command.{Command}
 use Rattle.script_commands.specs.declared.commands.Command.TheVariants as command
 use Rattle.script_commands.specs.declared.commands.Refusal.{Refusal}
 use Rattle.script_commands.specs.Paths.{paths_of}
-use Rattle.script_commands.specs.declared.commands.Refusal.TheVariants.{UnknownNode, BadText, UnknownPiece, NodeTaken, WriterTaken, Directory, Depth, Component, FileTooLarge, BadLink, VersionsSpent, Nothing, Length, Kind, EmptyPrefix, BadByte, NotFound, Masked, Bad}
+use Rattle.script_commands.specs.declared.commands.Refusal.TheVariants.{UnknownNode, BadText, UnknownPiece, NodeTaken, WriterTaken, Directory, Depth, Component, FileTooLarge, BadLink, VersionsSpent, Nothing}
 use Rattle.script_commands.specs.Outcomes.{Outcome}
 use Rattle.script_answers.specs.Texts.{ok_line, changed_line, entries_line, files_text}
 use Rattle.unit_answers.specs.Units.{TellsFiles}

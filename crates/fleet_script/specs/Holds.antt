@@ -1,5 +1,5 @@
 -- What the shell keeps of a world: of each node its replica of now, by name the numbers of nodes and the pieces of now, and which writer numbers are taken.
-use Rattle.std.specs.Prelude.{◌≡◌, ◌⊎◌, ℕ, ◌<◌, Bool, true, false, ⊤, Vec, List, [], length, slice_get, slice_index_or, slice_set, Option, Some, None, Result, Ok, Err}
+use Rattle.std.specs.Prelude.{◌≡◌, ◌⊎◌, ℕ, ◌<◌, Bool, false, Vec, List, [], length, slice_get, slice_index_or, slice_set, Option, Some, None, Result}
 use Rattle.std.specs.Cmp.Lexicographic.{slice_cmp}
 use Rattle.std.specs.Ordering.{nat_cmp}
 use Rattle.std.specs.declared.alloc.Global.{Global}

@@ -1,6 +1,6 @@
 -- How answers are written.
-use Rattle.std.specs.Prelude.{ℕ, nat_eq, codes, if◌then◌else◌, Option, Some, None, List, [], ◌++◌, length, Result, Ok, Err}
-use Rattle.std.specs.List.{flat_map, ends_with}
+use Rattle.std.specs.Prelude.{ℕ, codes, List, [], ◌++◌, length, Ok, Err}
+use Rattle.std.specs.List.{flat_map}
 use Rattle.std.specs.Fmt.{decimal}
 use Rattle.std.specs.FinMap as finmap
 use Rattle.join_law.specs.declared.versions.Version.{Version}
@@ -8,7 +8,7 @@ use Rattle.load_path.specs.Paths.{PathParts, text_of}
 use Rattle.edit_sums.specs.declared.contents.Content.{Content}
 use Rattle.edit_sums.specs.declared.contents.Content.TheVariants.{Gone, Link, File}
 use Rattle.edit_sums.specs.declared.entries.Entry.{Entry}
-use Rattle.edit_sums.specs.Sums.{EntryMap, visible_at}
+use Rattle.edit_sums.specs.Sums.{EntryMap}
 use Rattle.script_commands.specs.declared.commands.Refusal.{Refusal}
 use Rattle.script_commands.specs.Outcomes.{Outcome}
 use Rattle.script_commands.specs.declared.commands.Refusal.TheVariants.{UnknownCommand, Arguments, UnknownNode, BadText, UnknownPiece, NodeTaken, WriterTaken, LineTooLong, Directory, Depth, Component, FileTooLarge, BadLink, VersionsSpent, Nothing, Length, Kind, EmptyPrefix, BadByte, NotFound, Masked, Bad}

@@ -1,4 +1,4 @@
-use Rattle.std.proofs.Common.{◌≡◌, Ok, sym, ap, ◌∙◌}
+use Rattle.std.proofs.Common.{sym, ap, ◌∙◌}
 use Rattle.fragment_choice.specs.declared.resolutions.Resolution.{Resolution}
 use Rattle.fragment_choice.specs.Resolutions.{main}
 use Rattle.fragment_choice.specs.ResolutionLaws.{mains_are_their_own}

@@ -1,4 +1,4 @@
-use Rattle.std.proofs.Common.{◌<◌, List, length, get_or, arith, ap, ◌∙◌}
+use Rattle.std.proofs.Common.{◌<◌, length, get_or, arith, ap, ◌∙◌}
 use Rattle.replica_store.specs.Replicas.{Replicated}
 use Rattle.fleet_script.specs.Holds.{kept_in}
 use Rattle.fleet_script.proofs.Between.{joined_in, joined_itself, merged_at, none_changed}

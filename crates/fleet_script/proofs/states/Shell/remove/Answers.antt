@@ -1,6 +1,4 @@
-use Rattle.std.proofs.Common.{◌≡◌, ◌<◌, None, Some, Option, Ok, Err, List, length, subst, sym, arith}
-use Rattle.edit_sums.specs.declared.contents.Content.{Content}
-use Rattle.edit_sums.specs.declared.contents.Content.TheVariants.{Gone}
+use Rattle.std.proofs.Common.{Ok, Err, List, subst, sym}
 use Rattle.replica_store.specs.Replicas.{Replicated}
 use Rattle.fleet_script.specs.Does.{AtPath, Removes, RemovesAt}
 use Rattle.fleet_script.specs.Holds.{Goes, kept_in}
