@@ -12,7 +12,8 @@ pub fn one_answer()
     ensures one { (script first second : List ℕ) → Answers script first → Answers script second → first ≡ second }
 {}
 
-/// What a fault leaves written is a front of the answers to the whole script, whenever that has answers.
+/// What a fault leaves written is a front of the answers to the whole script, whenever that has
+/// answers.
 pub fn fronts_of_answers()
     ensures front { FrontsAreOfTheWhole }
 {}
@@ -26,8 +27,9 @@ pub fn scripts_are_honest()
         → (k : ℕ) (node : worlds.Node) → slice_get (state world).nodes k ≡ Some node → node.store ≡ held world k }
 {}
 
-/// Each counter is at most the number of lines so far, of edits as of stores. So no command of a script of at most
-/// 16,777,216 bytes, which is as many as `run` reads, is refused with `VersionsSpent`.
+/// Each counter is at most the number of lines so far, of edits as of stores. So no command of a
+/// script of at most 16,777,216 bytes, which is as many as `run` reads, is refused with
+/// `VersionsSpent`.
 pub fn counters_never_spent()
     ensures counters { CountersAreLines }
     ensures unspent { VersionsAreNeverSpent }

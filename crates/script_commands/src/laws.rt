@@ -1,8 +1,9 @@
 //! Laws of commands: each is read back from how it is written.
 ghost use Rattle.script_commands.specs.WrittenLaws.{CatIsReadBack, EmptyPutIsReadBack, FilesIsReadBack, JustItsWordsAreRead, LinkIsReadBack, MergeIsReadBack, NodeIsReadBack, OthersAreRefused, PartIsReadBack, PutIsReadBack, RemoveIsReadBack, SameIsReadBack, SendIsReadBack, SweepIsReadBack};
 
-/// Each command is read back from its words with one space between each two: names as names may be, a writer number in
-/// decimal, and paths, targets and units as any words. What `put` writes is all that follows the path and one space.
+/// Each command is read back from its words with one space between each two: names as names may be,
+/// a writer number in decimal, and paths, targets and units as any words. What `put` writes is all
+/// that follows the path and one space.
 pub fn commands_read_back()
     ensures node { NodeIsReadBack }
     ensures put { PutIsReadBack }
