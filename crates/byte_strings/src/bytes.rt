@@ -1,0 +1,136 @@
+//! Byte strings whose bytes are shared.
+ghost use Rattle.std.specs.Prelude.{◌≡◌, IfOk};
+
+use join_law::Key;
+use std::alloc::{AllocError, Global};
+use std::cmp::Ordering;
+use std::hash::{Hash, Hasher};
+use std::marker::Model;
+use std::sync::Arc;
+
+/// A byte string, which need be no UTF-8, ordered by its bytes, a proper prefix first.
+///
+/// Its bytes are shared by all its copies, so that a copy takes no time and no room for them.
+#[derive(Debug, Drop)]
+pub struct Bytes {
+    shared: Arc<Vec<u8>, Global>,
+}
+
+impl Model for Bytes {
+    ghost use Rattle.std.specs.Prelude.{List, ℕ};
+    ghost use Rattle.std.specs.Arc.{arc_value};
+
+    ghost Value = { List ℕ };
+
+    ghost view = { λ b. (arc_value b.shared).items };
+}
+
+impl Bytes {
+    /// A copy of some bytes. It fails for want of memory alone.
+    pub fn from_slice(alloc: Global, bytes: &[u8]) -> Result<Self, AllocError>
+        ensures copy { IfOk result (λ copy. copy ≡ bytes.now) }
+    {
+        Bytes::from_vec(Vec::from_slice(alloc, bytes)?)
+    }
+
+    /// These bytes, without a copy of them. It fails for want of memory alone; the bytes are then dropped.
+    pub fn from_vec(bytes: Vec<u8>) -> Result<Self, AllocError>
+        ensures bytes { IfOk result (λ made. made ≡ bytes.items) }
+    {
+        let alloc = *bytes.allocator();
+        Ok(Bytes {
+            shared: Arc::new(alloc, bytes)?,
+        })
+    }
+
+    /// The bytes. It takes no memory.
+    pub fn as_slice(&self) -> &[u8]
+        ensures bytes { result.now ≡ self.now }
+    {
+        self.shared.as_slice()
+    }
+
+    /// The allocator that its bytes came from.
+    pub fn allocator(&self) -> Global {
+        *self.shared.allocator()
+    }
+}
+
+impl PartialEq for Bytes {
+    ghost use Rattle.std.specs.Ordering.{nat_cmp, eq_by_cmp};
+    ghost use Rattle.std.specs.Cmp.{eq_by_cmp_equiv, partial_equiv_from_equiv};
+    ghost use Rattle.std.specs.Cmp.Lexicographic.{slice_cmp, nat_list_cmp_total};
+
+    ghost eq = { eq_by_cmp (slice_cmp nat_cmp) };
+
+    ghost laws = { partial_equiv_from_equiv (eq_by_cmp_equiv nat_list_cmp_total) };
+
+    fn eq(&self, other: &Self) -> bool {
+        self.cmp(other).is_eq()
+    }
+}
+
+impl Eq for Bytes {
+    ghost use Rattle.std.specs.Cmp.{eq_by_cmp_equiv};
+    ghost use Rattle.std.specs.Cmp.Lexicographic.{nat_list_cmp_total};
+
+    ghost laws = { eq_by_cmp_equiv nat_list_cmp_total };
+}
+
+impl PartialOrd for Bytes {
+    ghost use Rattle.std.specs.Ordering.{nat_cmp, as_partial_cmp};
+    ghost use Rattle.std.specs.Cmp.{partial_order_from_total};
+    ghost use Rattle.std.specs.Cmp.Lexicographic.{slice_cmp, nat_list_cmp_total};
+
+    ghost partial_cmp = { as_partial_cmp (slice_cmp nat_cmp) };
+
+    ghost laws = { partial_order_from_total nat_list_cmp_total };
+
+    fn partial_cmp(&self, other: &Self) -> Option<Ordering> {
+        Some(self.cmp(other))
+    }
+}
+
+impl Ord for Bytes {
+    ghost use Rattle.std.specs.Ordering.{nat_cmp};
+    ghost use Rattle.std.specs.Prelude.{refl};
+    ghost use Rattle.std.specs.Cmp.Lexicographic.{slice_cmp, nat_list_cmp_total};
+
+    ghost cmp = { slice_cmp nat_cmp };
+
+    ghost total = { nat_list_cmp_total };
+
+    ghost matches_partial_cmp = { λ x y. refl };
+
+    ghost matches_eq = { λ x y. refl };
+
+    fn cmp(&self, other: &Self) -> Ordering {
+        self.as_slice().cmp(&other.as_slice())
+    }
+}
+
+impl Hash for Bytes {
+    ghost use Rattle.std.specs.Hash as fed;
+    ghost use Rattle.byte_strings.specs.BytesLaws.{hashed_alike};
+
+    ghost hash_input = { fed.slice fed.u8 };
+
+    ghost respects_eq = { hashed_alike };
+
+    fn hash<H: Hasher>(&self, state: &mut H) {
+        self.as_slice().hash(state);
+    }
+}
+
+impl Key for Bytes {
+    ghost use Rattle.std.specs.FinMap.{slice_cmp-IsAntisymmetric, nat_cmp-IsAntisymmetric};
+
+    ghost exact = { slice_cmp-IsAntisymmetric nat_cmp-IsAntisymmetric };
+
+    /// The same bytes again, shared. It fails for want of memory alone, which here is that too many copies are held.
+    fn try_clone(&self) -> Result<Bytes, AllocError> {
+        Ok(Bytes {
+            shared: Arc::try_clone(&self.shared)?,
+        })
+    }
+}
