@@ -1,4 +1,5 @@
 -- The order of entries, and the larger of two where there are two.
+-- Source (a register in which the last writer wins): Shapiro, Preguica, Baquero, Zawirski 2011.
 use Rattle.std.specs.Prelude.{◌≡◌, false, if◌then◌else◌, Option, Some, None}
 use Rattle.std.specs.Ordering.{ordering_then, is_gt}
 use Rattle.std.specs.declared.cmp.Ordering.{Ordering}
