@@ -50,9 +50,9 @@ fn answer_script<R: AllocGlobal + Eprint, S: Source, K: Sink>(
     // A read failed or the script is too long, and nothing is written; or a write failed behind a front of the answers.
     ensures faulted { exit_status result ≡ 1 →
         IsUnread MAX_SCRIPT_BYTES (S.remaining source.old) (S.failures source.old) (S.failures source.new)
-            (K.contents sink.old) (K.contents sink.new)
+        (K.contents sink.old) (K.contents sink.new)
         ⊎ IsUnwritten (S.remaining source.old) (K.refusals sink.old) (K.refusals sink.new)
-            (K.contents sink.old) (K.contents sink.new) }
+        (K.contents sink.old) (K.contents sink.new) }
 
     // Memory was refused behind a front of the answers.
     ensures starved { exit_status result ≡ 2 → IsFronted (S.remaining source.old) (K.contents sink.old)
