@@ -1,3 +1,5 @@
 pub mod Order
 pub mod VersionOrder
 pub mod VersionOrderLaws
+pub mod EntryLaws
+pub mod VersionedLaws

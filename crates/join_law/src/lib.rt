@@ -12,4 +12,4 @@ mod versions;
 
 pub use joins::{Join, Rest};
 pub use keys::Key;
-pub use versions::{Version, Versioned};
+pub use versions::{Entry, Version, Versioned};
