@@ -1,5 +1,5 @@
 //! Versions, entries with their versions, and entries that may not be there yet.
-ghost use Rattle.std.specs.Prelude.{◌≡◌, ◌↔◌, IsTrue, IsOk, OnOk, IfOk, IfErr};
+ghost use Rattle.std.specs.Prelude.{◌≡◌, ◌↔◌, IsTrue, IsOk, OnOk, IfOk, OnErr, IfErr};
 
 use crate::joins::{Join, Rest};
 use crate::keys::Key;
@@ -81,7 +81,7 @@ impl<C: Key> Versioned<C> {
 }
 
 impl<C: Key> Join for Versioned<C> {
-    ghost use Rattle.join_law.specs.Order.{IsJoin, IsPartialJoin};
+    ghost use Rattle.join_law.specs.Order.{IsJoin, IsPartialJoin, IsBetween};
     ghost use Rattle.join_law.specs.VersionOrder.{IsUpTo, versioned_max};
     ghost use Rattle.join_law.specs.VersionedLaws.{up_to_itself, up_to_chain, max_joins, both_up};
 
@@ -93,11 +93,15 @@ impl<C: Key> Join for Versioned<C> {
 
     ghost is_valid = { λ _. Unit {0} };
 
+    ghost joins_in_place = { Unit {0} };
+
     ghost reflexive = { up_to_itself C.cmp C.total };
 
     ghost transitive = { up_to_chain C.cmp C.total };
 
     ghost joins = { max_joins C.cmp C.total };
+
+    ghost keeps = { λ _ _ _ _. tt };
 
     ghost one = { λ x y _ _ both. both_up C.cmp C.total C.exact x y both.0 both.1 };
 
@@ -115,11 +119,30 @@ impl<C: Key> Join for Versioned<C> {
         ensures ok { OnOk result (IsJoin (IsUpTo C.cmp) self.old other self.new) }
         ensures refused { IfErr result (λ fault. IsPartialJoin (IsUpTo C.cmp) self.old other self.new fault.rest) }
         ensures single { IfErr result (λ _. Unit {0} → self.new ≡ self.old) }
+        ensures in_place { Unit {0} → IsOk result }
         ensures valid { Unit {0} }
         ensures rest_valid { IfErr result (λ fault. Unit {0}) }
     {
         if self.rank(&other).is_lt() {
             *self = other;
+        }
+        Ok(())
+    }
+
+    /// Keeps the greater of the two; it copies the other one only where that is greater. A refused
+    /// copy leaves this one unchanged.
+    fn join_copy(&mut self, other: &Self) -> Result<(), AllocError>
+        ensures greater { OnOk result (self.new ≡ versioned_max C.cmp self.old other.now) }
+        ensures unchanged { OnErr result (self.new ≡ self.old) }
+        ensures ok { OnOk result (IsJoin (IsUpTo C.cmp) self.old other.now self.new) }
+        ensures refused { OnErr result (IsBetween (IsUpTo C.cmp) self.old other.now self.new) }
+        ensures single { OnErr result (Unit {0} → self.new ≡ self.old) }
+        ensures known { IsUpTo C.cmp other.now self.old → IsOk result }
+        ensures valid { Unit {0} }
+    {
+        if self.rank(other).is_lt() {
+            let copy = other.try_clone()?;
+            *self = copy;
         }
         Ok(())
     }
