@@ -1,34 +1,45 @@
-//! The names of sections, which their assignments share.
+//! Byte strings whose bytes are shared.
 ghost use Rattle.std.specs.Prelude.{◌≡◌, IfOk};
 
-use crate::text::Text;
+use join_law::Key;
 use std::alloc::{AllocError, Global};
 use std::cmp::Ordering;
+use std::hash::{Hash, Hasher};
 use std::marker::Model;
 use std::sync::Arc;
 
-/// The name of a section. All assignments of a section share its bytes, so that a clone copies none.
+/// A byte string, which need be no UTF-8, ordered by its bytes, a proper prefix first.
+///
+/// Its bytes are shared by all its copies, so that a copy takes no time and no room for them.
 #[derive(Debug, Drop)]
-pub struct SectionName {
-    shared: Arc<Text, Global>,
+pub struct Bytes {
+    shared: Arc<Vec<u8>, Global>,
 }
 
-impl Model for SectionName {
+impl Model for Bytes {
     ghost use Rattle.std.specs.Prelude.{List, ℕ};
     ghost use Rattle.std.specs.Arc.{arc_value};
 
     ghost Value = { List ℕ };
 
-    ghost view = { λ n. arc_value n.shared };
+    ghost view = { λ b. (arc_value b.shared).items };
 }
 
-impl SectionName {
-    /// A name with a copy of some bytes. It fails for want of memory alone.
-    pub fn from_slice(alloc: Global, bytes: &[u8]) -> Result<SectionName, AllocError>
+impl Bytes {
+    /// A copy of some bytes. It fails for want of memory alone.
+    pub fn from_slice(alloc: Global, bytes: &[u8]) -> Result<Self, AllocError>
         ensures copy { IfOk result (λ copy. copy ≡ bytes.now) }
     {
-        Ok(SectionName {
-            shared: Arc::new(alloc, Text::from_slice(alloc, bytes)?)?,
+        Bytes::from_vec(Vec::from_slice(alloc, bytes)?)
+    }
+
+    /// These bytes, without a copy of them. It fails for want of memory alone; the bytes are then dropped.
+    pub fn from_vec(bytes: Vec<u8>) -> Result<Self, AllocError>
+        ensures bytes { IfOk result (λ made. made ≡ bytes.items) }
+    {
+        let alloc = *bytes.allocator();
+        Ok(Bytes {
+            shared: Arc::new(alloc, bytes)?,
         })
     }
 
@@ -39,17 +50,22 @@ impl SectionName {
         self.shared.as_slice()
     }
 
-    /// The same name again, with the same bytes. It fails for want of memory alone.
-    pub fn try_clone(&self) -> Result<SectionName, AllocError>
+    /// The allocator that its bytes came from.
+    pub fn allocator(&self) -> Global {
+        *self.shared.allocator()
+    }
+
+    /// The same bytes again, shared. It fails for want of memory alone, which here is that there are too many copies.
+    pub fn try_clone(&self) -> Result<Bytes, AllocError>
         ensures copy { IfOk result (λ copy. copy ≡ self.now) }
     {
-        Ok(SectionName {
+        Ok(Bytes {
             shared: Arc::try_clone(&self.shared)?,
         })
     }
 }
 
-impl PartialEq for SectionName {
+impl PartialEq for Bytes {
     ghost use Rattle.std.specs.Ordering.{nat_cmp, eq_by_cmp};
     ghost use Rattle.std.specs.Cmp.{eq_by_cmp_equiv, partial_equiv_from_equiv};
     ghost use Rattle.std.specs.Cmp.Lexicographic.{slice_cmp, nat_list_cmp_total};
@@ -63,14 +79,14 @@ impl PartialEq for SectionName {
     }
 }
 
-impl Eq for SectionName {
+impl Eq for Bytes {
     ghost use Rattle.std.specs.Cmp.{eq_by_cmp_equiv};
     ghost use Rattle.std.specs.Cmp.Lexicographic.{nat_list_cmp_total};
 
     ghost laws = { eq_by_cmp_equiv nat_list_cmp_total };
 }
 
-impl PartialOrd for SectionName {
+impl PartialOrd for Bytes {
     ghost use Rattle.std.specs.Ordering.{nat_cmp, as_partial_cmp};
     ghost use Rattle.std.specs.Cmp.{partial_order_from_total};
     ghost use Rattle.std.specs.Cmp.Lexicographic.{slice_cmp, nat_list_cmp_total};
@@ -84,7 +100,7 @@ impl PartialOrd for SectionName {
     }
 }
 
-impl Ord for SectionName {
+impl Ord for Bytes {
     ghost use Rattle.std.specs.Ordering.{nat_cmp};
     ghost use Rattle.std.specs.Prelude.{refl};
     ghost use Rattle.std.specs.Cmp.Lexicographic.{slice_cmp, nat_list_cmp_total};
@@ -99,5 +115,28 @@ impl Ord for SectionName {
 
     fn cmp(&self, other: &Self) -> Ordering {
         self.as_slice().cmp(&other.as_slice())
+    }
+}
+
+impl Hash for Bytes {
+    ghost use Rattle.std.specs.Hash as fed;
+    ghost use Rattle.byte_strings.specs.BytesLaws.{hashed_alike};
+
+    ghost hash_input = { fed.slice fed.u8 };
+
+    ghost respects_eq = { hashed_alike };
+
+    fn hash<H: Hasher>(&self, state: &mut H) {
+        self.as_slice().hash(state);
+    }
+}
+
+impl Key for Bytes {
+    ghost use Rattle.std.specs.FinMap.{slice_cmp-IsAntisymmetric, nat_cmp-IsAntisymmetric};
+
+    ghost exact = { slice_cmp-IsAntisymmetric nat_cmp-IsAntisymmetric };
+
+    fn try_clone(&self) -> Result<Bytes, AllocError> {
+        Bytes::try_clone(self)
     }
 }
