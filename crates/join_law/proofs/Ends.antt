@@ -4,7 +4,8 @@ use Rattle.std.specs.Bool.{IsTrue}
 use Rattle.std.proofs.lemmas.Bool.{and_parts}
 use Rattle.std.specs.Cmp.{IsTotalOrder, tied_itself}
 use Rattle.std.specs.Ordering.{eq_by_cmp, is_eq, is_lt, ordering_reverse}
-use Rattle.std.proofs.Common.{ap, sym, subst, ◌∙◌, inl, inr}
+use Rattle.std.proofs.Common.{ap, sym, subst, ◌∙◌, inl, inr, append-nil}
+use Rattle.std.specs.Option.{option_to_list, IfSome}
 use Rattle.std.specs.declared.cmp.Ordering.{Ordering}
 use Rattle.std.specs.declared.cmp.Ordering.TheVariants.{Less, Equal, Greater}
 use Rattle.std.specs.FinMap.Entries.{find, is_sorted, below_all, find-append, find_tied}
@@ -170,3 +171,17 @@ module _ {K V : Type 0} (R : K → K → Ordering) (o : IsTotalOrder R) (valid :
         pub stopped_is_map : valid rest.1 → IsMap R below valid (xs ++ rest ∷ [])
         stopped_is_map ok = subst (λ e. IsMap R below valid (xs ++ e ∷ [])) whole
             (back_again new rest.1 (subst (λ e. IsPartialJoin (MapBelow R below) now ((k, v) ∷ []) new (e ∷ [])) (sym whole) j) n ok)
+
+module _ {K V : Type 0} (R : K → K → Ordering) (below : V → V → Type 0) (valid : V → Type 0) where
+  -- a map whose last pair, if there is one, was taken out
+  pub popped_is_map : (es left : List (K × V)) (last : Option (K × V)) → es ≡ left ++ option_to_list last → IsMap R below valid es → IsMap R below valid left
+  popped_is_map es left None is m = subst (IsMap R below valid) (is ∙ append-nil left) m
+  popped_is_map es left (Some e) is m = init_is_map R below valid left e (subst (IsMap R below valid) is m)
+
+  held_last : (xs : List (K × V)) (e : K × V) → AllHeld below valid (xs ++ e ∷ []) → IsHeld below valid e.1
+  held_last [] e h = h.0
+  held_last (x ∷ xs) e h = held_last xs e h.1
+
+  pub popped_is_held : (es left : List (K × V)) (last : Option (K × V)) → es ≡ left ++ option_to_list last → IsMap R below valid es → IfSome last (λ e. IsHeld below valid e.1)
+  popped_is_held es left None is m = tt
+  popped_is_held es left (Some e) is m = held_last left e (subst (IsMap R below valid) is m).held

@@ -1,8 +1,8 @@
 -- What the edit of one pair makes of a map.
-use Rattle.std.specs.Prelude.{◌≡◌, ℕ, zero, suc, List, [], ◌∷◌, Option, Some, None, cond, refl}
+use Rattle.std.specs.Prelude.{◌≡◌, ℕ, zero, suc, List, [], ◌∷◌, Option, Some, None, true, false, cond, refl}
 use Rattle.std.specs.List.{insert}
 use Rattle.std.specs.Cmp.{IsTotalOrder, tied_itself}
-use Rattle.std.specs.Ordering.{is_eq}
+use Rattle.std.specs.Ordering.{is_eq, eq_by_cmp}
 use Rattle.std.proofs.Common.{ap, sym, subst, ◌∙◌, set, get_or}
 use Rattle.std.specs.declared.cmp.Ordering.{Ordering}
 use Rattle.std.specs.FinMap.Entries.{find, put}
@@ -20,6 +20,31 @@ pub set_same : {A : Type 0} (es : List A) (i : ℕ) (e : A) → e ≡ get_or es 
 set_same [] i e h = refl
 set_same (f ∷ fs) zero e h = ap (λ x. x ∷ fs) h
 set_same (f ∷ fs) (suc i) e h = ap (λ xs. f ∷ xs) (set_same fs i e h)
+
+-- what was joined in part lies between
+pub partial_between : {A : Type 0} (below : A → A → Type 0) (a b v r : A) → IsPartialJoin below a b v r → IsBetween below a b v
+partial_between below a b v r j = record { kept = j.kept; within = λ z p q. ((j.bounds z).1 (p, q)).0 }
+
+-- a least value changes nothing
+pub nothing_joined : {A : Type 0} (below : A → A → Type 0) (a b : A) → IsLeast below b → IsJoin below a b a
+nothing_joined below a b least = record { bounds = λ z. (λ h. (h, least z), λ p. p.0) }
+
+-- nor does a pair with one
+pub least_pair : {K V : Type 0} (R : K → K → Ordering) (below : V → V → Type 0) (k : K) (v : V) → IsLeast below v → IsLeast (MapBelow R below) ((k, v) ∷ [])
+least_pair {K} {V} R below k v least z = record {
+  at = λ q. elim (eq_by_cmp R q k) as (λ b. OptionBelow below (cond b (Some v) None) (find R q z)) [
+    | true ↦ some (find R q z)
+    | false ↦ tt
+  ];
+}
+  where
+    some : (w : Option V) → OptionBelow below (Some v) w
+    some None = least
+    some (Some w) = least w
+
+-- a pair as a value that a map may hold
+pub pair_held : {K V : Type 0} (R : K → K → Ordering) (o : IsTotalOrder R) (below : V → V → Type 0) (valid : V → Type 0) (k : K) (v : V) → IsHeld below valid v → IsHeld (MapBelow R below) (IsMap R below valid) ((k, v) ∷ [])
+pair_held R o below valid k v h = record { not_least = entry_not_least R below o k v h.not_least; lawful = record { sorted = refl; held = (h, tt) } }
 
 module _ {K V : Type 0} (R : K → K → Ordering) (o : IsTotalOrder R) (valid : V → Type 0) (below : V → V → Type 0) (itself : (x : V) → below x x) (chain : (x y z : V) → below x y → below y z → below x z) where
   none_least_at : (k : K) (es : List (K × V)) (i : ℕ) (d : K × V) → IsAt R k es i → AllHeld below valid es → ¬ IsLeast below (get_or es i d).1

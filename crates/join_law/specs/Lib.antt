@@ -8,3 +8,4 @@ pub mod MapLaws
 pub mod UnionLaws
 pub mod MapOneLaws
 pub mod LevelLaws
+pub mod LeafLaws

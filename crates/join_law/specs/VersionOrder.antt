@@ -33,6 +33,11 @@ abbrev pub written : {C : Type 0} → Versioned C → Option (Entry C)
 written Never = None
 written (At x) = Some x
 
+-- the entry, if a place is there and one was written at it
+abbrev pub written_at : {C : Type 0} → Option (Versioned C) → Option (Entry C)
+written_at None = None
+written_at (Some x) = written x
+
 -- nothing comes first; the rest goes by version, then by content
 abbrev pub versioned_cmp : {C : Type 0} → (C → C → Ordering) → Versioned C → Versioned C → Ordering
 versioned_cmp R Never Never = Equal

@@ -1,5 +1,5 @@
 //! Sorted pairs compared and copied, and copies joined into them.
-ghost use Rattle.std.specs.Prelude.{◌≡◌, ◌↔◌, [], ◌∷◌, IsTrue, IsOk, IfOk, OnOk, OnErr};
+ghost use Rattle.std.specs.Prelude.{◌≡◌, ◌↔◌, [], ◌∷◌, map, IsTrue, IsOk, IfOk, OnOk, OnErr};
 ghost use Rattle.std.specs.FinMap.{find};
 ghost use Rattle.join_law.specs.Maps.{IsHeld, IsMap, IsSinglePair, MapBelow};
 ghost use Rattle.join_law.specs.Order.{IsBetween, IsJoin};
@@ -54,6 +54,17 @@ pub fn join_copies<K: Key, V: Join>(
         join_pair_copy(pairs, &pair.0, &pair.1)?;
     }
     Ok(())
+}
+
+// The keys of the pairs.
+pub fn keys_of<K, V>(alloc: Global, pairs: &[(K, V)]) -> Result<Vec<&K>, AllocError>
+    ensures keys { IfOk result (λ keys. map (λ k. k.now) keys.items ≡ map (λ pair. pair.0) pairs.now) }
+{
+    let mut keys = Vec::with_capacity(alloc, pairs.len())?;
+    for pair in pairs {
+        keys.push(&pair.0)?;
+    }
+    Ok(keys)
 }
 
 // A copy of the pairs.

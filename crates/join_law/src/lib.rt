@@ -11,6 +11,7 @@ mod edits;
 mod joins;
 mod keys;
 mod maps;
+mod nested;
 mod versions;
 
 pub use joins::{Join, Rest};

@@ -1,11 +1,11 @@
 //! Maps whose values are joined key by key.
-ghost use Rattle.std.specs.Prelude.{◌≡◌, [], ◌∷◌, length, IsSome, IsOk, OnOk, IfErr};
-ghost use Rattle.std.specs.Option.{option_copied};
+ghost use Rattle.std.specs.Prelude.{◌≡◌, [], ◌∷◌, ◌++◌, length, map, IsSome, IsOk, IfOk, OnOk, IfErr};
+ghost use Rattle.std.specs.Option.{option_copied, option_to_list, IfSome};
 ghost use Rattle.std.specs.FinMap.{find};
-ghost use Rattle.join_law.specs.Maps.{IsMap, MapBelow};
+ghost use Rattle.join_law.specs.Maps.{IsHeld, IsMap, MapBelow};
 ghost use Rattle.join_law.specs.Order.{IsJoin, IsLeast, IsPartialJoin};
 
-use crate::copies::{copy_pairs, join_copies, same_pairs};
+use crate::copies::{copy_pairs, join_copies, keys_of, same_pairs};
 use crate::edits::{join_pair, join_pairs};
 use crate::joins::{Join, Rest};
 use crate::keys::Key;
@@ -20,7 +20,7 @@ use std::marker::Model;
 #[derive(Debug, Drop)]
 pub struct JoinMap<K: Key, V: Join> {
     // In the order of the keys.
-    pairs: Vec<(K, V)>,
+    pub(crate) pairs: Vec<(K, V)>,
 }
 
 impl<K: Key, V: Join> Model for JoinMap<K, V> {
@@ -53,6 +53,16 @@ impl<K: Key, V: Join> JoinMap<K, V> {
         ensures pairs { result ≡ pairs.items }
     {
         JoinMap { pairs }
+    }
+
+    /// The map of one pair. It fails for want of memory alone.
+    pub fn of_pair(alloc: Global, key: K, value: V) -> Result<Self, AllocError>
+        requires held { IsHeld V.below V.is_valid value }
+        ensures pair { IfOk result (λ map. map ≡ (key, value) ∷ []) }
+    {
+        let mut pairs = Vec::with_capacity(alloc, 1)?;
+        pairs.push((key, value))?;
+        Ok(JoinMap { pairs })
     }
 
     /// The pairs, given out in the order of their keys. O(1), without memory.
@@ -94,6 +104,21 @@ impl<K: Key, V: Join> JoinMap<K, V> {
         }
     }
 
+    /// The keys in their order. It fails for want of memory alone.
+    pub fn keys(&self) -> Result<Vec<&K>, AllocError>
+        ensures keys { IfOk result (λ keys. map (λ k. k.now) keys.items ≡ map (λ pair. pair.0) self.now) }
+    {
+        keys_of(*self.pairs.allocator(), &self.pairs)
+    }
+
+    /// Takes out the pair with the greatest key, if there is one. O(1), without memory.
+    pub fn pop_last(&mut self) -> Option<(K, V)>
+        ensures pairs { self.old ≡ self.new ++ option_to_list result }
+        ensures held { IfSome result (λ pair. IsHeld V.below V.is_valid pair.1) }
+    {
+        self.pairs.pop()
+    }
+
     /// Joins a value into the one at a key. A search and at most one shift of the pairs.
     ///
     /// It fails for want of memory alone. The map then lies between what it was and the join, and
@@ -107,6 +132,7 @@ impl<K: Key, V: Join> JoinMap<K, V> {
         ensures rest_valid { IfErr result (λ fault. V.is_valid fault.rest.1) }
         ensures single { IfErr result (λ _. V.is_single value → self.new ≡ self.old) }
         ensures in_place { V.joins_in_place → IsSome (find K.cmp key self.old) → IsOk result }
+        ensures map { IsMap K.cmp V.below V.is_valid self.new }
     {
         join_pair(&mut self.pairs, key, value)
     }
