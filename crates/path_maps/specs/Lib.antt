@@ -2,3 +2,4 @@ pub mod Spread
 pub mod SpreadLaws
 pub mod PathMaps
 pub mod PathMapLaws
+pub mod Kept

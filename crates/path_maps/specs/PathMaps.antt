@@ -1,6 +1,6 @@
 -- Contents with versions by rank, folder and name, and the one map from paths to entries that they are.
 -- Source (maps of joins are joins): Shapiro, Preguica, Baquero, Zawirski 2011; the rest is this project's own.
-use Rattle.std.specs.Prelude.{ℕ, List, [], ◌∷◌, Option, IsSome}
+use Rattle.std.specs.Prelude.{ℕ, List, [], ◌∷◌, Option}
 use Rattle.std.specs.Ordering.{nat_cmp}
 use Rattle.std.specs.Cmp.Lexicographic.{slice_cmp}
 use Rattle.std.specs.declared.cmp.Ordering.{Ordering}
@@ -10,7 +10,7 @@ use Rattle.join_law.specs.declared.versions.Versioned.{Versioned}
 use Rattle.join_law.specs.declared.versions.Versioned.TheVariants.{Never, At}
 use Rattle.join_law.specs.VersionOrder.{IsUpTo, written_at}
 use Rattle.join_law.specs.Maps.{IsMap, MapBelow, or_empty}
-use Rattle.load_path.specs.Paths.{PathParts, IsPath}
+use Rattle.load_path.specs.Paths.{PathParts}
 use Rattle.edit_sums.specs.declared.contents.Content.{Content}
 use Rattle.edit_sums.specs.Contents.{content_cmp}
 use Rattle.edit_sums.specs.Entries.{Entry}
@@ -71,7 +71,3 @@ listed = spread in_rank
 -- the map from paths to entries
 abbrev pub flat : RankMap → EntryMap
 flat m = finmap.from_sorted (listed m)
-
--- something is written at lawful paths alone
-abbrev pub ArePaths : RankMap → Type 0
-ArePaths m = (q : PathParts) → IsSome (look_up m q) → IsPath q

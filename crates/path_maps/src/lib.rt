@@ -1,2 +1,9 @@
-//! Maps of maps of maps, by rank, folder and name, read as one map from paths to entries. Laws and no code.
+//! The entries of a node by path: maps of maps of contents with versions, by rank, folder and name, which contracts see
+//! as one map from paths to entries.
 #![tactic(auto)]
+
+mod entries;
+mod stores;
+
+pub use entries::Placed;
+pub use stores::{FolderMap, NameMap, RankMap, Store};

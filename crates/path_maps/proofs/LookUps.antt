@@ -1,0 +1,32 @@
+-- What three look-ups find, one after another.
+use Rattle.std.proofs.Common.{◌≡◌, ℕ, List, [], Option, Some, None, refl, ap, ◌∙◌}
+use Rattle.std.specs.Ordering.{nat_cmp}
+use Rattle.std.specs.FinMap.Entries.{find}
+use Rattle.join_law.specs.declared.versions.Versioned.{Versioned}
+use Rattle.join_law.specs.VersionOrder.{written, written_at}
+use Rattle.join_law.specs.Maps.{or_empty}
+use Rattle.load_path.specs.Paths.{PathParts}
+use Rattle.edit_sums.specs.declared.contents.Content.{Content}
+use Rattle.edit_sums.specs.Entries.{Entry}
+use Rattle.path_maps.specs.PathMaps.{NameMap, FolderMap, RankMap, bytes_cmp, look_up}
+
+module _ (m : RankMap) (q : PathParts) where
+  pub no_rank : find nat_cmp q.rank m ≡ None → look_up m q ≡ None
+  no_rank e = ap (λ (x : Option FolderMap). written_at (find bytes_cmp q.name (or_empty (find bytes_cmp q.folder (or_empty x))))) e
+
+  module _ (folders : FolderMap) (at_rank : find nat_cmp q.rank m ≡ Some folders) where
+    in_rank : look_up m q ≡ written_at (find bytes_cmp q.name (or_empty (find bytes_cmp q.folder folders)))
+    in_rank = ap (λ (x : Option FolderMap). written_at (find bytes_cmp q.name (or_empty (find bytes_cmp q.folder (or_empty x))))) at_rank
+
+    pub no_folder : find bytes_cmp q.folder folders ≡ None → look_up m q ≡ None
+    no_folder e = in_rank ∙ ap (λ (x : Option NameMap). written_at (find bytes_cmp q.name (or_empty x))) e
+
+    module _ (names : NameMap) (at_folder : find bytes_cmp q.folder folders ≡ Some names) where
+      pub at_folder_of : look_up m q ≡ written_at (find bytes_cmp q.name names)
+      at_folder_of = in_rank ∙ ap (λ (x : Option NameMap). written_at (find bytes_cmp q.name (or_empty x))) at_folder
+
+      pub no_name : find bytes_cmp q.name names ≡ None → look_up m q ≡ None
+      no_name e = at_folder_of ∙ ap written_at e
+
+      pub at_name_of : (v : Versioned Content) → find bytes_cmp q.name names ≡ Some v → look_up m q ≡ written v
+      at_name_of v e = at_folder_of ∙ ap written_at e
