@@ -2,3 +2,4 @@ pub mod MapEdits
 pub mod Ends
 pub mod CopyWalks
 pub mod Outcomes
+pub mod Behind

@@ -1,6 +1,6 @@
 //! Maps whose values are joined key by key.
 ghost use Rattle.std.specs.Prelude.{◌≡◌, [], ◌∷◌, ◌++◌, length, map, IsSome, IsOk, IfOk, OnOk, IfErr};
-ghost use Rattle.std.specs.Option.{option_copied, option_to_list, IfSome};
+ghost use Rattle.std.specs.Option.{option_copied, option_to_list, IfNone, IfSome};
 ghost use Rattle.std.specs.FinMap.{find};
 ghost use Rattle.join_law.specs.Maps.{IsHeld, IsMap, MapBelow};
 ghost use Rattle.join_law.specs.Order.{IsJoin, IsLeast, IsPartialJoin};
@@ -48,11 +48,11 @@ impl<K: Key, V: Join> JoinMap<K, V> {
     }
 
     /// The map of these pairs. O(1), without memory.
-    pub fn from_pairs(pairs: Vec<(K, V)>) -> Self
-        requires map { IsMap K.cmp V.below V.is_valid pairs.items }
-        ensures pairs { result ≡ pairs.items }
+    pub fn from_pairs(sorted: Vec<(K, V)>) -> Self
+        requires map { IsMap K.cmp V.below V.is_valid sorted.items }
+        ensures pairs { result ≡ sorted.items }
     {
-        JoinMap { pairs }
+        JoinMap { pairs: sorted }
     }
 
     /// The map of one pair. It fails for want of memory alone.
@@ -79,7 +79,7 @@ impl<K: Key, V: Join> JoinMap<K, V> {
         ensures pairs { result.now ≡ self.now }
         ensures map { IsMap K.cmp V.below V.is_valid self.now }
     {
-        &self.pairs
+        self.pairs.as_slice()
     }
 
     /// The allocator that the map takes its memory from.
@@ -114,6 +114,7 @@ impl<K: Key, V: Join> JoinMap<K, V> {
     /// Takes out the pair with the greatest key, if there is one. O(1), without memory.
     pub fn pop_last(&mut self) -> Option<(K, V)>
         ensures pairs { self.old ≡ self.new ++ option_to_list result }
+        ensures none { IfNone result (self.old ≡ []) }
         ensures held { IfSome result (λ pair. IsHeld V.below V.is_valid pair.1) }
     {
         self.pairs.pop()
