@@ -1,4 +1,5 @@
 -- The entries of stores: contents of unit files with their versions.
+-- Source (a register in which the last writer wins): Shapiro, Preguica, Baquero, Zawirski 2011.
 use Rattle.std.specs.Prelude.{Option}
 use Rattle.std.specs.declared.cmp.Ordering.{Ordering}
 use Rattle.join_law.specs.VersionOrder as order

@@ -1,4 +1,5 @@
 -- Lists of edits, and their sum.
+-- Source (states as joins of updates, and their order): Shapiro, Preguica, Baquero, Zawirski 2011. Honest edits, counters and changed paths are this project's own.
 use Rattle.std.specs.Prelude.{◌≡◌, ℕ, Bool, true, not, if◌then◌else◌, max, Option, Some, None, List, [], ◌∷◌, ◌++◌, map, count_by, unwrap_or}
 use Rattle.std.specs.Option.{option_and_then}
 use Rattle.std.specs.Ordering.{eq_by_cmp, is_eq}

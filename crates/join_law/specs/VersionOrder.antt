@@ -1,4 +1,5 @@
 -- The order of versions, of entries, and of entries that may not be there yet: by counter, then writer, then content.
+-- Source (last writer wins by timestamps): Shapiro, Preguica, Baquero, Zawirski 2011; that ties go by content is this project's own.
 use Rattle.std.specs.Prelude.{◌≡◌, false, if◌then◌else◌, Option, Some, None}
 use Rattle.std.specs.Ordering.{nat_cmp, ordering_then, is_gt}
 use Rattle.std.specs.declared.cmp.Ordering.{Ordering}

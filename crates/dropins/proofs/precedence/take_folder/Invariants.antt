@@ -7,7 +7,7 @@ use Rattle.unit_name.specs.Names.{name_cmp}
 use Rattle.dropins.specs.Taken.{candidate_at}
 use Rattle.list_laws.specs.FirstSaid.{first_said}
 use Rattle.dropins.specs.Walks.{path}
-use Rattle.dropins.proofs.takes.take_folder.Given as goal
+use Rattle.dropins.proofs.precedence.take_folder.Given as goal
 
 abbrev pub invariant-loop-path : goal.invariant-loop-path
 invariant-loop-path l =

@@ -4,7 +4,7 @@ use Rattle.unit_name.specs.Names.{name_cmp}
 use Rattle.dropins.specs.Walks.{ranks, taken_in}
 use Rattle.list_laws.specs.FirstSaid.{said_more}
 use Rattle.dropins.specs.WalkLaws.{rank_is}
-use Rattle.dropins.proofs.takes.taken.Goals as goal
+use Rattle.dropins.proofs.precedence.taken.Goals as goal
 
 pub loop-rank-preserved : goal.loop-rank-preserved
 loop-rank-preserved c f =

@@ -6,7 +6,7 @@ use Rattle.unit_name.specs.Names.{name_cmp}
 use Rattle.dropins.specs.Taken.{candidate_at}
 use Rattle.list_laws.specs.FirstSaid.{first_said}
 use Rattle.dropins.proofs.Found.{folder_says}
-use Rattle.dropins.proofs.takes.take_folder.Goals as goal
+use Rattle.dropins.proofs.precedence.take_folder.Goals as goal
 
 pub loop-path-init : goal.loop-path-init
 loop-path-init c f =

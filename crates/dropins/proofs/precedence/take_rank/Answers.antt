@@ -5,7 +5,7 @@ use Rattle.unit_name.specs.Names.{name_cmp}
 use Rattle.dropins.specs.Taken.{candidate_at}
 use Rattle.dropins.specs.Walks.{path}
 use Rattle.list_laws.specs.FirstSaid.{said_more}
-use Rattle.dropins.proofs.takes.take_rank.Goals as goal
+use Rattle.dropins.proofs.precedence.take_rank.Goals as goal
 
 pub loop-dir-preserved : goal.loop-dir-preserved
 loop-dir-preserved c f =

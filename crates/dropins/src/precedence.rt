@@ -9,7 +9,7 @@ ghost use Rattle.dropins.specs.Walks.{path, taken_in, taken, unmasked};
 ghost use Rattle.std.specs.List.{Contains};
 ghost use Rattle.std.specs.List.Sorted.{IsStrictlySortedBy};
 ghost use Rattle.load_path.specs.Paths.{PathParts};
-ghost use Rattle.dropins.specs.declared.takes.Candidate.TheVariants.{At};
+ghost use Rattle.dropins.specs.declared.precedence.Candidate.TheVariants.{At};
 
 use crate::folder_lists::folders;
 use byte_strings::Bytes;
@@ -51,7 +51,8 @@ pub fn taken_paths(
     ending: &[u8],
 ) -> Result<Vec<Path>, AllocError>
     ensures rising { IfOk result (λ paths. IsStrictlySortedBy name_cmp (map file_name paths.items)) }
-    ensures exact { IfOk result (λ paths. (p : PathParts) → Contains paths.items p ↔ IsTaken store.now search (dirs_with ending.now names.now) (At p) p) }
+    ensures exact { IfOk result (λ paths. (p : PathParts) → Contains paths.items p ↔ IsTaken store.now
+        search (dirs_with ending.now names.now) (At p) p) }
 {
     let dirs = dirs_of(alloc, &folders(alloc, names)?, ending)?;
     let takes = taken(alloc, store, search, &dirs)?;
@@ -63,7 +64,8 @@ pub fn taken_paths(
 // A search in the store for each folder in each rank, then for each path that stands there one in
 // the store and one in what is taken: O((r + p) log n) with p paths in r such folders.
 fn taken(alloc: Global, store: &Store, search: Search, dirs: &[Bytes]) -> Result<Takes, AllocError>
-    ensures taken { IfOk result (λ takes. (f : List ℕ) → get name_cmp takes f ≡ taken store.now search dirs.now f) }
+    ensures taken { IfOk result (λ takes. (f : List ℕ) → get name_cmp takes f ≡ taken store.now search
+        dirs.now f) }
 {
     let mut takes = BTreeMap::new(alloc);
     for rank in 0..RANKS {
@@ -81,7 +83,8 @@ fn take_rank(
     rank: u8,
     dirs: &[Bytes],
 ) -> Result<(), AllocError>
-    ensures taken { OnOk result ((f : List ℕ) → get name_cmp takes.new f ≡ option_or (get name_cmp takes.old f) (taken_in store.now search dirs.now f rank)) }
+    ensures taken { OnOk result ((f : List ℕ) → get name_cmp takes.new f ≡ option_or
+        (get name_cmp takes.old f) (taken_in store.now search dirs.now f rank)) }
 {
     for dir in dirs {
         take_folder(alloc, store, takes, search, rank, dir.as_slice())?;
@@ -98,7 +101,8 @@ fn take_folder(
     rank: u8,
     dir: &[u8],
 ) -> Result<(), AllocError>
-    ensures taken { OnOk result ((f : List ℕ) → get name_cmp takes.new f ≡ option_or (get name_cmp takes.old f) (candidate_at store.now search (path rank dir.now f))) }
+    ensures taken { OnOk result ((f : List ℕ) → get name_cmp takes.new f ≡ option_or
+        (get name_cmp takes.old f) (candidate_at store.now search (path rank dir.now f))) }
 {
     for path in store.folder(rank, dir)? {
         take_path(alloc, store, takes, search, path)?;
@@ -114,7 +118,9 @@ fn take_path(
     search: Search,
     path: Path,
 ) -> Result<(), AllocError>
-    ensures taken { OnOk result ((f : List ℕ) → get name_cmp takes.new f ≡ option_or (get name_cmp takes.old f) (if bytes_eq path.name f then candidate_at store.now search path else None)) }
+    ensures taken { OnOk result ((f : List ℕ) → get name_cmp takes.new f ≡ option_or
+        (get name_cmp takes.old f) (if bytes_eq path.name f then candidate_at store.now search path else
+        None)) }
 {
     let name = Bytes::from_slice(alloc, path.name())?;
     if let Some(candidate) = candidate_at(store, search, path) {

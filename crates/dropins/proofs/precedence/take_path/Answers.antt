@@ -5,7 +5,7 @@ use Rattle.std.specs.BTreeMap.{get}
 use Rattle.unit_name.specs.Names.{name_cmp}
 use Rattle.dropins.specs.Taken.{candidate_at}
 use Rattle.dropins.proofs.Placed.{placed}
-use Rattle.dropins.proofs.takes.take_path.Goals as goal
+use Rattle.dropins.proofs.precedence.take_path.Goals as goal
 
 pub returns-in_ok-insert : goal.returns-in_ok-insert
 returns-in_ok-insert c = record {

@@ -4,11 +4,11 @@ use Rattle.std.specs.List.Sorted.{IsStrictlySortedBy}
 use Rattle.std.proofs.lemmas.Result.{IfOk-weaker}
 use Rattle.load_path.specs.Paths.{PathParts}
 use Rattle.unit_name.specs.Names.{name_cmp}
-use Rattle.dropins.specs.declared.takes.Candidate.TheVariants.{At}
+use Rattle.dropins.specs.declared.precedence.Candidate.TheVariants.{At}
 use Rattle.dropins.specs.Taken.{dirs_with, file_name, IsTaken}
 use Rattle.dropins.specs.Walks.{taken, unmasked}
 use Rattle.dropins.proofs.Rises.{rising, exact}
-use Rattle.dropins.proofs.takes.taken_paths.Goals as goal
+use Rattle.dropins.proofs.precedence.taken_paths.Goals as goal
 
 pub returns-clause-rising : goal.returns-clause-rising
 returns-clause-rising c =
