@@ -1,17 +1,16 @@
 -- Places behind pairs that were passed, and a pass that joins copies.
-use Rattle.std.specs.Prelude.{◌≡◌, ℕ, zero, suc, ◌<◌, ◌≤◌, ◌+◌, ◌-◌, List, [], ◌∷◌, ◌++◌, refl, length}
+use Rattle.std.specs.Prelude.{◌≡◌, ℕ, zero, suc, ◌<◌, List, [], ◌∷◌, ◌++◌, refl, length}
 use Rattle.std.specs.Bool.{IsTrue}
 use Rattle.std.specs.List.{insert}
 use Rattle.std.specs.Cmp.{IsTotalOrder}
-use Rattle.std.specs.Ordering.{is_eq}
-use Rattle.std.proofs.Common.{true, false, ap, sym, subst, ◌∙◌, get_or, set, append_assoc, arith}
+use Rattle.std.proofs.Common.{ap, get_or, set, arith}
 use Rattle.std.proofs.lemmas.Bool.{and_parts}
 use Rattle.std.specs.declared.cmp.Ordering.{Ordering}
-use Rattle.std.specs.declared.cmp.Ordering.TheVariants.{Less, Equal, Greater}
+use Rattle.std.specs.declared.cmp.Ordering.TheVariants.{Less}
 use Rattle.std.specs.FinMap.Entries.{is_sorted}
 use Rattle.list_laws.specs.Orderings.{turned}
 use Rattle.list_laws.specs.Searches.{below_at}
-use Rattle.sorted_pairs.specs.Places.{IsAt, IsGap, AreBelow, IsNotBelow}
+use Rattle.sorted_pairs.specs.Places.{IsAt, IsGap, AreBelow}
 
 pub set_behind : {A : Type 0} (xs ys : List A) (x : A) → set (xs ++ ys) (length xs) x ≡ xs ++ set ys 0 x
 set_behind [] ys x = refl

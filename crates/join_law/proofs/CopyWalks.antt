@@ -1,5 +1,5 @@
 -- A walk that joins copies of pairs, and one that compares pairs.
-use Rattle.std.specs.Prelude.{◌≡◌, ℕ, zero, suc, ◌<◌, ◌≤◌, ◌+◌, ◌-◌, List, [], ◌∷◌, ◌++◌, Option, Some, None, ◌↔◌, Bool, true, false, cond, refl, length}
+use Rattle.std.specs.Prelude.{◌≡◌, ℕ, zero, suc, ◌<◌, ◌≤◌, ◌+◌, ◌-◌, List, [], ◌∷◌, ◌++◌, Option, Some, None, true, false, cond, refl, length}
 use Rattle.std.specs.Bool.{IsTrue}
 use Rattle.std.specs.Cmp.{IsTotalOrder, tied_itself}
 use Rattle.std.specs.Ordering.{eq_by_cmp, is_eq}
@@ -7,7 +7,7 @@ use Rattle.std.proofs.Common.{ap, sym, subst, ◌∙◌, get_or, take, drop, ari
 use Rattle.std.proofs.lemmas.Bool.{and_parts}
 use Rattle.std.proofs.lemmas.List.{take_more, take-append-drop, length-drop}
 use Rattle.std.specs.declared.cmp.Ordering.{Ordering}
-use Rattle.std.specs.declared.cmp.Ordering.TheVariants.{Less, Equal, Greater}
+use Rattle.std.specs.declared.cmp.Ordering.TheVariants.{Less, Equal}
 use Rattle.std.specs.FinMap.Entries.{find, is_sorted, below_all, find_tied}
 use Rattle.list_laws.specs.Orderings.{is_less, is_equal, turned}
 use Rattle.list_laws.specs.Searches.{below_at}
@@ -207,22 +207,25 @@ module _ {K V : Type 0} (R : K → K → Ordering) (o : IsTotalOrder R) where
 
           -- the later pairs are joined with what stands now
           pub rest_joined : (new : List (K × V)) → IsJoin (MapBelow R below) now (drop i other) new → IsJoin (MapBelow R below) first other new
-          rest_joined new j = record { bounds = λ z. (
-            λ h.
-              let p = (j.bounds z).0 h in
-              let q = (u.joined.bounds z).0 p.0 in
-              (q.0, parts_below other i z q.1 p.1),
-            λ p. (j.bounds z).1 (
-              (u.joined.bounds z).1 (p.0, map_chain below itself chain R (take i other) other z (take_below other i) p.1),
-              map_chain below itself chain R (drop i other) other z (drop_below other i m.sorted) p.1)
-          ) }
+          rest_joined new j = record {
+            bounds = λ z. (
+              λ h.
+                  let p = (j.bounds z).0 h in
+                  let q = (u.joined.bounds z).0 p.0 in
+                  (q.0, parts_below other i z q.1 p.1),
+              λ p. (j.bounds z).1 (
+                (u.joined.bounds z).1 (p.0, map_chain below itself chain R (take i other) other z (take_below other i) p.1),
+                map_chain below itself chain R (drop i other) other z (drop_below other i m.sorted) p.1,
+              ),
+            );
+          }
 
           pub rest_stopped : (new : List (K × V)) → IsBetween (MapBelow R below) now (drop i other) new → IsBetween (MapBelow R below) first other new
           rest_stopped new j = record {
             kept = map_chain below itself chain R first now new first_now j.kept;
             within = λ z p q. j.within z
-              ((u.joined.bounds z).1 (p, map_chain below itself chain R (take i other) other z (take_below other i) q))
-              (map_chain below itself chain R (drop i other) other z (drop_below other i m.sorted) q);
+                ((u.joined.bounds z).1 (p, map_chain below itself chain R (take i other) other z (take_below other i) q))
+                (map_chain below itself chain R (drop i other) other z (drop_below other i m.sorted) q);
           }
 
           pub rest_single : (is_single : V → Type 0) (new : List (K × V)) → (IsSinglePair is_single (drop i other) → new ≡ now) → IsSinglePair is_single other → new ≡ first

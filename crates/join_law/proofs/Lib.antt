@@ -3,3 +3,4 @@ pub mod Ends
 pub mod CopyWalks
 pub mod Outcomes
 pub mod Behind
+pub mod FrontWalks

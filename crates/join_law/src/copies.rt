@@ -95,7 +95,7 @@ fn join_new_copies<K: Key, V: Join>(
     ensures refused { OnErr result (IsBetween (MapBelow K.cmp V.below) pairs.old.items other.now pairs.new.items) }
     ensures single { OnErr result (IsSinglePair V.is_single other.now → pairs.new.items ≡ pairs.old.items) }
 {
-    if other.len() < pairs.len() / 64 {
+    if other.len() <= 1 || other.len() < pairs.len() / 64 {
         join_each_copy(pairs, other)
     } else {
         join_copies_in_one(pairs, other)

@@ -30,21 +30,21 @@ pub returns-then-not-branch-clause-ok : goal.returns-then-not-branch-clause-ok
 returns-then-not-branch-clause-ok g c =
     let unchanged : c.join_held_copy.new.pairs.items ≡ c.loop-i.pairs.items = subst (λ b. OnFalse b (c.join_held_copy.new.pairs.items ≡ c.loop-i.pairs.items)) c.if-not-branch.true c.in_ok-join_held_copy.ensures.unchanged in
     let joined : IsJoin (MapBelow g.K.Ord.cmp g.V.Join.below) c.join_held_copy.new.pairs.items (take (length c.args.other.now - c.loop-i.i) (drop c.loop-i.i c.args.other.now)) c.join_new_copies.new.pairs.items → IsJoin (MapBelow g.K.Ord.cmp g.V.Join.below) c.args.pairs.now.items c.args.other.now c.join_new_copies.new.pairs.items = λ j.
-      rest_joined g.K.Ord.cmp g.met.K.Ord.total g.V.Join.below g.met.V.Join.reflexive g.met.V.Join.transitive g.V.Join.is_valid _ _ _ _ c.loop-i.invariant c.index-other-i.result c.index-other-i.is c.loop-i-test.true c.requires.other_map c.join_new_copies.new.pairs.items (subst (λ l. IsJoin (MapBelow g.K.Ord.cmp g.V.Join.below) c.loop-i.pairs.items l c.join_new_copies.new.pairs.items) (take_rest c.args.other.now c.loop-i.i (omega arith)) (subst (λ x. IsJoin (MapBelow g.K.Ord.cmp g.V.Join.below) x (take (length c.args.other.now - c.loop-i.i) (drop c.loop-i.i c.args.other.now)) c.join_new_copies.new.pairs.items) unchanged j)) in
+    rest_joined g.K.Ord.cmp g.met.K.Ord.total g.V.Join.below g.met.V.Join.reflexive g.met.V.Join.transitive g.V.Join.is_valid _ _ _ _ c.loop-i.invariant c.index-other-i.result c.index-other-i.is c.loop-i-test.true c.requires.other_map c.join_new_copies.new.pairs.items (subst (λ l. IsJoin (MapBelow g.K.Ord.cmp g.V.Join.below) c.loop-i.pairs.items l c.join_new_copies.new.pairs.items) (take_rest c.args.other.now c.loop-i.i (omega arith)) (subst (λ x. IsJoin (MapBelow g.K.Ord.cmp g.V.Join.below) x (take (length c.args.other.now - c.loop-i.i) (drop c.loop-i.i c.args.other.now)) c.join_new_copies.new.pairs.items) unchanged j)) in
     on_ok_weaker c.join_new_copies.result joined c.join_new_copies.ensures.ok
 
 pub returns-then-not-branch-clause-refused : goal.returns-then-not-branch-clause-refused
 returns-then-not-branch-clause-refused g c =
     let unchanged : c.join_held_copy.new.pairs.items ≡ c.loop-i.pairs.items = subst (λ b. OnFalse b (c.join_held_copy.new.pairs.items ≡ c.loop-i.pairs.items)) c.if-not-branch.true c.in_ok-join_held_copy.ensures.unchanged in
     let between : IsBetween (MapBelow g.K.Ord.cmp g.V.Join.below) c.join_held_copy.new.pairs.items (take (length c.args.other.now - c.loop-i.i) (drop c.loop-i.i c.args.other.now)) c.join_new_copies.new.pairs.items → IsBetween (MapBelow g.K.Ord.cmp g.V.Join.below) c.args.pairs.now.items c.args.other.now c.join_new_copies.new.pairs.items = λ j.
-      rest_stopped g.K.Ord.cmp g.met.K.Ord.total g.V.Join.below g.met.V.Join.reflexive g.met.V.Join.transitive g.V.Join.is_valid _ _ _ _ c.loop-i.invariant c.index-other-i.result c.index-other-i.is c.loop-i-test.true c.requires.other_map c.join_new_copies.new.pairs.items (subst (λ l. IsBetween (MapBelow g.K.Ord.cmp g.V.Join.below) c.loop-i.pairs.items l c.join_new_copies.new.pairs.items) (take_rest c.args.other.now c.loop-i.i (omega arith)) (subst (λ x. IsBetween (MapBelow g.K.Ord.cmp g.V.Join.below) x (take (length c.args.other.now - c.loop-i.i) (drop c.loop-i.i c.args.other.now)) c.join_new_copies.new.pairs.items) unchanged j)) in
+    rest_stopped g.K.Ord.cmp g.met.K.Ord.total g.V.Join.below g.met.V.Join.reflexive g.met.V.Join.transitive g.V.Join.is_valid _ _ _ _ c.loop-i.invariant c.index-other-i.result c.index-other-i.is c.loop-i-test.true c.requires.other_map c.join_new_copies.new.pairs.items (subst (λ l. IsBetween (MapBelow g.K.Ord.cmp g.V.Join.below) c.loop-i.pairs.items l c.join_new_copies.new.pairs.items) (take_rest c.args.other.now c.loop-i.i (omega arith)) (subst (λ x. IsBetween (MapBelow g.K.Ord.cmp g.V.Join.below) x (take (length c.args.other.now - c.loop-i.i) (drop c.loop-i.i c.args.other.now)) c.join_new_copies.new.pairs.items) unchanged j)) in
     on_err_weaker c.join_new_copies.result between c.join_new_copies.ensures.refused
 
 pub returns-then-not-branch-clause-single : goal.returns-then-not-branch-clause-single
 returns-then-not-branch-clause-single g c =
     let unchanged : c.join_held_copy.new.pairs.items ≡ c.loop-i.pairs.items = subst (λ b. OnFalse b (c.join_held_copy.new.pairs.items ≡ c.loop-i.pairs.items)) c.if-not-branch.true c.in_ok-join_held_copy.ensures.unchanged in
     let kept : (IsSinglePair g.V.Join.is_single (take (length c.args.other.now - c.loop-i.i) (drop c.loop-i.i c.args.other.now)) → c.join_new_copies.new.pairs.items ≡ c.join_held_copy.new.pairs.items) → IsSinglePair g.V.Join.is_single c.args.other.now → c.join_new_copies.new.pairs.items ≡ c.args.pairs.now.items = λ h.
-      rest_single g.K.Ord.cmp g.met.K.Ord.total g.V.Join.below g.met.V.Join.reflexive g.met.V.Join.transitive g.V.Join.is_valid _ _ _ _ c.loop-i.invariant c.index-other-i.result c.index-other-i.is c.loop-i-test.true c.requires.other_map g.V.Join.is_single c.join_new_copies.new.pairs.items (λ single. h (subst (IsSinglePair g.V.Join.is_single) (sym (take_rest c.args.other.now c.loop-i.i (omega arith))) single) ∙ unchanged) in
+    rest_single g.K.Ord.cmp g.met.K.Ord.total g.V.Join.below g.met.V.Join.reflexive g.met.V.Join.transitive g.V.Join.is_valid _ _ _ _ c.loop-i.invariant c.index-other-i.result c.index-other-i.is c.loop-i-test.true c.requires.other_map g.V.Join.is_single c.join_new_copies.new.pairs.items (λ single. h (subst (IsSinglePair g.V.Join.is_single) (sym (take_rest c.args.other.now c.loop-i.i (omega arith))) single) ∙ unchanged) in
     on_err_weaker c.join_new_copies.result kept c.join_new_copies.ensures.single
 
 pub returns-then-not-branch-clause-known : goal.returns-then-not-branch-clause-known

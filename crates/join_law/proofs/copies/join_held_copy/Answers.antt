@@ -1,5 +1,5 @@
 use Rattle.std.proofs.Common.{◌≡◌, ap, ◌∙◌, set}
-use Rattle.join_law.proofs.MapEdits.{set_same, joined_is_map, joined_is_join, known_here, between_is_map, between_is_between, unchanged_is_between, inserted_is_map, inserted_is_join, not_known}
+use Rattle.join_law.proofs.MapEdits.{set_same, joined_is_map, joined_is_join, known_here, between_is_map, between_is_between}
 use Rattle.sorted_pairs.specs.PlaceLaws.{find_gap}
 use Rattle.join_law.proofs.Outcomes.{on_err}
 use Rattle.join_law.proofs.copies.join_held_copy.Goals as goal

@@ -31,19 +31,19 @@ place_copy-requires-clause-held g c =
 
 pub loop-pair-preserved : goal.loop-pair-preserved
 loop-pair-preserved g c =
-    let new = c.place_copy.new.passed.items ++ c.place_copy.new.rest.items in
+    let new = c.place_copy.new.passed.items ++ c.place_copy.new.ahead.items in
     record {
       copied = copied_more g.K.Ord.cmp g.met.K.Ord.total g.V.Join.below g.met.V.Join.reflexive g.met.V.Join.transitive g.V.Join.is_valid _ _ _ _ c.loop-pair.invariant.copied c.pair-item.result c.pair-item.is c.loop-pair-test.true c.requires.other_map _ c.in_ok-place_copy.ensures.map (subst (λ now. IsJoin (MapBelow g.K.Ord.cmp g.V.Join.below) now ((c.pair-item.result.0, c.pair-item.result.1) ∷ []) new) c.pass_below.ensures.pairs c.in_ok-place_copy.ensures.ok);
       before = λ j d past within.
-        c.in_ok-place_copy.ensures.below (get_or c.args.other.now j d).0
-        (subst (λ pair. g.K.Ord.cmp pair.0 (get_or c.args.other.now j d).0 ≡ Less) (sym c.pair-item.is)
-        (keys_rise g.K.Ord.cmp c.args.other.now c.loop-pair.pair-index j c.pair-item.result d c.requires.other_map.sorted (omega arith) within));
+          c.in_ok-place_copy.ensures.below (get_or c.args.other.now j d).0
+          (subst (λ pair. g.K.Ord.cmp pair.0 (get_or c.args.other.now j d).0 ≡ Less) (sym c.pair-item.is)
+          (keys_rise g.K.Ord.cmp c.args.other.now c.loop-pair.pair-index j c.pair-item.result d c.requires.other_map.sorted (omega arith) within));
       room = omega arith;
     }
 
 pub returns-in_err-place_copy-clause-refused : goal.returns-in_err-place_copy-clause-refused
 returns-in_err-place_copy-clause-refused g c =
-    let new = c.place_copy.new.passed.items ++ c.place_copy.new.rest.items in
+    let new = c.place_copy.new.passed.items ++ c.place_copy.new.ahead.items in
     on_err _ (copied_stopped g.K.Ord.cmp g.met.K.Ord.total g.V.Join.below g.met.V.Join.reflexive g.met.V.Join.transitive g.V.Join.is_valid _ _ _ _ c.loop-pair.invariant.copied c.pair-item.result c.pair-item.is c.loop-pair-test.true c.requires.other_map _ (subst (λ now. IsBetween (MapBelow g.K.Ord.cmp g.V.Join.below) now ((c.pair-item.result.0, c.pair-item.result.1) ∷ []) new) c.pass_below.ensures.pairs c.in_err-place_copy.ensures.refused))
 
 pub returns-in_err-place_copy-clause-single : goal.returns-in_err-place_copy-clause-single
