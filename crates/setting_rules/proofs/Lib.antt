@@ -1,0 +1,2 @@
+mod MapLemmas
+mod SameKeys

@@ -1,0 +1,5 @@
+pub mod Kinds
+pub mod Maps
+pub mod Notes
+pub mod Rules
+pub mod Words

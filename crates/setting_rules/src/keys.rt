@@ -1,0 +1,27 @@
+//! Sections and their keys.
+ghost use Rattle.std.specs.Prelude.{◌≡◌, IfOk};
+
+use byte_strings::Bytes;
+use join_law::Key;
+use std::alloc::AllocError;
+
+/// A key of a section, whose values are kept together. The case of letters matters (systemd.syntax(7), "Introduction").
+#[derive(Debug, PartialEq, Eq, Hash, Drop)]
+pub struct SettingKey {
+    /// The name in the section's header.
+    pub section: Bytes,
+    /// The name of the key in the section.
+    pub key: Bytes,
+}
+
+impl SettingKey {
+    /// The same key again, with the same bytes. It fails for want of memory alone.
+    pub fn try_clone(&self) -> Result<SettingKey, AllocError>
+        ensures copy { IfOk result (λ copy. copy ≡ self.now) }
+    {
+        Ok(SettingKey {
+            section: self.section.try_clone()?,
+            key: self.key.try_clone()?,
+        })
+    }
+}
