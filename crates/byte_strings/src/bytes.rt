@@ -54,6 +54,15 @@ impl Bytes {
     pub fn allocator(&self) -> Global {
         *self.shared.allocator()
     }
+
+    /// The same bytes again, shared. It fails for want of memory alone, which here is that there are too many copies.
+    pub fn try_clone(&self) -> Result<Bytes, AllocError>
+        ensures copy { IfOk result (λ copy. copy ≡ self.now) }
+    {
+        Ok(Bytes {
+            shared: Arc::try_clone(&self.shared)?,
+        })
+    }
 }
 
 impl PartialEq for Bytes {
@@ -127,10 +136,7 @@ impl Key for Bytes {
 
     ghost exact = { slice_cmp-IsAntisymmetric nat_cmp-IsAntisymmetric };
 
-    /// The same bytes again, shared. It fails for want of memory alone, which here is that too many copies are held.
     fn try_clone(&self) -> Result<Bytes, AllocError> {
-        Ok(Bytes {
-            shared: Arc::try_clone(&self.shared)?,
-        })
+        Bytes::try_clone(self)
     }
 }

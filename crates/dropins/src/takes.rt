@@ -12,7 +12,7 @@ ghost use Rattle.load_path.specs.Paths.{PathParts};
 ghost use Rattle.dropins.specs.declared.takes.Candidate.TheVariants.{At};
 
 use crate::folder_lists::folders;
-use load_path::Bytes;
+use byte_strings::Bytes;
 use replica_store::{Content, LinkTarget, Path, Store};
 use std::alloc::{AllocError, Global};
 use std::collections::BTreeMap;
@@ -206,7 +206,7 @@ fn dir_with(alloc: Global, folder: &UnitName, ending: &[u8]) -> Result<Bytes, Al
 {
     let mut bytes = Vec::from_slice(alloc, folder.bytes())?;
     bytes.extend_from_slice(ending)?;
-    Ok(Bytes::from_vec(bytes))
+    Bytes::from_vec(bytes)
 }
 
 // The paths that are taken, by file name, without masks.

@@ -1,10 +1,10 @@
 //! What a path holds.
-ghost use Rattle.std.specs.Prelude.{◌≡◌, ◌≤◌, length, IfOk};
+ghost use Rattle.std.specs.Prelude.{◌≡◌, ◌≤◌, ◌⊎◌, length, Err, IsErr, IfOk};
 ghost use Rattle.std.specs.List.{list_all};
 ghost use Rattle.edit_sums.specs.Limits.{is_target, is_graphic};
 
+use byte_strings::Bytes;
 use join_law::Key;
-use load_path::Bytes;
 use std::alloc::AllocError;
 use std::cmp::Ordering;
 use std::marker::Model;
@@ -25,6 +25,20 @@ pub enum ContentFault {
     /// C2: a target without bytes, with over 4,095 of them, or with one outside 33 to 126.
     #[error("C2 BadLink")]
     BadLink,
+    /// Memory was refused.
+    #[error("out of memory")]
+    Memory,
+}
+
+impl From<AllocError> for ContentFault {
+    ghost use Rattle.std.specs.Prelude.{◌≡◌};
+    ghost use Rattle.edit_sums.specs.declared.contents.ContentFault.TheVariants.{Memory};
+
+    ghost from_gives = { λ _ fault. fault ≡ Memory };
+
+    fn from(_refused: AllocError) -> ContentFault {
+        ContentFault::Memory
+    }
 }
 
 /// The bytes of a file, at most 65,536.
@@ -141,27 +155,29 @@ impl Content {
     ghost use Rattle.edit_sums.specs.Contents.{file_of, link_of, sort_of, bytes_of};
     ghost use Rattle.edit_sums.specs.declared.contents.Content.TheVariants.{Gone};
 
-    /// A file of these bytes, or `FileTooLarge`. It takes no memory.
+    /// A file of these bytes, which aren't copied, or `FileTooLarge`; `Memory` only where they are no more than a file has.
     pub fn file(bytes: Vec<u8>) -> Result<Content, ContentFault>
-        ensures made { result ≡ file_of bytes.items }
+        ensures made { (result ≡ Err ContentFault.Memory) ⊎ (result ≡ file_of bytes.items) }
+        ensures refused { IsErr (file_of bytes.items) → result ≡ file_of bytes.items }
     {
         if bytes.len() > FILE_LIMIT {
             return Err(ContentFault::FileTooLarge);
         }
         Ok(Content::File(FileBytes {
-            inner: Bytes::from_vec(bytes),
+            inner: Bytes::from_vec(bytes)?,
         }))
     }
 
-    /// A symbolic link to this target, or `BadLink`. It takes no memory.
+    /// A symbolic link to this target, which isn't copied, or `BadLink`; `Memory` only where links may have it.
     pub fn link(target: Vec<u8>) -> Result<Content, ContentFault>
-        ensures made { result ≡ link_of target.items }
+        ensures made { (result ≡ Err ContentFault.Memory) ⊎ (result ≡ link_of target.items) }
+        ensures refused { IsErr (link_of target.items) → result ≡ link_of target.items }
     {
         if !is_lawful_target(&target) {
             return Err(ContentFault::BadLink);
         }
         Ok(Content::Link(LinkTarget {
-            target: Bytes::from_vec(target),
+            target: Bytes::from_vec(target)?,
         }))
     }
 

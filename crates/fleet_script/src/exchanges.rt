@@ -11,7 +11,8 @@ ghost use Rattle.fleet_script.specs.Holds.{Continues, Executes, IsJoinedAt, kept
 
 use crate::states::Shell;
 use delta_pieces::{Piece, delta_at, delta_for, digest, digest_at};
-use load_path::{Bytes, Path};
+use byte_strings::Bytes;
+use load_path::Path;
 use replica_store::Replica;
 use script_answers::{merge_done, part_done};
 use script_commands::{Fault, Refusal, Words, read_paths};

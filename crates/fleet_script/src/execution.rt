@@ -8,7 +8,8 @@ ghost use Rattle.fleet_script.specs.Scripts.{AnswersLine};
 
 use crate::states::Shell;
 use edit_sums::Content;
-use load_path::{Bytes, Path};
+use byte_strings::Bytes;
+use load_path::Path;
 use replica_store::Replica;
 use script_answers::{files_of, put_done, refused};
 use script_commands::{Command, Fault, Refusal, parse, read_file, read_link, read_path};

@@ -1,6 +1,6 @@
 //! What the shell keeps.
 use delta_pieces::Piece;
-use load_path::Bytes;
+use byte_strings::Bytes;
 use replica_store::Replica;
 use std::collections::{BTreeMap, BTreeSet};
 

@@ -2,11 +2,9 @@
 //! "Unit File Load Path").
 #![tactic(auto)]
 
-mod bytes;
 mod laws;
 mod paths;
 mod texts;
 
-pub use bytes::Bytes;
 pub use laws::paths_are_their_texts;
 pub use paths::{COMPONENT_LIMIT, Path, PathFault};

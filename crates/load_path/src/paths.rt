@@ -2,8 +2,8 @@
 ghost use Rattle.std.specs.Prelude.{◌≡◌, ◌<◌, ◌⊎◌, ◌||◌, ◌++◌, not, length, Err, IsErr, IsTrue, OnOk, OnErr};
 ghost use Rattle.load_path.specs.Paths.{directory_of, has_folder, is_component, path_of, text_of};
 
-use crate::bytes::Bytes;
 use crate::texts::{Parts, directory};
+use byte_strings::Bytes;
 use join_law::Key;
 use std::alloc::{AllocError, Global};
 use std::marker::Model;

@@ -1,9 +1,11 @@
 -- Which refusal a fault of a layer below is.
+use Rattle.edit_sums.specs.declared.contents.ContentFault.{ContentFault}
+use Rattle.edit_sums.specs.declared.contents.ContentFault.TheVariants as content
 use Rattle.load_path.specs.declared.paths.PathFault.{PathFault}
 use Rattle.load_path.specs.declared.paths.PathFault.TheVariants as path
 use Rattle.replica_store.specs.declared.replicas.EditFault.{EditFault}
 use Rattle.replica_store.specs.declared.replicas.EditFault.TheVariants as edit
-use Rattle.script_commands.specs.declared.commands.Refusal.TheVariants.{Directory, Depth, Component, VersionsSpent, Nothing, Length, Kind, EmptyPrefix, BadByte}
+use Rattle.script_commands.specs.declared.commands.Refusal.TheVariants.{Directory, Depth, Component, FileTooLarge, BadLink, VersionsSpent, Nothing, Length, Kind, EmptyPrefix, BadByte}
 use Rattle.unit_name.specs.declared.names.NameFault.{NameFault}
 use Rattle.unit_name.specs.declared.names.NameFault.TheVariants as name
 use Rattle.script_commands.specs.declared.commands.Fault.{Fault}
@@ -14,6 +16,11 @@ fault_of_path path.Directory = Refused Directory
 fault_of_path path.Depth = Refused Depth
 fault_of_path path.Component = Refused Component
 fault_of_path path.Memory = Memory
+
+abbrev pub fault_of_content : ContentFault → Fault
+fault_of_content content.FileTooLarge = Refused FileTooLarge
+fault_of_content content.BadLink = Refused BadLink
+fault_of_content content.Memory = Memory
 
 abbrev pub fault_of_edit : EditFault → Fault
 fault_of_edit edit.VersionsSpent = Refused VersionsSpent

@@ -1,6 +1,7 @@
 //! Commands, and why they are refused.
 ghost use Rattle.std.specs.Prelude.{◌≡◌, ℕ, List};
 
+use edit_sums::ContentFault;
 use load_path::PathFault;
 use replica_store::EditFault;
 use script_words::cut_word;
@@ -217,6 +218,21 @@ impl From<PathFault> for Fault {
             PathFault::Depth => Fault::Refused(Refusal::Depth),
             PathFault::Component => Fault::Refused(Refusal::Component),
             PathFault::Memory => Fault::Memory,
+        }
+    }
+}
+
+impl From<ContentFault> for Fault {
+    ghost use Rattle.std.specs.Prelude.{◌≡◌};
+    ghost use Rattle.script_commands.specs.Faults.{fault_of_content};
+
+    ghost from_gives = { λ refused fault. fault ≡ fault_of_content refused };
+
+    fn from(refused: ContentFault) -> Fault {
+        match refused {
+            ContentFault::FileTooLarge => Fault::Refused(Refusal::FileTooLarge),
+            ContentFault::BadLink => Fault::Refused(Refusal::BadLink),
+            ContentFault::Memory => Fault::Memory,
         }
     }
 }

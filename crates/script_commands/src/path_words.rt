@@ -42,18 +42,12 @@ pub fn read_file(alloc: Global, text: &[u8]) -> Result<Content, Fault>
     let Some(bytes) = unescape(alloc, text)? else {
         return Err(Fault::Refused(Refusal::BadText));
     };
-    match Content::file(bytes) {
-        Ok(content) => Ok(content),
-        Err(_) => Err(Fault::Refused(Refusal::FileTooLarge)),
-    }
+    Ok(Content::file(bytes)?)
 }
 
 /// The link to a target, if links may have it.
 pub fn read_link(alloc: Global, target: &[u8]) -> Result<Content, Fault>
     ensures read { MatchResult result (IsLinkTo target.now) (IsNoLink target.now) }
 {
-    match Content::link(Vec::from_slice(alloc, target)?) {
-        Ok(content) => Ok(content),
-        Err(_) => Err(Fault::Refused(Refusal::BadLink)),
-    }
+    Ok(Content::link(Vec::from_slice(alloc, target)?)?)
 }

@@ -2,20 +2,19 @@
 ghost use Rattle.std.specs.Prelude.{◌≡◌, IfOk};
 ghost use Rattle.section_reader.specs.Words.{code_of};
 
-use crate::section_names::SectionName;
-use crate::text::Text;
+use byte_strings::Bytes;
 use std::alloc::AllocError;
 use std::fmt;
 
 /// What a line of a section assigns (systemd.syntax(7), "Introduction").
 #[derive(Debug, PartialEq, Eq, Drop)]
 pub struct Assignment {
-    /// The name in the header that the line stands under.
-    pub section: SectionName,
+    /// The name in the header that the line stands under. All assignments of a section share its bytes.
+    pub section: Bytes,
     /// What stands before the line's first equals sign, without whitespace at its ends. It isn't empty.
-    pub key: Text,
+    pub key: Bytes,
     /// What stands behind that, without whitespace at its ends. It may be empty.
-    pub value: Text,
+    pub value: Bytes,
     /// The number of the line, from 1: of its first, where lines are joined.
     pub line: usize,
 }

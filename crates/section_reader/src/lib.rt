@@ -12,14 +12,11 @@ mod logical;
 mod parts;
 mod places;
 mod reader;
-mod section_names;
 mod sections;
-mod text;
 
+pub use byte_strings::Bytes;
 pub use assignments::{Assignment, Note, NoteKind};
 pub use items::Items;
 pub use laws::{reading_laws, writing_laws};
 pub use reader::read;
-pub use section_names::SectionName;
 pub use sections::Sections;
-pub use text::Text;

@@ -1,6 +1,6 @@
 //! Where a reader stands in a file.
 
-use crate::section_names::SectionName;
+use byte_strings::Bytes;
 
 /// What stands before a line that doesn't begin with a bracket.
 #[derive(Debug, Drop)]
@@ -8,7 +8,7 @@ pub(crate) enum Place {
     /// No header, good or bad.
     Outside,
     /// A header with this name.
-    Inside(SectionName),
+    Inside(Bytes),
     /// A bad header.
     PassedOver,
 }

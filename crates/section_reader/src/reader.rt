@@ -10,9 +10,8 @@ use crate::lines::Lines;
 use crate::logical::join;
 use crate::parts::{LineForm, form, header_name, is_bracketed, pair_of, trim};
 use crate::places::Place;
-use crate::section_names::SectionName;
 use crate::sections::Sections;
-use crate::text::Text;
+use byte_strings::Bytes;
 use std::alloc::{AllocError, Global};
 
 /// Reads the bytes of a unit file. It refuses for want of memory alone.
@@ -88,7 +87,7 @@ impl Reader {
     {
         match header_name(text) {
             Some(name) => {
-                self.place = Place::Inside(SectionName::from_slice(alloc, name)?);
+                self.place = Place::Inside(Bytes::from_slice(alloc, name)?);
             }
             None => {
                 self.note(number, NoteKind::BadHeader)?;
@@ -116,8 +115,8 @@ impl Reader {
         };
         let assignment = Assignment {
             section: section.try_clone()?,
-            key: Text::from_slice(alloc, key)?,
-            value: Text::from_slice(alloc, value)?,
+            key: Bytes::from_slice(alloc, key)?,
+            value: Bytes::from_slice(alloc, value)?,
             line: number,
         };
         self.sections.items.push(assignment)

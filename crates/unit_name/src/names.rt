@@ -6,6 +6,7 @@ ghost use Rattle.unit_name.specs.Forms.{template_of, with_instance, instance_nam
 
 use crate::kinds::Kind;
 use crate::parts::{bad_place, instance_of, is_name_byte, kind_in, prefix_of, stem_of, suffix_of};
+use byte_strings::Bytes;
 use std::alloc::{AllocError, Global};
 use std::cmp::Ordering;
 use std::marker::Model;
@@ -45,7 +46,7 @@ pub enum NameFault {
 /// bytes, a front of a name being less. What a name tells of itself costs a walk over its bytes and no memory.
 #[derive(Debug, Drop)]
 pub struct UnitName {
-    bytes: Vec<u8>,
+    bytes: Bytes,
 }
 
 impl Model for UnitName {
@@ -54,9 +55,9 @@ impl Model for UnitName {
 
     ghost Value = { List ℕ };
 
-    ghost view = { λ n. n.bytes.items };
+    ghost view = { λ n. n.bytes };
 
-    ghost invariant = { λ n. IsName n.bytes.items };
+    ghost invariant = { λ n. IsName n.bytes };
 }
 
 impl UnitName {
@@ -68,7 +69,7 @@ impl UnitName {
         ensures fault { IfErr result (IsFaultOf bytes.now) }
     {
         check(bytes)?;
-        match Vec::from_slice(alloc, bytes) {
+        match Bytes::from_slice(alloc, bytes) {
             Ok(bytes) => Ok(UnitName { bytes }),
             Err(_) => Err(NameFault::Memory),
         }
@@ -79,7 +80,7 @@ impl UnitName {
         ensures bytes { result.now ≡ self.now }
         ensures lawful { IsName self.now }
     {
-        &self.bytes
+        self.bytes.as_slice()
     }
 
     /// The kind that stands behind the last dot.
@@ -87,7 +88,7 @@ impl UnitName {
         ensures kind { kind self.now ≡ Some result }
         ensures lawful { IsName self.now }
     {
-        kind_in(&self.bytes).unwrap()
+        kind_in(self.bytes.as_slice()).unwrap()
     }
 
     /// Whether the name is plain, a template or an instance.
@@ -95,7 +96,7 @@ impl UnitName {
         ensures shape { result ≡ shape self.now }
         ensures lawful { IsName self.now }
     {
-        if !stem_of(&self.bytes).contains(&b'@') {
+        if !stem_of(self.bytes.as_slice()).contains(&b'@') {
             Shape::Plain
         } else if self.instance().is_empty() {
             Shape::Template
@@ -117,7 +118,7 @@ impl UnitName {
         ensures prefix { result.now ≡ prefix self.now }
         ensures lawful { IsName self.now }
     {
-        prefix_of(&self.bytes)
+        prefix_of(self.bytes.as_slice())
     }
 
     /// What stands between the first at sign and the last dot: nothing where the name is plain or a template.
@@ -125,7 +126,7 @@ impl UnitName {
         ensures instance { result.now ≡ instance self.now }
         ensures lawful { IsName self.now }
     {
-        instance_of(&self.bytes)
+        instance_of(self.bytes.as_slice())
     }
 
     /// The template of an instance: the same name without its instance. None for other names.
@@ -138,10 +139,10 @@ impl UnitName {
             Shape::Plain | Shape::Template => Ok(None),
             Shape::Instance => {
                 let bytes = instance_bytes(
-                    *self.bytes.allocator(),
+                    self.bytes.allocator(),
                     self.prefix(),
                     &[],
-                    suffix_of(&self.bytes),
+                    suffix_of(self.bytes.as_slice()),
                 )?;
                 Ok(Some(UnitName { bytes }))
             }
@@ -159,10 +160,10 @@ impl UnitName {
             return Ok(None);
         }
         let bytes = instance_bytes(
-            *self.bytes.allocator(),
+            self.bytes.allocator(),
             self.prefix(),
             instance,
-            suffix_of(&self.bytes),
+            suffix_of(self.bytes.as_slice()),
         )?;
         Ok(Some(UnitName { bytes }))
     }
@@ -175,7 +176,7 @@ impl UnitName {
         match self.shape() {
             Shape::Plain | Shape::Instance => false,
             Shape::Template => is_instance(instance)
-                && instance.len() <= LONGEST - self.bytes.len(),
+                && instance.len() <= LONGEST - self.bytes().len(),
         }
     }
 
@@ -184,7 +185,7 @@ impl UnitName {
         ensures same { IfOk result (λ copy. copy ≡ self.now) }
     {
         Ok(UnitName {
-            bytes: Vec::from_slice(*self.bytes.allocator(), &self.bytes)?,
+            bytes: self.bytes.try_clone()?,
         })
     }
 }
@@ -229,15 +230,15 @@ fn instance_bytes(
     prefix: &[u8],
     instance: &[u8],
     suffix: &[u8],
-) -> Result<Vec<u8>, AllocError>
-    ensures bytes { IfOk result (λ bytes. bytes.items ≡ instance_name prefix.now instance.now suffix.now) }
+) -> Result<Bytes, AllocError>
+    ensures bytes { IfOk result (λ bytes. bytes ≡ instance_name prefix.now instance.now suffix.now) }
 {
     let mut bytes = Vec::from_slice(alloc, prefix)?;
     bytes.push(b'@')?;
     bytes.extend_from_slice(instance)?;
     bytes.push(b'.')?;
     bytes.extend_from_slice(suffix)?;
-    Ok(bytes)
+    Bytes::from_vec(bytes)
 }
 
 impl PartialEq for UnitName {
@@ -291,6 +292,6 @@ impl Ord for UnitName {
     ghost matches_eq = { λ x y. refl };
 
     fn cmp(&self, other: &Self) -> Ordering {
-        self.bytes.as_slice().cmp(&other.bytes.as_slice())
+        self.bytes.cmp(&other.bytes)
     }
 }

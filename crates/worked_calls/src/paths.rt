@@ -2,7 +2,8 @@
 use crate::calls::{CallFault, Words, append_path, append_text};
 use crate::orders::{append_signs, same_word};
 use join_law::Key;
-use load_path::{Bytes, Path, PathFault};
+use byte_strings::Bytes;
+use load_path::{Path, PathFault};
 use std::alloc::{AllocError, Global};
 
 /// What a call on paths answers.
@@ -94,7 +95,7 @@ fn order(alloc: Global, words: &mut Words) -> Result<Vec<u8>, CallFault> {
 fn bytes(alloc: Global, words: &mut Words) -> Result<Vec<u8>, CallFault> {
     let text = words.text()?;
     let copy = Bytes::from_slice(alloc, &text)?;
-    let whole = Bytes::from_vec(text);
+    let whole = Bytes::from_vec(text)?;
     let mut out = Vec::new(alloc);
     append_text(&mut out, copy.as_slice())?;
     out.push(b' ')?;
@@ -108,7 +109,7 @@ fn bytes(alloc: Global, words: &mut Words) -> Result<Vec<u8>, CallFault> {
 fn bytes_order(alloc: Global, words: &mut Words) -> Result<Vec<u8>, CallFault> {
     let mut texts = Vec::new(alloc);
     for _ in 0..words.count() {
-        texts.push(Bytes::from_vec(words.text()?))?;
+        texts.push(Bytes::from_vec(words.text()?)?)?;
     }
     let mut out = Vec::new(alloc);
     append_signs(&mut out, &texts)?;

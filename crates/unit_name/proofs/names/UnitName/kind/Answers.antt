@@ -4,4 +4,4 @@ use Rattle.unit_name.specs.NameLaws.{made_of_name}
 use Rattle.unit_name.proofs.names.UnitName.kind.Goals as goal
 
 pub unwrap-requires : goal.unwrap-requires
-unwrap-requires c = ap is_some (c.kind_in.ensures.kind ∙ ap kind c.deref.ensures.value ∙ (made_of_name _ c.self.invariant).1)
+unwrap-requires c = ap is_some (c.kind_in.ensures.kind ∙ ap kind c.as_slice.ensures.bytes ∙ (made_of_name _ c.self.invariant).1)

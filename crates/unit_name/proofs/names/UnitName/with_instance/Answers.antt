@@ -4,11 +4,11 @@ use Rattle.unit_name.specs.Forms.{instance_name}
 use Rattle.unit_name.proofs.Steps.{taken, IsTakenName}
 use Rattle.unit_name.proofs.names.UnitName.with_instance.Goals as goal
 
-made : (c : goal.In_ok-bytes) → IsTakenName c.args.self.now c.args.instance.now c.in_ok-bytes.bytes.items
+made : (c : goal.In_ok-bytes) → IsTakenName c.args.self.now c.args.instance.now c.in_ok-bytes.bytes
 made c =
     let name = subst IsName c.self.view_is c.self.invariant in
-    let suffix_is = c.suffix_of.ensures.suffix ∙ ap suffix (c.deref.ensures.value ∙ c.self.view_is) in
-    taken c.args.self.now c.args.instance.now c.in_ok-bytes.bytes.items name (sym c.takes.ensures.test ∙ c.if-not-takes.false)
+    let suffix_is = c.suffix_of.ensures.suffix ∙ ap suffix (c.as_slice.ensures.bytes ∙ c.self.view_is) in
+    taken c.args.self.now c.args.instance.now c.in_ok-bytes.bytes name (sym c.takes.ensures.test ∙ c.if-not-takes.false)
     (c.in_ok-bytes.ensures.bytes ∙ ap (λ p. instance_name p c.args.instance.now c.suffix_of.result.now) c.prefix.ensures.prefix ∙ ap (instance_name (prefix c.args.self.now) c.args.instance.now) suffix_is)
 
 pub invariant_of-result : goal.invariant_of-result
