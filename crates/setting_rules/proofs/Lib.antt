@@ -1,2 +1,7 @@
+mod Firsts
+mod Kept
 mod MapLemmas
 mod SameKeys
+mod Starts
+mod Steps
+mod Texts

@@ -1,5 +1,9 @@
+pub mod Effects
+pub mod KeyLaws
 pub mod Kinds
 pub mod Maps
 pub mod Notes
+pub mod ResetLaws
 pub mod Rules
+pub mod Settings
 pub mod Words

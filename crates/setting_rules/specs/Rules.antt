@@ -1,5 +1,5 @@
 -- How the values of a key count, and what booleans say.
-use Rattle.std.specs.Prelude.{ℕ, Bool, true, false, ◌||◌, if◌then◌else◌, Option, Some, None, is_some, List, nat_eq, codes}
+use Rattle.std.specs.Prelude.{ℕ, Bool, true, false, ◌||◌, if◌then◌else◌, Option, Some, None, is_some, List, [], ◌∷◌, nat_eq, codes}
 use Rattle.std.specs.List.{starts_with}
 use Rattle.std.specs.Str.{bytes_eq, str_eq_ignore_ascii_case}
 use Rattle.setting_rules.specs.declared.rules.KeyRule.{KeyRule}
@@ -8,6 +8,10 @@ use Rattle.setting_rules.specs.Kinds.{settable_kind}
 
 abbrev pub Text : Type 0
 Text = List ℕ
+
+abbrev pub is_empty : Text → Bool
+is_empty [] = true
+is_empty (b ∷ bs) = false
 
 abbrev pub spells_yes : Text → Bool
 spells_yes text = str_eq_ignore_ascii_case text (codes "1") || str_eq_ignore_ascii_case text (codes "yes") || str_eq_ignore_ascii_case text (codes "true") || str_eq_ignore_ascii_case text (codes "on")

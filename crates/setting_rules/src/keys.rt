@@ -2,7 +2,7 @@
 ghost use Rattle.std.specs.Prelude.{◌≡◌, IfOk};
 
 use byte_strings::Bytes;
-use join_law::Key;
+use section_reader::Assignment;
 use std::alloc::AllocError;
 
 /// A key of a section, whose values are kept together. The case of letters matters (systemd.syntax(7), "Introduction").
@@ -15,6 +15,18 @@ pub struct SettingKey {
 }
 
 impl SettingKey {
+    ghost use Rattle.setting_rules.specs.Settings.{key_of};
+
+    /// The key that an assignment sets, with the same bytes. It fails for want of memory alone.
+    pub(crate) fn of(assignment: &Assignment) -> Result<SettingKey, AllocError>
+        ensures key { IfOk result (λ key. key ≡ key_of assignment.now) }
+    {
+        Ok(SettingKey {
+            section: assignment.section.try_clone()?,
+            key: assignment.key.try_clone()?,
+        })
+    }
+
     /// The same key again, with the same bytes. It fails for want of memory alone.
     pub fn try_clone(&self) -> Result<SettingKey, AllocError>
         ensures copy { IfOk result (λ copy. copy ≡ self.now) }

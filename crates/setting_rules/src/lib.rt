@@ -11,6 +11,7 @@ mod maps;
 mod names;
 mod notes;
 mod rules;
+mod settings;
 mod words;
 
 pub use kinds::DepKind;
@@ -18,3 +19,4 @@ pub use names::for_unit;
 pub use keys::SettingKey;
 pub use maps::SettingMap;
 pub use notes::{SettingNote, SettingNoteKind};
+pub use settings::{Settings, apply};

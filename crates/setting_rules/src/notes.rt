@@ -2,6 +2,7 @@
 ghost use Rattle.std.specs.Prelude.{◌≡◌};
 ghost use Rattle.setting_rules.specs.Notes.{code_of};
 
+use crate::keys::SettingKey;
 use byte_strings::Bytes;
 use std::fmt;
 
@@ -54,4 +55,16 @@ pub struct SettingNote {
     pub key: Bytes,
     /// What is wrong with it.
     pub kind: SettingNoteKind,
+}
+
+impl SettingNote {
+    ghost use Rattle.setting_rules.specs.Settings.{note_on};
+
+    /// A note on a value of a key. It takes no memory.
+    pub(crate) fn on(key: SettingKey, kind: SettingNoteKind) -> SettingNote
+        ensures note { result ≡ note_on key kind }
+    {
+        let SettingKey { section, key } = key;
+        SettingNote { section, key, kind }
+    }
 }
