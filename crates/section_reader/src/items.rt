@@ -29,6 +29,13 @@ impl<T: Drop> Items<T> {
         }
     }
 
+    /// These elements, without a copy of them. It takes no memory.
+    pub fn from_vec(elements: Vec<T>) -> Self
+        ensures elements { result ≡ elements.items }
+    {
+        Items { elements }
+    }
+
     /// Puts an element behind the others. It fails for want of memory alone, and then changes nothing.
     pub fn push(&mut self, element: T) -> Result<(), AllocError>
         ensures ok { OnOk result (self.new ≡ self.old ++ element ∷ []) }

@@ -1,11 +1,11 @@
 -- What one assignment does to the values of its key, and what was kept of the values before an assignment.
-use Rattle.std.specs.Prelude.{◌≡◌, ℕ, Bool, true, false, ◌&&◌, not, if◌then◌else◌, Option, Some, None, is_some, List, [], ◌∷◌, ◌++◌, map, filter, drop}
+use Rattle.std.specs.Prelude.{◌≡◌, ℕ, Bool, false, ◌&&◌, not, if◌then◌else◌, Option, Some, None, is_some, List, [], ◌∷◌, ◌++◌, map, filter, drop}
 use Rattle.section_reader.specs.declared.assignments.Assignment.{Assignment}
 use Rattle.setting_rules.specs.declared.keys.SettingKey.{SettingKey}
 use Rattle.setting_rules.specs.declared.rules.KeyRule.{KeyRule}
 use Rattle.setting_rules.specs.declared.rules.KeyRule.TheVariants.{Ignored, Dependency, Switch, Condition, Assertion, Plain}
 use Rattle.setting_rules.specs.Maps.{SettingMap, changed}
-use Rattle.setting_rules.specs.Rules.{Text, is_empty, boolean, rule_of}
+use Rattle.setting_rules.specs.Rules.{Text, is_empty, boolean, rule_of, same_rule}
 use Rattle.setting_rules.specs.Settings.{key_of}
 
 -- what a value does to those before it of its key; nothing, where it doesn't count. A value of a family counts where it is
@@ -21,16 +21,6 @@ effect Plain live value = Some (λ values. if is_empty value then [] else values
 abbrev pub changed_by : Option (List Text → List Text) → SettingMap → SettingKey → SettingMap
 changed_by None entries k = entries
 changed_by (Some change) entries k = changed change entries k
-
--- the two rules are one
-abbrev pub same_rule : KeyRule → KeyRule → Bool
-same_rule Ignored Ignored = true
-same_rule Dependency Dependency = true
-same_rule Switch Switch = true
-same_rule Condition Condition = true
-same_rule Assertion Assertion = true
-same_rule Plain Plain = true
-same_rule rule other = false
 
 -- an assignment empties the keys of its family, which have this rule
 abbrev pub resets_family : KeyRule → Assignment → Bool

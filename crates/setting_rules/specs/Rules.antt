@@ -38,3 +38,13 @@ rule_of section key =
     if starts_with nat_eq section (codes "X-") || starts_with nat_eq key (codes "X-") then Ignored
     else if bytes_eq section (codes "Unit") then unit_rule key
     else Plain
+
+-- the two rules are one
+abbrev pub same_rule : KeyRule → KeyRule → Bool
+same_rule Ignored Ignored = true
+same_rule Dependency Dependency = true
+same_rule Switch Switch = true
+same_rule Condition Condition = true
+same_rule Assertion Assertion = true
+same_rule Plain Plain = true
+same_rule rule other = false

@@ -1,6 +1,7 @@
 //! Sections and their keys.
 ghost use Rattle.std.specs.Prelude.{◌≡◌, IfOk};
 
+use crate::rules::KeyRule;
 use byte_strings::Bytes;
 use section_reader::Assignment;
 use std::alloc::AllocError;
@@ -16,6 +17,8 @@ pub struct SettingKey {
 
 impl SettingKey {
     ghost use Rattle.setting_rules.specs.Settings.{key_of};
+    ghost use Rattle.setting_rules.specs.Rows.{is_dependency};
+    ghost use Rattle.setting_rules.specs.Maps.{same_key};
 
     /// The key that an assignment sets, with the same bytes. It fails for want of memory alone.
     pub(crate) fn of(assignment: &Assignment) -> Result<SettingKey, AllocError>
@@ -25,6 +28,20 @@ impl SettingKey {
             section: assignment.section.try_clone()?,
             key: assignment.key.try_clone()?,
         })
+    }
+
+    /// Whether the key sets dependencies. It takes no memory.
+    pub(crate) fn sets_dependencies(&self) -> bool
+        ensures test { result ≡ is_dependency self.now }
+    {
+        KeyRule::of(self.section.as_slice(), self.key.as_slice()) == KeyRule::Dependency
+    }
+
+    /// Whether this is the key with this name of this section. It takes no memory.
+    pub(crate) fn is(&self, section: &[u8], key: &[u8]) -> bool
+        ensures test { result ≡ same_key (record { section = section.now; key = key.now }) self.now }
+    {
+        section == self.section.as_slice() && key == self.key.as_slice()
     }
 
     /// The same key again, with the same bytes. It fails for want of memory alone.

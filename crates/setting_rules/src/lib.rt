@@ -5,13 +5,19 @@
 #![tactic(auto)]
 
 mod booleans;
+mod dependency_lists;
+mod expansions;
 mod keys;
 mod kinds;
 mod maps;
+mod named_units;
 mod names;
 mod notes;
+mod rows;
 mod rules;
 mod settings;
+mod switches;
+mod word_names;
 mod words;
 
 pub use kinds::DepKind;
@@ -20,3 +26,8 @@ pub use keys::SettingKey;
 pub use maps::SettingMap;
 pub use notes::{SettingNote, SettingNoteKind};
 pub use settings::{Settings, apply};
+pub use expansions::values;
+pub use rows::{Row, Values};
+pub use named_units::dependencies;
+pub use switches::refuses_manual_start;
+pub use dependency_lists::{Dependencies, DependencyList};

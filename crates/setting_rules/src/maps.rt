@@ -1,6 +1,6 @@
 //! The values of each key, in the order of the keys.
-ghost use Rattle.std.specs.Prelude.{◌≡◌, ◌++◌, [], ◌∷◌, IfOk, OnOk};
-ghost use Rattle.setting_rules.specs.Maps.{place_of, with_key, changed};
+ghost use Rattle.std.specs.Prelude.{◌≡◌, ◌↔◌, ◌<◌, ◌++◌, [], ◌∷◌, IsTrue, IfOk, OnOk, Some, length, slice_get};
+ghost use Rattle.setting_rules.specs.Maps.{place_of, with_key, changed, values_at};
 
 use crate::keys::SettingKey;
 use byte_strings::Bytes;
@@ -32,6 +32,42 @@ impl SettingMap {
         SettingMap {
             entries: IndexMap::new(alloc),
         }
+    }
+
+    /// How many keys there are. It takes no memory.
+    pub fn len(&self) -> usize
+        ensures len { result ≡ length self.now }
+    {
+        self.entries.len()
+    }
+
+    /// Whether there are no keys. It takes no memory.
+    pub fn is_empty(&self) -> bool
+        ensures test { IsTrue result ↔ (self.now ≡ []) }
+    {
+        self.entries.is_empty()
+    }
+
+    /// The key at a place and its values. It takes no memory.
+    pub fn entry(&self, place: usize) -> (&SettingKey, &[Bytes])
+        requires within { place < length self.now }
+        ensures entry { slice_get self.now place ≡ Some (result.0.now, result.1.now) }
+    {
+        let (key, values) = self.entries.get_index(place).unwrap();
+        (key, values.as_slice())
+    }
+
+    /// The values of a key, none where it isn't there. It takes no memory, and walks over the keys.
+    pub fn values_of(&self, section: &[u8], key: &[u8]) -> &[Bytes]
+        ensures values { result.now ≡ values_at self.now (record { section = section.now; key = key.now }) }
+    {
+        for place in 0..self.len() {
+            let (entered, values) = self.entry(place);
+            if entered.is(section, key) {
+                return values;
+            }
+        }
+        &[]
     }
 
     // Where a key stands, which is entered with no values unless it is there.
