@@ -1,5 +1,6 @@
 pub mod Dependencies
 pub mod Effects
+pub mod JoinLaws
 pub mod KeyLaws
 pub mod Kinds
 pub mod Maps
@@ -10,4 +11,5 @@ pub mod Rows
 pub mod Rules
 pub mod Settings
 pub mod Switches
+pub mod WordLaws
 pub mod Words
