@@ -10,18 +10,18 @@ use Rattle.edit_sums.specs.SumLaws.{sum_of-same_edits}
 use Rattle.replica_store.specs.Replicas.{Replicated}
 use Rattle.world_law.specs.Cuts.{VersionMap}
 use Rattle.world_law.specs.declared.events.Event.{Event}
-use Rattle.world_law.specs.Worlds.{World, Node, happens, after, blank, took, took_by, AreSameEdits}
+use Rattle.world_law.specs.Worlds.{EventWorld, Node, happens, after, blank, took, took_by, AreSameEdits}
 use Rattle.delta_gossip.specs.Shows.{Shows}
 use Rattle.delta_gossip.proofs.Rounds.{stores_of}
 use Rattle.delta_gossip.proofs.Shown.{node_at}
 
 -- one event more
 
-after-push : (es : List Event) (e : Event) (w : World) → after (es ++ e ∷ []) w ≡ happens (after es w) e
+after-push : (es : List Event) (e : Event) (w : EventWorld) → after (es ++ e ∷ []) w ≡ happens (after es w) e
 after-push [] e w = refl
 after-push (f ∷ es) e w = after-push es e (happens w f)
 
-pub after_more : (es : List Event) (i : ℕ) (d : Event) (w : World) → i < length es → after (take (i + 1) es) w ≡ happens (after (take i es) w) (get_or es i d)
+pub after_more : (es : List Event) (i : ℕ) (d : Event) (w : EventWorld) → i < length es → after (take (i + 1) es) w ≡ happens (after (take i es) w) (get_or es i d)
 after_more es i d w h = ap (λ fs. after fs w) (take_more es i d h) ∙ after-push (take i es) (get_or es i d) w
 
 -- before any event
@@ -35,7 +35,7 @@ blank_shown n rs h = record { stores_are = h ∙ sym (map-replicate (λ (m : Nod
 
 -- what holds of each node's edits and store holds of each replica's
 
-pub each_shown : (w : World) (rs : List Replicated) (asks : List VersionMap) (pieces : List EntryMap) → Shows w (stores_of rs) asks pieces → (k : ℕ) (P : List Edit → EntryMap → Type 0) → IfSome (slice_get w.nodes k) (λ n. P n.took n.store) →
+pub each_shown : (w : EventWorld) (rs : List Replicated) (asks : List VersionMap) (pieces : List EntryMap) → Shows w (stores_of rs) asks pieces → (k : ℕ) (P : List Edit → EntryMap → Type 0) → IfSome (slice_get w.nodes k) (λ n. P n.took n.store) →
     IfSome (slice_get rs k) (λ r. P (took w k) r.store)
 each_shown w rs asks pieces h k P is =
     elim (slice_get rs k) as (λ o. slice_get rs k ≡ o → IfSome o (λ r. P (took w k) r.store)) [
@@ -54,7 +54,7 @@ agree_shown rs es sums k l same =
     (λ a at_k. IfSome_then (slice_get rs l) (sums l) (λ b at_l. at_k ∙ sum_of-same_edits (es k) (es l) same.0 same.1 ∙ sym at_l))
 
 -- two nodes at two moments
-pub same_shown : (w : World) (rs : List Replicated) (asks : List VersionMap) (pieces : List EntryMap) → Shows w (stores_of rs) asks pieces → (v : World) (k l : ℕ) →
+pub same_shown : (w : EventWorld) (rs : List Replicated) (asks : List VersionMap) (pieces : List EntryMap) → Shows w (stores_of rs) asks pieces → (v : EventWorld) (k l : ℕ) →
     IfSome (slice_get w.nodes k) (λ a. IfSome (slice_get v.nodes l) (λ b. AreSameEdits a.took b.took → a.store ≡ b.store)) → AreSameEdits (took w k) (took v l) →
     IfSome (slice_get rs k) (λ r. IfSome (slice_get v.nodes l) (λ b. r.store ≡ b.store))
 same_shown w rs asks pieces h v k l is same =

@@ -11,7 +11,7 @@ use Rattle.edit_sums.specs.Sums.{EntryMap, sum_of, join}
 use Rattle.replica_store.specs.Replicas.{Replicated}
 use Rattle.world_law.specs.Cuts.{VersionMap, digest_of, cut}
 use Rattle.world_law.specs.declared.events.Event.TheVariants.{Put, Ask, Cut, Give}
-use Rattle.world_law.specs.Worlds.{World, Node, Asked, Piece, taken, changed_at, asked_by, cut_for, given_to, edits_with, happens}
+use Rattle.world_law.specs.Worlds.{EventWorld, Node, Asked, Piece, taken, changed_at, asked_by, cut_for, given_to, edits_with, happens}
 use Rattle.delta_gossip.specs.Shows.{Shows}
 use Rattle.delta_gossip.proofs.Rounds.{stores_of}
 
@@ -59,7 +59,7 @@ unchanged_past i f [] h = refl
 unchanged_past zero f (m ∷ ns) h = cc
 unchanged_past (suc i) f (m ∷ ns) h = ap (λ (ms : List Node). m ∷ ms) (unchanged_past i f ns h)
 
-module _ (w : World) (rs : List Replicated) (asks : List VersionMap) (pieces : List EntryMap) (h : Shows w (stores_of rs) asks pieces) where
+module _ (w : EventWorld) (rs : List Replicated) (asks : List VersionMap) (pieces : List EntryMap) (h : Shows w (stores_of rs) asks pieces) where
   -- a replica's node, an ask's and a piece's in the model
 
   pub node_at : (i : ℕ) (r : Replicated) → slice_get rs i ≡ Some r → (n : Node) × (slice_get w.nodes i ≡ Some n) × (n.store ≡ r.store)

@@ -1,2 +1,4 @@
+pub mod Convergence
+pub mod Exchanges
 pub mod Shows
 pub mod Sweeps

@@ -1,24 +1,25 @@
 -- The worlds of the program as worlds of the model.
+-- Source: this project's own.
 use Rattle.std.specs.Prelude.{◌≡◌, ℕ, List, map, slice_get, IfSome}
 use Rattle.edit_sums.specs.declared.entries.Edit.{Edit}
 use Rattle.edit_sums.specs.Sums.{EntryMap}
 use Rattle.world_law.specs.Cuts.{VersionMap}
-use Rattle.world_law.specs.Worlds.{World, after, blank, took}
+use Rattle.world_law.specs.Worlds.{EventWorld, after, blank, took}
 use Rattle.world_law.specs.declared.events.Event.{Event}
-use Rattle.delta_gossip.specs.declared.worlds.World.{World as RunWorld}
+use Rattle.delta_gossip.specs.declared.worlds.World.{World}
 
 -- these are the stores, asks and pieces of the world
-pub record Shows (w : World) (stores : List EntryMap) (asks : List VersionMap) (pieces : List EntryMap) : Type 0 where
+pub record Shows (w : EventWorld) (stores : List EntryMap) (asks : List VersionMap) (pieces : List EntryMap) : Type 0 where
   pub stores_are : stores ≡ map (λ n. n.store) w.nodes
   pub asks_are : asks ≡ map (λ a. a.versions) w.asks
   pub pieces_are : pieces ≡ map (λ p. p.entries) w.pieces
 
 -- the replicas, asks and pieces of the program are those of the world
-abbrev pub IsWorld : World → RunWorld → Type 0
+abbrev pub IsWorld : EventWorld → World → Type 0
 IsWorld w r = Shows w (map (λ s. s.store) r.replicas.items) r.asks.items r.pieces.items
 
 -- the model world of so many nodes after these events
-abbrev pub world_after : ℕ → List Event → World
+abbrev pub world_after : ℕ → List Event → EventWorld
 world_after n events = after events (blank n)
 
 -- what node k took in these events, in the order in which it took it
@@ -30,5 +31,5 @@ abbrev pub NodeHolds : ℕ → List Event → ℕ → (EntryMap → Type 0) → 
 NodeHolds n events k P = IfSome (slice_get (world_after n events).nodes k) (λ node. P node.store)
 
 -- this holds of the store of replica k, if there is such a replica
-abbrev pub ReplicaHolds : RunWorld → ℕ → (EntryMap → Type 0) → Type 0
+abbrev pub ReplicaHolds : World → ℕ → (EntryMap → Type 0) → Type 0
 ReplicaHolds world k P = IfSome (slice_get world.replicas.items k) (λ replica. P replica.store)

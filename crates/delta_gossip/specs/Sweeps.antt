@@ -1,4 +1,5 @@
 -- What a sweep over replicas comes to.
+-- Source (least upper bounds): Shapiro, Preguica, Baquero, Zawirski 2011.
 use Rattle.std.specs.Prelude.{◌≡◌, List, [], ◌∷◌, All}
 use Rattle.std.specs.FinMap as finmap
 use Rattle.edit_sums.specs.Sums.{EntryMap, join, IsStoreBelow}

@@ -2,7 +2,7 @@
 ghost use Rattle.std.specs.Prelude.{◌≡◌, map, IfOk, OnOk};
 ghost use Rattle.edit_sums.specs.Sums.{join};
 ghost use Rattle.world_law.specs.Cuts.{cut};
-ghost use Rattle.world_law.specs.Worlds.{World as Model, happens};
+ghost use Rattle.world_law.specs.Worlds.{EventWorld, happens};
 ghost use Rattle.world_law.specs.declared.events.Event.TheVariants.{Put, Ask, Cut, Give};
 ghost use Rattle.delta_gossip.specs.Shows.{IsWorld};
 
@@ -16,8 +16,10 @@ use world_law::{Event, Paths};
 
 /// What one event does: whatever model world is shown before, the next one is shown after it.
 pub fn step(alloc: Global, world: &mut World, event: &Event) -> Result<(), AllocError>
-    ensures writers { OnOk result (map (λ r. r.writer) world.new.replicas.items ≡ map (λ r. r.writer) world.old.replicas.items) }
-    ensures model { OnOk result ((w : Model) → IsWorld w world.old → IsWorld (happens w event.now) world.new) }
+    ensures writers { OnOk result (map (λ r. r.writer) world.new.replicas.items ≡ map
+        (λ r. r.writer) world.old.replicas.items) }
+    ensures model { OnOk result ((w : EventWorld) → IsWorld w world.old →
+        IsWorld (happens w event.now) world.new) }
 {
     match event {
         Event::Put { node, edit } => put_edit(alloc, world, *node, edit),
@@ -29,8 +31,10 @@ pub fn step(alloc: Global, world: &mut World, event: &Event) -> Result<(), Alloc
 
 // A node puts a copy of an edit into its store.
 fn put_edit(alloc: Global, world: &mut World, node: usize, edit: &Edit) -> Result<(), AllocError>
-    ensures writers { OnOk result (map (λ r. r.writer) world.new.replicas.items ≡ map (λ r. r.writer) world.old.replicas.items) }
-    ensures model { OnOk result ((w : Model) → IsWorld w world.old → IsWorld (happens w (Put node edit.now)) world.new) }
+    ensures writers { OnOk result (map (λ r. r.writer) world.new.replicas.items ≡ map
+        (λ r. r.writer) world.old.replicas.items) }
+    ensures model { OnOk result ((w : EventWorld) → IsWorld w world.old →
+        IsWorld (happens w (Put node edit.now)) world.new) }
 {
     let Some(replica) = world.replicas.get_mut(node) else {
         return Ok(());
@@ -51,8 +55,10 @@ fn join_store(replica: &mut Replica, store: Store) -> Result<(), AllocError>
 
 // A node asks.
 fn ask_as(alloc: Global, world: &mut World, node: usize) -> Result<(), AllocError>
-    ensures writers { OnOk result (map (λ r. r.writer) world.new.replicas.items ≡ map (λ r. r.writer) world.old.replicas.items) }
-    ensures model { OnOk result ((w : Model) → IsWorld w world.old → IsWorld (happens w (Ask node)) world.new) }
+    ensures writers { OnOk result (map (λ r. r.writer) world.new.replicas.items ≡ map
+        (λ r. r.writer) world.old.replicas.items) }
+    ensures model { OnOk result ((w : EventWorld) → IsWorld w world.old →
+        IsWorld (happens w (Ask node)) world.new) }
 {
     let Some(replica) = world.replicas.get(node) else {
         return Ok(());
@@ -70,8 +76,10 @@ fn cut_piece(
     ask: usize,
     paths: &Option<Paths>,
 ) -> Result<(), AllocError>
-    ensures writers { OnOk result (map (λ r. r.writer) world.new.replicas.items ≡ map (λ r. r.writer) world.old.replicas.items) }
-    ensures model { OnOk result ((w : Model) → IsWorld w world.old → IsWorld (happens w (Cut node ask paths.now)) world.new) }
+    ensures writers { OnOk result (map (λ r. r.writer) world.new.replicas.items ≡ map
+        (λ r. r.writer) world.old.replicas.items) }
+    ensures model { OnOk result ((w : EventWorld) → IsWorld w world.old →
+        IsWorld (happens w (Cut node ask paths.now)) world.new) }
 {
     let Some(replica) = world.replicas.get(node) else {
         return Ok(());
@@ -101,8 +109,10 @@ fn cut_for(
 
 // A node is given a piece, which stays.
 fn give_piece(world: &mut World, piece: usize, node: usize) -> Result<(), AllocError>
-    ensures writers { OnOk result (map (λ r. r.writer) world.new.replicas.items ≡ map (λ r. r.writer) world.old.replicas.items) }
-    ensures model { OnOk result ((w : Model) → IsWorld w world.old → IsWorld (happens w (Give piece node)) world.new) }
+    ensures writers { OnOk result (map (λ r. r.writer) world.new.replicas.items ≡ map
+        (λ r. r.writer) world.old.replicas.items) }
+    ensures model { OnOk result ((w : EventWorld) → IsWorld w world.old →
+        IsWorld (happens w (Give piece node)) world.new) }
 {
     let Some(piece) = world.pieces.get(piece) else {
         return Ok(());

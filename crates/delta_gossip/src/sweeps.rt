@@ -13,9 +13,12 @@ use std::alloc::AllocError;
 /// It fails for want of memory alone. Each store then lies between what it was and the join of all,
 /// and the same call may be made again.
 pub fn sweep(replicas: &mut [Replica]) -> Result<(), AllocError>
-    ensures joined { OnOk result (replicas.new ≡ map (with_store (join_all (map (λ r. r.store) replicas.old))) replicas.old) }
-    ensures between { OnErr result (AreBetween (join_all (map (λ r. r.store) replicas.old)) replicas.old replicas.new) }
-    ensures again { OnErr result (join_all (map (λ r. r.store) replicas.new) ≡ join_all (map (λ r. r.store) replicas.old)) }
+    ensures joined { OnOk result (replicas.new ≡ map
+        (with_store (join_all (map (λ r. r.store) replicas.old))) replicas.old) }
+    ensures between { OnErr result (AreBetween (join_all (map (λ r. r.store) replicas.old)) replicas.old
+        replicas.new) }
+    ensures again { OnErr result (join_all (map (λ r. r.store) replicas.new) ≡ join_all
+        (map (λ r. r.store) replicas.old)) }
 {
     match replicas.split_first_mut() {
         None => Ok(()),
@@ -28,8 +31,10 @@ pub fn sweep(replicas: &mut [Replica]) -> Result<(), AllocError>
 
 // Brings all the others into the first.
 fn gather(first: &mut Replica, rest: &[Replica]) -> Result<(), AllocError>
-    ensures gathered { OnOk result (first.new ≡ with_store (join_all (map (λ r. r.store) (first.old ∷ rest.now))) first.old) }
-    ensures between { OnErr result (IsBetween (join_all (map (λ r. r.store) (first.old ∷ rest.now))) first.old first.new) }
+    ensures gathered { OnOk result (first.new ≡ with_store
+        (join_all (map (λ r. r.store) (first.old ∷ rest.now))) first.old) }
+    ensures between { OnErr result (IsBetween (join_all (map (λ r. r.store) (first.old ∷ rest.now)))
+        first.old first.new) }
 {
     for replica in rest {
         first.merge(replica.store())?;

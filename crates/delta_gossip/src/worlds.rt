@@ -1,10 +1,9 @@
 //! Worlds of replicas, run.
-ghost use Rattle.std.specs.Prelude.{◌≡◌, ◌++◌, ℕ, length, map, reverse, List, IfOk};
-ghost use Rattle.edit_sums.specs.Sums.{sum_of, IsHonest};
-ghost use Rattle.world_law.specs.Took.{IsSumOf, Took};
-ghost use Rattle.world_law.specs.Worlds.{blank, puts_of, AreSameEdits};
+ghost use Rattle.std.specs.Prelude.{◌≡◌, length, map, List, IfOk};
+ghost use Rattle.world_law.specs.Worlds.{blank};
 ghost use Rattle.world_law.specs.declared.events.Event.{Event};
-ghost use Rattle.delta_gossip.specs.Shows.{took_after, world_after, IsWorld, NodeHolds, ReplicaHolds};
+ghost use Rattle.delta_gossip.specs.Convergence.{Agrees, AgreesLater, HoldsSums, HoldsSumsAsTold};
+ghost use Rattle.delta_gossip.specs.Shows.{world_after, IsWorld};
 
 use crate::steps::step;
 use delta_pieces::{Digest, Piece};
@@ -44,24 +43,19 @@ pub fn run_world(alloc: Global, writers: &[u32], events: &[Event]) -> Result<Wor
 
     // Where no version stands for two of the edits that were put: replica k holds the sum of the
     // edits that node k took, which is the greatest of them at each path.
-    ensures sums { IfOk result (λ world. IsHonest (puts_of (length writers.now) events.now) → (k : ℕ) →
-        ReplicaHolds world k (λ store. store ≡ sum_of (took_after (length writers.now) events.now k))) }
+    ensures sums { IfOk result (HoldsSums (length writers.now) events.now) }
 
     // The same, with what node k took told from the events alone.
-    ensures told { IfOk result (λ world. IsHonest (puts_of (length writers.now) events.now) → (k : ℕ) →
-        ReplicaHolds world k (λ store. IsSumOf (Took (length writers.now) (reverse events.now) k) store)) }
+    ensures told { IfOk result (HoldsSumsAsTold (length writers.now) events.now) }
 
     // So, if nodes k and l took the same edits, in whatever order and number, replica k holds the
     // same as replica l.
-    ensures agree { IfOk result (λ world. IsHonest (puts_of (length writers.now) events.now) → (k l : ℕ) →
-        AreSameEdits (took_after (length writers.now) events.now k) (took_after (length writers.now) events.now l) →
-        ReplicaHolds world k (λ one. ReplicaHolds world l (λ other. one ≡ other))) }
+    ensures agree { IfOk result (Agrees (length writers.now) events.now) }
 
     // Also at two moments: if node k took by now the same edits as node l by any later moment,
     // replica k holds now the same as node l then.
-    ensures same { IfOk result (λ world. (later : List Event) → IsHonest (puts_of (length writers.now) (events.now ++ later)) → (k l : ℕ) →
-        AreSameEdits (took_after (length writers.now) events.now k) (took_after (length writers.now) (events.now ++ later) l) →
-        ReplicaHolds world k (λ early. NodeHolds (length writers.now) (events.now ++ later) l (λ late. early ≡ late))) }
+    ensures same { IfOk result (λ world. (later : List Event) → AgreesLater
+        (length writers.now) events.now world later) }
 {
     converges();
     let mut world = begin(alloc, writers)?;

@@ -41,7 +41,8 @@ fn versions_of(alloc: Global, entries: &[(Path, Entry)]) -> Result<Vec<(Path, Ve
 /// alone.
 pub fn digest_at(alloc: Global, replica: &Replica, paths: &[Path]) -> Result<Digest, AllocError>
     ensures digest { IfOk result (λ digest. digest ≡ digest_of (only_at paths.now replica.now.store)) }
-    ensures same_cut { IfOk result (λ digest. (s : EntryMap) → cut s digest (Some paths.now) ≡ cut s (digest_of replica.now.store) (Some paths.now)) }
+    ensures same_cut { IfOk result (λ digest. (s : EntryMap) → cut s digest (Some paths.now) ≡ cut s
+        (digest_of replica.now.store) (Some paths.now)) }
 {
     let mut versions = Vec::new(alloc);
     for path in paths {

@@ -22,7 +22,8 @@ pub fn newer_entries(
 ) -> Result<Vec<(Path, Entry)>, AllocError>
     requires sorted { IsTrue (is_sorted path_cmp entries.now) }
     requires versions_sorted { IsTrue (is_sorted path_cmp versions.now) }
-    ensures newer { IfOk result (λ newer. newer.items ≡ filter (λ p. is_newer p.1.version (find path_cmp p.0 versions.now)) entries.now) }
+    ensures newer { IfOk result (λ newer. newer.items ≡ filter (λ p. is_newer p.1.version
+        (find path_cmp p.0 versions.now)) entries.now) }
 {
     let mut newer = Vec::new(alloc);
     let mut left = versions;
@@ -40,7 +41,8 @@ fn from_path<'a>(versions: &'a [(Path, Version)], path: &Path) -> &'a [(Path, Ve
     requires sorted { IsTrue (is_sorted path_cmp versions.now) }
     ensures sorted { IsTrue (is_sorted path_cmp result.now) }
     ensures next { IsNotBelow path_cmp path.now result.now }
-    ensures held { (q : PathParts) → path_cmp q path.now ≢ Less → find path_cmp q result.now ≡ find path_cmp q versions.now }
+    ensures held { (q : PathParts) → path_cmp q path.now ≢ Less → find path_cmp q result.now ≡ find path_cmp
+        q versions.now }
 {
     let mut left = versions;
     while let Some((next, further)) = left.split_first() {

@@ -98,7 +98,7 @@ impl Piece {
         ensures first { IfOk result (λ parts. finmap.entries parts.0 ≡ take at (finmap.entries self)) }
         ensures second { IfOk result (λ parts. finmap.entries parts.1 ≡ drop at (finmap.entries self)) }
         ensures joined { IfOk result (λ parts. join parts.0 parts.1 ≡ self) }
-        ensures refused { IfErr result (λ fault. fault.rest ≡ self) }
+        ensures rest { IfErr result (λ fault. fault.rest ≡ self) }
     {
         let mut front = self.store.into_entries();
         let at = at.min(front.len());

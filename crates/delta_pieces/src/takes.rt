@@ -20,7 +20,7 @@ pub struct TakeFault {
 pub fn take(replica: &mut Replica, piece: Piece) -> Result<u64, TakeFault>
     ensures ok { OnOk result (replica.new ≡ record replica.old { store = join replica.old.store piece }) }
     ensures changed { IfOk result (λ changed. changed ≡ changed_paths replica.old.store replica.new.store) }
-    ensures refused { OnErr result (replica.new ≡ replica.old) }
+    ensures err { OnErr result (replica.new ≡ replica.old) }
     ensures rest { IfErr result (λ fault. fault.rest ≡ piece) }
 {
     match replica.absorb(piece.into_store()) {

@@ -14,8 +14,8 @@ use Rattle.load_path.specs.PathLaws.{path_cmp_total, path_cmp-IsAntisymmetric}
 use Rattle.edit_sums.specs.declared.entries.Entry.{Entry}
 use Rattle.edit_sums.specs.Sums.{EntryMap, shown}
 use Rattle.replica_store.specs.Folders.{is_in}
-use Rattle.dropins.specs.declared.takes.Candidate.{Candidate}
-use Rattle.dropins.specs.declared.takes.Search.{Search}
+use Rattle.dropins.specs.declared.precedence.Candidate.{Candidate}
+use Rattle.dropins.specs.declared.precedence.Search.{Search}
 use Rattle.dropins.specs.Taken.{as_found, candidate_at}
 use Rattle.list_laws.specs.FirstSaid.{first_said}
 use Rattle.list_laws.specs.Orderings.{is_equal}

@@ -7,7 +7,7 @@ use Rattle.std.specs.BTreeMap.{BTreeMap, get}
 use Rattle.std.proofs.lemmas.Map.Text.{is_eq-slice_cmp}
 use Rattle.std.proofs.lemmas.Slice.Eq.{bytes_eq-Decides}
 use Rattle.unit_name.specs.Names.{name_cmp}
-use Rattle.dropins.specs.declared.takes.Candidate.{Candidate}
+use Rattle.dropins.specs.declared.precedence.Candidate.{Candidate}
 use Rattle.list_laws.specs.FirstSaid.{or_none}
 
 none_is : (o : Option Candidate) → is_some o ≡ false → o ≡ None

@@ -15,10 +15,10 @@ use Rattle.load_path.specs.Paths.{PathParts}
 use Rattle.edit_sums.specs.Sums.{EntryMap}
 use Rattle.unit_name.specs.Names.{Name, is_name, IsName, name_cmp}
 use Rattle.unit_name.specs.NameLaws.{name_cmp-IsAntisymmetric}
-use Rattle.dropins.specs.declared.takes.Candidate.{Candidate}
-use Rattle.dropins.specs.declared.takes.Candidate.TheVariants.{Mask, At}
-use Rattle.dropins.specs.declared.takes.Search.{Search}
-use Rattle.dropins.specs.declared.takes.Search.TheVariants.{Links}
+use Rattle.dropins.specs.declared.precedence.Candidate.{Candidate}
+use Rattle.dropins.specs.declared.precedence.Candidate.TheVariants.{Mask, At}
+use Rattle.dropins.specs.declared.precedence.Search.{Search}
+use Rattle.dropins.specs.declared.precedence.Search.TheVariants.{Links}
 use Rattle.dropins.specs.Taken.{file_name, dirs_with, ending, IsTaken, IsLinked}
 use Rattle.dropins.specs.Walks.{taken, given, unmasked}
 use Rattle.dropins.specs.WalkLaws.{found_iff_taken, found_name}

@@ -1,4 +1,5 @@
 -- The folders of a list of names.
+-- Source: systemd.unit(5), "Description"; the order of the whole list is this project's own.
 use Rattle.std.specs.Prelude.{ℕ, zero, suc, ◌-◌, ◌==◌, Bool, if◌then◌else◌, Option, Some, None, List, [], ◌∷◌, ◌++◌, length, take, slice_index, fold}
 use Rattle.std.specs.List.{flat_map, list_any}
 use Rattle.std.specs.Str.{bytes_eq}

@@ -1,4 +1,5 @@
 -- A list of names beside a set of the same names.
+-- Source: this project's own.
 use Rattle.std.specs.Prelude.{◌≡◌}
 use Rattle.std.specs.BTreeSet.{contains}
 use Rattle.unit_name.specs.Names.{Name, name_cmp}

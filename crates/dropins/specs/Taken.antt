@@ -1,4 +1,5 @@
 -- Drop-ins and links: what stands for a file name in the folders of names, and what of it is taken.
+-- Source: systemd.unit(5), "Description"; that the rank goes before the closeness of a folder is this project's own.
 use Rattle.std.specs.Prelude.{◌≡◌, ℕ, ◌-◌, ◌<◌, ◌≤◌, ◌⊎◌, nat_lt, Bool, ◌&&◌, if◌then◌else◌, Option, Some, None, List, [], ◌∷◌, ◌++◌, length, map, drop, slice_get, codes}
 use Rattle.std.specs.Option.{option_and_then}
 use Rattle.std.specs.Str.{bytes_eq}
@@ -10,10 +11,10 @@ use Rattle.unit_name.specs.Names.{Name, IsName}
 use Rattle.dropins.specs.FolderLists.{folders}
 use Rattle.dropins.specs.declared.link_names.Folder.{Folder}
 use Rattle.dropins.specs.declared.link_names.Folder.TheVariants.{Wants, Requires}
-use Rattle.dropins.specs.declared.takes.Candidate.{Candidate}
-use Rattle.dropins.specs.declared.takes.Candidate.TheVariants.{Mask, At}
-use Rattle.dropins.specs.declared.takes.Search.{Search}
-use Rattle.dropins.specs.declared.takes.Search.TheVariants.{DropIns, Links}
+use Rattle.dropins.specs.declared.precedence.Candidate.{Candidate}
+use Rattle.dropins.specs.declared.precedence.Candidate.TheVariants.{Mask, At}
+use Rattle.dropins.specs.declared.precedence.Search.{Search}
+use Rattle.dropins.specs.declared.precedence.Search.TheVariants.{DropIns, Links}
 
 -- whether a file name ends in .conf and is longer
 abbrev pub is_conf : List ℕ → Bool

@@ -8,10 +8,10 @@ use Rattle.load_path.specs.Paths.{PathParts}
 use Rattle.edit_sums.specs.Sums.{EntryMap, visible_at}
 use Rattle.edit_sums.specs.declared.contents.Content.{Content}
 use Rattle.edit_sums.specs.declared.contents.Content.TheVariants.{Gone, Link, File}
-use Rattle.dropins.specs.declared.takes.Candidate.{Candidate}
-use Rattle.dropins.specs.declared.takes.Candidate.TheVariants.{Mask, At}
-use Rattle.dropins.specs.declared.takes.Search.{Search}
-use Rattle.dropins.specs.declared.takes.Search.TheVariants.{DropIns, Links}
+use Rattle.dropins.specs.declared.precedence.Candidate.{Candidate}
+use Rattle.dropins.specs.declared.precedence.Candidate.TheVariants.{Mask, At}
+use Rattle.dropins.specs.declared.precedence.Search.{Search}
+use Rattle.dropins.specs.declared.precedence.Search.TheVariants.{DropIns, Links}
 use Rattle.dropins.specs.Taken.{is_conf, is_null, content_as_drop_in, as_found, candidate_at, Stands, IsTaken, TakenFor}
 use Rattle.dropins.specs.Walks.{path, taken_in, ranks, taken}
 use Rattle.list_laws.specs.FirstSaid.{IsFirst, first_is, none_says}

@@ -1,11 +1,12 @@
 -- What is taken for a file name, found by walking through ranks and folders: words for private clauses.
+-- Source: this project's own.
 use Rattle.std.specs.Prelude.{ℕ, Option, List, [], ◌∷◌, ◌++◌}
 use Rattle.list_laws.specs.FirstSaid.{first_said}
 use Rattle.load_path.specs.Paths.{PathParts}
 use Rattle.edit_sums.specs.Sums.{EntryMap}
-use Rattle.dropins.specs.declared.takes.Candidate.{Candidate}
-use Rattle.dropins.specs.declared.takes.Candidate.TheVariants.{Mask, At}
-use Rattle.dropins.specs.declared.takes.Search.{Search}
+use Rattle.dropins.specs.declared.precedence.Candidate.{Candidate}
+use Rattle.dropins.specs.declared.precedence.Candidate.TheVariants.{Mask, At}
+use Rattle.dropins.specs.declared.precedence.Search.{Search}
 use Rattle.dropins.specs.Taken.{candidate_at}
 
 abbrev pub path : ℕ → List ℕ → List ℕ → PathParts

@@ -41,7 +41,8 @@ impl Listing {
     // Adds a name, and of an instance its template.
     fn add_with_template(&mut self, name: UnitName) -> Result<(), AllocError>
         requires kept { IsKept self.now }
-        ensures added { OnOk result (self.new.names.items ≡ fold with_name self.old.names.items (with_template name)) }
+        ensures added { OnOk result (self.new.names.items ≡ fold with_name self.old.names.items
+            (with_template name)) }
         ensures kept { OnOk result (IsKept self.new) }
     {
         let template = name.template_of()?;
@@ -55,7 +56,8 @@ impl Listing {
     // Adds the folders of one name.
     fn add_folders(&mut self, alloc: Global, name: &UnitName) -> Result<(), AllocError>
         requires kept { IsKept self.now }
-        ensures added { OnOk result (self.new.names.items ≡ fold with_name self.old.names.items (folders_of name.now)) }
+        ensures added { OnOk result (self.new.names.items ≡ fold with_name self.old.names.items
+            (folders_of name.now)) }
         ensures kept { OnOk result (IsKept self.new) }
     {
         self.add_with_template(name.try_clone()?)?;

@@ -9,7 +9,7 @@ mod folder_lists;
 mod laws;
 mod link_names;
 mod orders;
-mod takes;
+mod precedence;
 
 pub use folder_lists::folders;
 pub use laws::{folder_laws, order_laws, precedence_laws};

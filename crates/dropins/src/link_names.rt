@@ -5,7 +5,7 @@ ghost use Rattle.std.specs.List.Sorted.{IsStrictlySortedBy};
 ghost use Rattle.unit_name.specs.Names.{Name, is_name, name_cmp};
 ghost use Rattle.dropins.specs.Taken.{IsLinked, ending, file_name};
 
-use crate::takes::{Search, taken_paths};
+use crate::precedence::{Search, taken_paths};
 use replica_store::{Path, Store};
 use std::alloc::{AllocError, Global};
 use unit_name::{NameFault, UnitName};
@@ -47,7 +47,8 @@ pub fn links(
     folder: Folder,
 ) -> Result<Vec<UnitName>, AllocError>
     ensures rising { IfOk result (λ units. IsStrictlySortedBy name_cmp units.items) }
-    ensures exact { IfOk result (λ units. (n : Name) → Contains units.items n ↔ IsLinked store.now names.now folder n) }
+    ensures exact { IfOk result (λ units. (n : Name) → Contains units.items n ↔ IsLinked store.now names.now
+        folder n) }
 {
     let paths = taken_paths(alloc, store, names, Search::Links, folder.ending())?;
     unit_names(alloc, &paths)

@@ -6,7 +6,7 @@ ghost use Rattle.load_path.specs.Paths.{PathParts};
 ghost use Rattle.unit_name.specs.Names.{name_cmp};
 ghost use Rattle.dropins.specs.Taken.{IsDropIn, file_name};
 
-use crate::takes::{Search, taken_paths};
+use crate::precedence::{Search, taken_paths};
 use replica_store::{Path, Store};
 use std::alloc::{AllocError, Global};
 use unit_name::UnitName;
@@ -22,7 +22,8 @@ use unit_name::UnitName;
 /// that stands there.
 pub fn order(alloc: Global, store: &Store, names: &[UnitName]) -> Result<Vec<Path>, AllocError>
     ensures rising { IfOk result (λ paths. IsStrictlySortedBy name_cmp (map file_name paths.items)) }
-    ensures exact { IfOk result (λ paths. (p : PathParts) → Contains paths.items p ↔ IsDropIn store.now names.now p) }
+    ensures exact { IfOk result (λ paths. (p : PathParts) → Contains paths.items p ↔ IsDropIn store.now
+        names.now p) }
 {
     taken_paths(alloc, store, names, Search::DropIns, b".d")
 }

@@ -1,4 +1,5 @@
 -- Contents, made of bytes, and their order.
+-- Source: this project's own.
 use Rattle.std.specs.Prelude.{ℕ, if◌then◌else◌, List, [], Result, Ok, Err}
 use Rattle.std.specs.Ordering.{nat_cmp, ordering_then}
 use Rattle.std.specs.Cmp.Lexicographic.{slice_cmp}

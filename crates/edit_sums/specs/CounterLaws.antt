@@ -8,7 +8,7 @@ use Rattle.std.proofs.lemmas.Bool.Decides.{nat_tests}
 use Rattle.std.specs.FinMap as finmap
 use Rattle.list_laws.specs.Members.{IsAmong}
 use Rattle.load_path.specs.Paths.{PathParts}
-use Rattle.edit_sums.specs.declared.entries.Entry.{Entry}
+use Rattle.edit_sums.specs.Entries.{Entry}
 use Rattle.edit_sums.specs.declared.entries.Edit.{Edit}
 use Rattle.edit_sums.specs.Entries.{IsBelow}
 use Rattle.edit_sums.specs.GreatestLaws.{get_from_edits_of}

@@ -1,114 +1,55 @@
--- The larger of two entries is their least upper bound.
-use Rattle.std.proofs.Common.{◌≡◌, true, false, cond, Option, Some, None, refl, ap, ◌⊎◌, inl, inr}
-use Rattle.std.specs.declared.cmp.Ordering.{Ordering}
-use Rattle.std.specs.declared.cmp.Ordering.TheVariants.{Less, Equal, Greater}
-use Rattle.std.specs.Ordering.{ordering_reverse, is_gt}
-use Rattle.std.specs.Cmp.{IsTotalOrder, then_total, on_total, tied_itself, upto}
-use Rattle.join_law.specs.VersionOrderLaws.{version_cmp_total, version_cmp-IsAntisymmetric, tied_parts}
+-- The laws of entries, at the order of contents.
+use Rattle.std.proofs.Common.{◌≡◌, Option, None, ◌⊎◌}
+use Rattle.std.specs.declared.cmp.Ordering.TheVariants.{Equal}
+use Rattle.std.specs.Cmp.{IsTotalOrder}
+use Rattle.join_law.specs.EntryLaws as law
+use Rattle.edit_sums.specs.Contents.{content_cmp}
 use Rattle.edit_sums.specs.ContentLaws.{content_cmp_total, content_cmp-IsAntisymmetric}
-use Rattle.edit_sums.specs.Entries.{entry_cmp, IsBelow, larger}
-use Rattle.edit_sums.specs.declared.entries.Entry.{Entry}
+use Rattle.edit_sums.specs.Entries.{Entry, entry_cmp, IsBelow, larger}
 
 pub entry_cmp_total : IsTotalOrder entry_cmp
-entry_cmp_total = then_total (on_total (λ (x : Entry). x.version) version_cmp_total) (on_total (λ (x : Entry). x.content) content_cmp_total)
+entry_cmp_total = law.entry_cmp_total content_cmp content_cmp_total
 
 -- entries that compare as equal are equal
 pub entry_cmp-IsAntisymmetric : (x y : Entry) → entry_cmp x y ≡ Equal → x ≡ y
-entry_cmp-IsAntisymmetric x y e =
-    let h = tied_parts _ _ e in
-    let version = version_cmp-IsAntisymmetric x.version y.version h.0 in
-    let content = content_cmp-IsAntisymmetric x.content y.content h.1 in
-    λ i. record { version = version i; content = content i }
-
--- an order at most both ways is a tie
-tie : (a b : Ordering) → a ≡ ordering_reverse b → is_gt a ≡ false → is_gt b ≡ false → a ≡ Equal
-tie Less Less e h k = cc
-tie Less Equal e h k = cc
-tie Less Greater e h k = cc
-tie Equal b e h k = refl
-tie Greater b e h k = cc
-
-not_gt_back : (a b : Ordering) → a ≡ ordering_reverse b → is_gt a ≡ true → is_gt b ≡ false
-not_gt_back Less b e h = cc
-not_gt_back Equal b e h = cc
-not_gt_back Greater Less e h = refl
-not_gt_back Greater Equal e h = cc
-not_gt_back Greater Greater e h = cc
+entry_cmp-IsAntisymmetric = law.entry_cmp-IsAntisymmetric content_cmp content_cmp_total content_cmp-IsAntisymmetric
 
 pub below_refl : (x : Option Entry) → IsBelow x x
-below_refl None = tt
-below_refl (Some x) = ap is_gt (tied_itself entry_cmp_total x)
+below_refl = law.below_refl content_cmp content_cmp_total
 
 pub below_trans : (x y z : Option Entry) → IsBelow x y → IsBelow y z → IsBelow x z
-below_trans None y z h k = tt
-below_trans (Some x) None z h k = absurd h
-below_trans (Some x) (Some y) None h k = absurd k
-below_trans (Some x) (Some y) (Some z) h k = upto entry_cmp_total x y z h k
+below_trans = law.below_trans content_cmp content_cmp_total
 
 pub below_antisym : (x y : Option Entry) → IsBelow x y → IsBelow y x → x ≡ y
-below_antisym None None h k = refl
-below_antisym None (Some y) h k = absurd k
-below_antisym (Some x) None h k = absurd h
-below_antisym (Some x) (Some y) h k =
-    ap Some (entry_cmp-IsAntisymmetric x y (tie _ _ (entry_cmp_total.antisymm x y) h k))
+below_antisym = law.below_antisym content_cmp content_cmp_total content_cmp-IsAntisymmetric
 
 pub larger-left : (x y : Option Entry) → IsBelow x (larger x y)
-larger-left None y = tt
-larger-left (Some x) None = below_refl (Some x)
-larger-left (Some x) (Some y) =
-    elim (is_gt (entry_cmp x y)) as (λ b. is_gt (entry_cmp x y) ≡ b → IsBelow (Some x) (cond b (Some x) (Some y))) [
-      | true ↦ λ e. below_refl (Some x)
-      | false ↦ λ e. e
-    ] refl
+larger-left = law.larger-left content_cmp content_cmp_total
 
 pub larger-right : (x y : Option Entry) → IsBelow y (larger x y)
-larger-right None y = below_refl y
-larger-right (Some x) None = tt
-larger-right (Some x) (Some y) =
-    elim (is_gt (entry_cmp x y)) as (λ b. is_gt (entry_cmp x y) ≡ b → IsBelow (Some y) (cond b (Some x) (Some y))) [
-      | true ↦ λ e. not_gt_back _ _ (entry_cmp_total.antisymm x y) e
-      | false ↦ λ e. below_refl (Some y)
-    ] refl
+larger-right = law.larger-right content_cmp content_cmp_total
 
 pub larger-least : (x y z : Option Entry) → IsBelow x z → IsBelow y z → IsBelow (larger x y) z
-larger-least None y z h k = k
-larger-least (Some x) None z h k = h
-larger-least (Some x) (Some y) z h k =
-    elim (is_gt (entry_cmp x y)) as (λ b. IsBelow (cond b (Some x) (Some y)) z) [ true ↦ h | false ↦ k ]
+larger-least = law.larger-least content_cmp content_cmp_total
 
 -- the larger is one of the two
 pub larger_cases : (x y : Option Entry) → (larger x y ≡ x) ⊎ (larger x y ≡ y)
-larger_cases None y = inr refl
-larger_cases (Some x) None = inl refl
-larger_cases (Some x) (Some y) =
-    elim (is_gt (entry_cmp x y)) as (λ b. (cond b (Some x) (Some y) ≡ Some x) ⊎ (cond b (Some x) (Some y) ≡ Some y)) [ true ↦ inl refl | false ↦ inr refl ]
+larger_cases = law.larger_cases content_cmp
 
 pub larger-absorb : (x y : Option Entry) → IsBelow y x → larger x y ≡ x
-larger-absorb x y h = below_antisym _ _ (larger-least x y x (below_refl x) h) (larger-left x y)
+larger-absorb = law.larger-absorb content_cmp content_cmp_total content_cmp-IsAntisymmetric
 
 pub larger_comm : (x y : Option Entry) → larger x y ≡ larger y x
-larger_comm x y =
-    below_antisym _ _
-    (larger-least x y _ (larger-right y x) (larger-left y x))
-    (larger-least y x _ (larger-right x y) (larger-left x y))
+larger_comm = law.larger_comm content_cmp content_cmp_total content_cmp-IsAntisymmetric
 
 pub larger_assoc : (x y z : Option Entry) → larger (larger x y) z ≡ larger x (larger y z)
-larger_assoc x y z =
-    let a : IsBelow y (larger x (larger y z)) = below_trans _ _ _ (larger-left y z) (larger-right x (larger y z)) in
-    let b : IsBelow z (larger x (larger y z)) = below_trans _ _ _ (larger-right y z) (larger-right x (larger y z)) in
-    let c : IsBelow x (larger (larger x y) z) = below_trans _ _ _ (larger-left x y) (larger-left (larger x y) z) in
-    let d : IsBelow y (larger (larger x y) z) = below_trans _ _ _ (larger-right x y) (larger-left (larger x y) z) in
-    below_antisym _ _
-    (larger-least (larger x y) z _ (larger-least x y _ (larger-left x (larger y z)) a) b)
-    (larger-least x (larger y z) _ c (larger-least y z _ d (larger-right (larger x y) z)))
+larger_assoc = law.larger_assoc content_cmp content_cmp_total content_cmp-IsAntisymmetric
 
 pub larger_idem : (x : Option Entry) → larger x x ≡ x
-larger_idem x = larger-absorb x x (below_refl x)
+larger_idem = law.larger_idem content_cmp content_cmp_total content_cmp-IsAntisymmetric
 
 pub larger-mono : (x y u v : Option Entry) → IsBelow x u → IsBelow y v → IsBelow (larger x y) (larger u v)
-larger-mono x y u v h k =
-    larger-least x y _ (below_trans _ _ _ h (larger-left u v)) (below_trans _ _ _ k (larger-right u v))
+larger-mono = law.larger-mono content_cmp content_cmp_total
 
 pub larger-None : (x : Option Entry) → larger x None ≡ x
-larger-None None = refl
-larger-None (Some x) = refl
+larger-None = law.larger-None content_cmp

@@ -1,5 +1,5 @@
 -- What sums and joins hold at a path.
-use Rattle.std.proofs.Common.{◌≡◌, Bool, true, false, cond, Option, Some, None, List, [], ◌∷◌, ◌++◌, map, refl, sym, ap, subst, ◌∙◌, ◌⊎◌, inl, inr}
+use Rattle.std.proofs.Common.{◌≡◌, Bool, true, false, cond, Option, Some, None, List, [], ◌∷◌, ◌++◌, map, refl, sym, ap, subst, ◌∙◌, inl, inr}
 use Rattle.std.specs.Prelude.{filter, unwrap_or, T}
 use Rattle.std.specs.declared.cmp.Ordering.{Ordering}
 use Rattle.std.specs.declared.cmp.Ordering.TheVariants.{Less, Equal, Greater}
@@ -11,7 +11,7 @@ use Rattle.std.specs.Cmp.{tied_itself}
 use Rattle.list_laws.specs.Members.{IsAmong}
 use Rattle.load_path.specs.Paths.{PathParts, path_cmp}
 use Rattle.load_path.specs.PathLaws.{path_cmp_total, path_cmp-IsAntisymmetric}
-use Rattle.edit_sums.specs.declared.entries.Entry.{Entry}
+use Rattle.edit_sums.specs.Entries.{Entry}
 use Rattle.edit_sums.specs.declared.entries.Edit.{Edit}
 use Rattle.edit_sums.specs.Entries.{entry_cmp, IsBelow, larger}
 use Rattle.edit_sums.specs.Sums.{EntryMap, entry_of, edit_of, greatest_at, with_edit, sum_of, edits_of, join}

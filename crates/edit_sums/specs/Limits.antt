@@ -1,4 +1,5 @@
 -- Which bytes a file or a link may have.
+-- Source: this project's own.
 use Rattle.std.specs.Prelude.{ℕ, Bool, ◌&&◌, nat_lt, nat_le, List, length}
 use Rattle.std.specs.List.{list_all}
 

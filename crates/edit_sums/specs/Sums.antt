@@ -1,5 +1,6 @@
 -- Lists of edits, and their sum.
-use Rattle.std.specs.Prelude.{◌≡◌, ℕ, Bool, true, not, if◌then◌else◌, max, Option, Some, None, List, [], ◌∷◌, ◌++◌, map, count_by, ◌⊎◌, unwrap_or}
+-- Source (states as joins of updates, and their order): Shapiro, Preguica, Baquero, Zawirski 2011. Honest edits, counters and changed paths are this project's own.
+use Rattle.std.specs.Prelude.{◌≡◌, ℕ, Bool, true, not, if◌then◌else◌, max, Option, Some, None, List, [], ◌∷◌, ◌++◌, map, count_by, unwrap_or}
 use Rattle.std.specs.Option.{option_and_then}
 use Rattle.std.specs.Ordering.{eq_by_cmp, is_eq}
 use Rattle.std.specs.FinMap as finmap
@@ -8,7 +9,7 @@ use Rattle.list_laws.specs.Members.{IsAmong}
 use Rattle.load_path.specs.Paths.{PathParts, path_cmp}
 use Rattle.edit_sums.specs.declared.contents.Content.{Content}
 use Rattle.edit_sums.specs.declared.contents.Content.TheVariants.{Gone, Link, File}
-use Rattle.edit_sums.specs.declared.entries.Entry.{Entry}
+use Rattle.edit_sums.specs.Entries.{Entry}
 use Rattle.edit_sums.specs.declared.entries.Edit.{Edit}
 use Rattle.edit_sums.specs.Entries.{entry_cmp, larger, IsBelow}
 

@@ -158,7 +158,7 @@ impl Content {
     /// A file of these bytes, which aren't copied, or `FileTooLarge`; `Memory` only where they are no more than a file has.
     pub fn file(bytes: Vec<u8>) -> Result<Content, ContentFault>
         ensures made { (result ≡ Err ContentFault.Memory) ⊎ (result ≡ file_of bytes.items) }
-        ensures refused { IsErr (file_of bytes.items) → result ≡ file_of bytes.items }
+        ensures faults { IsErr (file_of bytes.items) → result ≡ file_of bytes.items }
     {
         if bytes.len() > FILE_LIMIT {
             return Err(ContentFault::FileTooLarge);
@@ -171,7 +171,7 @@ impl Content {
     /// A symbolic link to this target, which isn't copied, or `BadLink`; `Memory` only where links may have it.
     pub fn link(target: Vec<u8>) -> Result<Content, ContentFault>
         ensures made { (result ≡ Err ContentFault.Memory) ⊎ (result ≡ link_of target.items) }
-        ensures refused { IsErr (link_of target.items) → result ≡ link_of target.items }
+        ensures faults { IsErr (link_of target.items) → result ≡ link_of target.items }
     {
         if !is_lawful_target(&target) {
             return Err(ContentFault::BadLink);

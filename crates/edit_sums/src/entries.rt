@@ -8,25 +8,7 @@ use std::alloc::AllocError;
 
 /// What a store has at a path: a version and a content, ordered by version, then content. Of two
 /// entries at one path the greater one wins.
-#[derive(Debug, PartialEq, Eq, PartialOrd, Ord, Drop)]
-pub struct Entry {
-    /// The version of the edit that wrote it.
-    pub version: Version,
-    /// What was written.
-    pub content: Content,
-}
-
-impl Entry {
-    /// An equal entry. It fails for want of memory alone.
-    pub fn try_clone(&self) -> Result<Entry, AllocError>
-        ensures copy { IfOk result (λ copy. copy ≡ self.now) }
-    {
-        Ok(Entry {
-            version: self.version,
-            content: self.content.try_clone()?,
-        })
-    }
-}
+pub type Entry = join_law::Entry<Content>;
 
 /// What a writer does at a path: under a version it writes a content there.
 #[derive(Debug, PartialEq, Eq, Drop)]

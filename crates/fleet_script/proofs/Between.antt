@@ -21,7 +21,7 @@ use Rattle.world_law.specs.declared.events.Event.TheVariants.{Give}
 use Rattle.world_law.specs.Cuts.{VersionMap, cut, digest_of}
 use Rattle.script_commands.specs.declared.commands.Refusal.TheVariants.{UnknownNode, UnknownPiece}
 use Rattle.script_answers.specs.Texts.{changed_line, entries_line}
-use Rattle.script_worlds.specs.Worlds.{World, held, happened, merged, merged_all, numbers_from, parted, piece_named}
+use Rattle.script_worlds.specs.Worlds.{ScriptWorld, held, happened, merged, merged_all, numbers_from, parted, piece_named}
 use Rattle.fleet_script.specs.Does.{AtNode, Gives, Refuses, Sends, SendsTo, Sweeps, if_any}
 use Rattle.fleet_script.specs.Holds.{Continues, Goes, Holds, IsJoinedAt, IsNamed, IsPiece, Keeps, joined_with}
 use Rattle.fleet_script.proofs.Nodes.{at_place, get_or_any, get_or_here, get_or_there, get_or_twice, holds_merge, holds_part, holds_send, length_set, set_twice, slice_get_at}
@@ -105,7 +105,7 @@ module _ (shell now : Keeps) (j i : ℕ) (d : Replicated) (lt_from : j < length 
   merge_counted changed text counted e world h =
       let next = merge_goes world h in
       let within : i < length now.nodes = omega (arith, same_count) in
-      let after : (get_or now.nodes i d).store ≡ held (merged world j i) i = at_place now next.0 next.1 i d within ∙ ap (λ (w : World). held w i) next.2 in
+      let after : (get_or now.nodes i d).store ≡ held (merged world j i) i = at_place now next.0 next.1 i d within ∙ ap (λ (w : ScriptWorld). held w i) next.2 in
       let count : changed ≡ changed_paths (held world i) (held (merged world j i) i) = counted d ∙ (λ n. changed_paths (at_place shell world h i d lt_to n) (after n)) in
       (next.0, next.1, record { outcome_is = ap Ok (e ∙ ap changed_line count); world_is = next.2 })
 
@@ -139,8 +139,8 @@ cut_at_all nodes from to paths here there asked piece lt_from lt_to is_here is_t
 
 sends : (shell : Keeps) (i : ℕ) (node new : Replicated) (entries : EntryMap) (changed : ℕ) (text : Vec ℕ Global) → i < length shell.nodes → node ≡ get_or shell.nodes i node
     → new ≡ record node { store = join node.store entries } → changed ≡ changed_paths node.store new.store → text.items ≡ changed_line changed
-    → (world : World) → Holds shell world → (number : ℕ) → IsPiece world number entries
-    → (next : World) × Holds (record shell { nodes = set shell.nodes i new }) next × Gives (changed_line (changed_paths (held world i) (held (happened world (Give number i)) i))) (happened world (Give number i)) (Ok text.items) next
+    → (world : ScriptWorld) → Holds shell world → (number : ℕ) → IsPiece world number entries
+    → (next : ScriptWorld) × Holds (record shell { nodes = set shell.nodes i new }) next × Gives (changed_line (changed_paths (held world i) (held (happened world (Give number i)) i))) (happened world (Give number i)) (Ok text.items) next
 sends shell i node new entries changed text lt here joined counted e world h number is =
     let at = slice_get_at shell.nodes i node lt here in
     let next = happened world (Give number i) in
@@ -157,7 +157,7 @@ pub given : (shell : Keeps) (piece name : List ℕ) (i : ℕ) (node new : Replic
 given shell piece name i node new entries changed text kept some lt here joined counted e world h =
     by (piece_named world.pieces piece) refl (subst (λ (o : Option EntryMap). IsNamed world o (piece_named world.pieces piece)) kept (h.pieces piece))
   where
-    by : (o : Option ℕ) → piece_named world.pieces piece ≡ o → IsNamed world (Some entries) o → (next : World) × Holds (record shell { nodes = set shell.nodes i new }) next × Sends world (Ok text.items) next piece name
+    by : (o : Option ℕ) → piece_named world.pieces piece ≡ o → IsNamed world (Some entries) o → (next : ScriptWorld) × Holds (record shell { nodes = set shell.nodes i new }) next × Sends world (Ok text.items) next piece name
     by None is named = absurd named
     by (Some number) is named =
         let sent = sends shell i node new entries changed text lt here joined counted e world h number named in (
@@ -178,11 +178,11 @@ next_number first (suc count) =
 pub numbers-push : (first count : ℕ) → numbers_from first (count + 1) ≡ numbers_from first count ++ (first + count) ∷ []
 numbers-push first count = let more : count + 1 ≡ suc count = omega arith in ap (numbers_from first) more ∙ next_number first count
 
-pub merged_all-append : (world : World) (xs ys : List (ℕ × ℕ)) → merged_all world (xs ++ ys) ≡ merged_all (merged_all world xs) ys
+pub merged_all-append : (world : ScriptWorld) (xs ys : List (ℕ × ℕ)) → merged_all world (xs ++ ys) ≡ merged_all (merged_all world xs) ys
 merged_all-append world [] ys = refl
 merged_all-append world (x ∷ xs) ys = merged_all-append (merged world x.0 x.1) xs ys
 
-pub merged_nodes : (world : World) (xs : List (ℕ × ℕ)) → (merged_all world xs).nodes ≡ world.nodes
+pub merged_nodes : (world : ScriptWorld) (xs : List (ℕ × ℕ)) → (merged_all world xs).nodes ≡ world.nodes
 merged_nodes world [] = refl
 merged_nodes world (x ∷ xs) = merged_nodes (merged world x.0 x.1) xs
 
@@ -197,7 +197,7 @@ merges_go f k first mid last least before one world h =
     let numbers : numbers_from 1 (k + 1 - 1) ≡ numbers_from 1 (k - 1) ++ k ∷ [] = ap (numbers_from 1) more ∙ numbers-push 1 (k - 1) ∙ ap (λ (n : ℕ). numbers_from 1 (k - 1) ++ n ∷ []) here in (
       end.0,
       end.1,
-      end.2 ∙ ap (λ (w : World). merged w (f k).0 (f k).1) half.2 ∙ sym (merged_all-append world (map f (numbers_from 1 (k - 1))) (f k ∷ []))
+      end.2 ∙ ap (λ (w : ScriptWorld). merged w (f k).0 (f k).1) half.2 ∙ sym (merged_all-append world (map f (numbers_from 1 (k - 1))) (f k ∷ []))
           ∙ ap (merged_all world) (sym (map-append f (numbers_from 1 (k - 1)) (k ∷ [])) ∙ ap (map f) (sym numbers)),
     )
 
@@ -225,11 +225,11 @@ sweep_done first mid last text e gathered spread world h =
     let end = spread half.0 half.1 in
     let into : List (ℕ × ℕ) = map (λ k. (k, 0)) (numbers_from 1 (length world.nodes - 1)) in
     let out_of : List (ℕ × ℕ) = map (λ k. (0, k)) (numbers_from 1 (length world.nodes - 1)) in
-    let same : length half.0.nodes ≡ length world.nodes = ap (λ (w : World). length w.nodes) half.2 ∙ ap (λ ms. length ms) (merged_nodes world into) in (
+    let same : length half.0.nodes ≡ length world.nodes = ap (λ (w : ScriptWorld). length w.nodes) half.2 ∙ ap (λ ms. length ms) (merged_nodes world into) in (
       end.0,
       end.1,
       record {
         outcome_is = ap Ok e;
-        world_is = end.2 ∙ ap (λ n. merged_all half.0 (map (λ k. (0, k)) (numbers_from 1 (n - 1)))) same ∙ ap (λ (w : World). merged_all w out_of) half.2 ∙ sym (merged_all-append world into out_of);
+        world_is = end.2 ∙ ap (λ n. merged_all half.0 (map (λ k. (0, k)) (numbers_from 1 (n - 1)))) same ∙ ap (λ (w : ScriptWorld). merged_all w out_of) half.2 ∙ sym (merged_all-append world into out_of);
       },
     )

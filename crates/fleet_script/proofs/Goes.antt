@@ -31,7 +31,7 @@ use Rattle.script_commands.specs.Files.{IsFileOf, IsLinkTo, IsNoFile, IsNoLink, 
 use Rattle.script_commands.specs.Outcomes.{IsSaid, Outcome}
 use Rattle.script_commands.specs.Paths.{IsPathFault, paths_of}
 use Rattle.script_answers.specs.Texts.{ok_line}
-use Rattle.script_worlds.specs.Worlds.{World, happened, has_writer, held, next_edit, node_named}
+use Rattle.script_worlds.specs.Worlds.{ScriptWorld, happened, has_writer, held, next_edit, node_named}
 use Rattle.script_worlds.specs.Worlds.{with_node as with_new_node}
 use Rattle.script_worlds.specs.NodeLaws.{named_within}
 use Rattle.fleet_script.specs.Does.{AtNode, AtPath, AtPaths, Gives, IsRead, Names, Refuses, RefusesPath, WithFile, WithTarget, WithText, Writes}
@@ -40,7 +40,7 @@ use Rattle.fleet_script.proofs.Nodes.{holds_node, holds_put, set_same}
 
 -- steps, and what they leave open
 abbrev pub Step : Type 1
-Step = World → Outcome → World → Type 0
+Step = ScriptWorld → Outcome → ScriptWorld → Type 0
 
 abbrev pub Told : Type 0
 Told = Result (Vec ℕ Global) Fault
@@ -57,17 +57,17 @@ pub match_false : (b : Bool) (P Q : Type 0) → b ≡ false → Q → MatchBool 
 match_false true P Q e q = absurd (true≢false e)
 match_false false P Q e q = q
 
-pub refuses : (world : World) (refusal : Refusal) → Refuses world refusal (Err refusal) world
+pub refuses : (world : ScriptWorld) (refusal : Refusal) → Refuses world refusal (Err refusal) world
 refuses world refusal = record { outcome_is = refl; world_is = refl }
 
 -- a step that follows from another
-pub weaker : (shell after : Keeps) (r : Told) (S T : Step) → ((old : World) → Holds shell old → (outcome : Outcome) (new : World) → S old outcome new → T old outcome new) → Goes shell after S r → Goes shell after T r
+pub weaker : (shell after : Keeps) (r : Told) (S T : Step) → ((old : ScriptWorld) → Holds shell old → (outcome : Outcome) (new : ScriptWorld) → S old outcome new → T old outcome new) → Goes shell after S r → Goes shell after T r
 weaker shell after (Ok text) S T f go = λ world h. (let next = go world h in (next.0, next.1, f world h (Ok text.items) next.0 next.2))
 weaker shell after (Err (Refused refusal)) S T f go = λ world h. (let next = go world h in (next.0, next.1, f world h (Err refusal) next.0 next.2))
 weaker shell after (Err Memory) S T f go = tt
 
 -- a fault that is a refusal, or want of memory
-pub refused : (shell : Keeps) (refusal : Refusal) (fault : Fault) (S : Step) → fault ≡ Refused refusal → ((old : World) → Holds shell old → S old (Err refusal) old) → Goes shell shell S (Err fault)
+pub refused : (shell : Keeps) (refusal : Refusal) (fault : Fault) (S : Step) → fault ≡ Refused refusal → ((old : ScriptWorld) → Holds shell old → S old (Err refusal) old) → Goes shell shell S (Err fault)
 refused shell refusal fault S e f = subst (λ (g : Fault). Goes shell shell S (Err g)) (sym e) (λ world h. (world, h, f world h))
 
 pub no_memory : (shell after : Keeps) (fault : Fault) (S : Step) → fault ≡ Memory → Goes shell after S (Err fault)
@@ -99,11 +99,11 @@ module _ (shell : Keeps) (fault : Fault) where
   without_node name P (inl e) = no_memory shell shell fault _ e
   without_node name P (inr (e, none)) = refused shell UnknownNode fault _ e (λ old h. by old h (node_named old.nodes name) refl)
     where
-      by : (old : World) → Holds shell old → (o : Option ℕ) → node_named old.nodes name ≡ o → MatchOption o (Refuses old UnknownNode (Err UnknownNode) old) (λ k. P k old (Err UnknownNode) old)
+      by : (old : ScriptWorld) → Holds shell old → (o : Option ℕ) → node_named old.nodes name ≡ o → MatchOption o (Refuses old UnknownNode (Err UnknownNode) old) (λ k. P k old (Err UnknownNode) old)
       by old h None is = refuses old UnknownNode
       by old h (Some k) is = let within = named_within old.nodes name k is in absurd (none k (h.numbers name ∙ is) (omega (arith, h.count)))
 
-  refuses_path : (f : PathFault) (S : Step) → fault ≡ fault_of_path f → ((old : World) (outcome : Outcome) → RefusesPath old outcome old f → S old outcome old) → Goes shell shell S (Err fault)
+  refuses_path : (f : PathFault) (S : Step) → fault ≡ fault_of_path f → ((old : ScriptWorld) (outcome : Outcome) → RefusesPath old outcome old f → S old outcome old) → Goes shell shell S (Err fault)
   refuses_path path.Directory S e s = refused shell Directory fault S e (λ old h. s old (Err Directory) (refuses old Directory))
   refuses_path path.Depth S e s = refused shell Depth fault S e (λ old h. s old (Err Depth) (refuses old Depth))
   refuses_path path.Component S e s = refused shell Component fault S e (λ old h. s old (Err Component) (refuses old Component))
@@ -146,7 +146,7 @@ set_again nodes i node new is same = ap (set nodes i) same ∙ set_same nodes i 
 
 module _ (shell : Keeps) (i : ℕ) (node : Replicated) (p : PathParts) (content : Content) (at : slice_get shell.nodes i ≡ Some node) where
   -- the node's edit in the world is the replica's
-  edit_is : (world : World) → Holds shell world → ◌≡◌ {A = Edit} (record { path = p; version = next_version node; content = content }) (next_edit world i p content)
+  edit_is : (world : ScriptWorld) → Holds shell world → ◌≡◌ {A = Edit} (record { path = p; version = next_version node; content = content }) (next_edit world i p content)
   edit_is world h = λ n. record { path = p; version = record { counter = high_of (h.stores i node at n) + 1; writer = sym (h.writers i node at) n }; content = content }
 
   pub wrote : (new : Replicated) (version : Version) (text : Vec ℕ Global) → i < length shell.nodes
@@ -162,7 +162,7 @@ module _ (shell : Keeps) (i : ℕ) (node : Replicated) (p : PathParts) (content 
       )
 
   -- a refused edit: the counters are spent, or memory was refused
-  pub spent_write : (world : World) → Holds shell world → high_of node.store ≡ 18446744073709551615 → Writes world (Err VersionsSpent) world i p content
+  pub spent_write : (world : ScriptWorld) → Holds shell world → high_of node.store ≡ 18446744073709551615 → Writes world (Err VersionsSpent) world i p content
   spent_write world h spent = match_true _ _ _ (eq-eqb _ _ (ap high_of (sym (h.stores i node at)) ∙ spent)) (refuses world VersionsSpent)
 
   pub write_refused : (f : EditFault) (fault : Fault) → (IsErrOf {T = Version} (Err f) edit.Nothing → ⊥)
@@ -180,7 +180,7 @@ removes : (shell after : Keeps) (r : Told) (i : ℕ) (node : Replicated) (p : Pa
     → Goes shell after (λ old outcome new. MatchOption (visible_at (held old i) p) (Refuses old Nothing outcome new) (λ shown. Writes old outcome new i p Gone)) r
 removes shell after r i node p at visible = weaker shell after r _ _ (λ old h outcome new w. by old outcome new w (visible_at (held old i) p) (ap (λ (s : EntryMap). visible_at s p) (h.stores i node at)))
   where
-    by : (old : World) (outcome : Outcome) (new : World) → Writes old outcome new i p Gone → (o : Option Content) → visible_at node.store p ≡ o → MatchOption o (Refuses old Nothing outcome new) (λ shown. Writes old outcome new i p Gone)
+    by : (old : ScriptWorld) (outcome : Outcome) (new : ScriptWorld) → Writes old outcome new i p Gone → (o : Option Content) → visible_at node.store p ≡ o → MatchOption o (Refuses old Nothing outcome new) (λ shown. Writes old outcome new i p Gone)
     by old outcome new w None e = absurd (visible e)
     by old outcome new w (Some c) e = w
 

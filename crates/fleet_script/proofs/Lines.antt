@@ -8,14 +8,14 @@ use Rattle.script_commands.specs.declared.commands.Refusal.{Refusal}
 use Rattle.script_commands.specs.Commands.{command_of}
 use Rattle.script_commands.specs.Outcomes.{Outcome}
 use Rattle.script_answers.specs.Texts.{outcome_text}
-use Rattle.script_worlds.specs.Worlds.{World}
+use Rattle.script_worlds.specs.Worlds.{ScriptWorld}
 use Rattle.fleet_script.specs.Does.{Does, Refuses}
 use Rattle.fleet_script.specs.Holds.{Continues, Goes, Keeps}
 use Rattle.fleet_script.specs.Scripts.{AnswersLine}
 use Rattle.fleet_script.proofs.Goes.{Told, match_false, weaker}
 
 -- what is done for the command of a line, whatever it is
-abbrev pub IsDone : List ℕ → World → Outcome → World → Type 0
+abbrev pub IsDone : List ℕ → ScriptWorld → Outcome → ScriptWorld → Type 0
 IsDone line old outcome new = MatchResult (command_of line) (λ command. Does old command outcome new) (λ refusal. Refuses old refusal outcome new)
 
 pub executed : (shell now : Keeps) (line : List ℕ) (command : Command) (r : Told) → Ok command ≡ command_of line

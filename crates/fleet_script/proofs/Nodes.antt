@@ -12,7 +12,7 @@ use Rattle.world_law.specs.declared.events.Event.TheVariants.{Put, Ask, Cut, Giv
 use Rattle.world_law.specs.Worlds as worlds
 use Rattle.world_law.specs.Cuts.{cut, digest_of}
 use Rattle.world_law.specs.WorldLaws.{piece_stays, answer_is}
-use Rattle.script_worlds.specs.Worlds.{World, Member, state, held, happened, answered, parted, merged, with_node, node_named, has_writer, writer_at, next_edit, next_ask, next_piece, piece_named}
+use Rattle.script_worlds.specs.Worlds.{ScriptWorld, Member, state, held, happened, answered, parted, merged, with_node, node_named, has_writer, writer_at, next_edit, next_ask, next_piece, piece_named}
 use Rattle.script_worlds.specs.Lawful.{IsLawful}
 use Rattle.script_worlds.specs.LawfulLaws.{held_put, held_put_elsewhere, held_answered, held_given, held_given_elsewhere, held_merged, held_merged_elsewhere, held_with_node, held_past, lawful_put, lawful_answered, lawful_given, lawful_merged, lawful_with_node, state_with_node}
 use Rattle.script_worlds.specs.NodeLaws.{has_writer-push, node_named-push}
@@ -131,14 +131,14 @@ module _ {X : Type 0} where
 -- ---- what happens
 
 -- what is kept under each name stays, if the world's pieces stay
-named_stays : (world next : World) → ((p : ℕ) (piece : worlds.Piece) → slice_get (state world).pieces p ≡ Some piece → slice_get (state next).pieces p ≡ Some piece)
+named_stays : (world next : ScriptWorld) → ((p : ℕ) (piece : worlds.Piece) → slice_get (state world).pieces p ≡ Some piece → slice_get (state next).pieces p ≡ Some piece)
     → (kept : Option EntryMap) (number : Option ℕ) → IsNamed world kept number → IsNamed next kept number
 named_stays world next stays None None h = tt
 named_stays world next stays None (Some number) h = absurd h
 named_stays world next stays (Some entries) None h = absurd h
 named_stays world next stays (Some entries) (Some number) h = record { piece = h.piece; there = stays number h.piece h.there; entries_are = h.entries_are }
 
-module _ (shell : Keeps) (world : World) (h : Holds shell world) where
+module _ (shell : Keeps) (world : ScriptWorld) (h : Holds shell world) where
   pub below_count : (i : ℕ) → i < length shell.nodes → i < length world.nodes
   below_count i lt = omega (arith, h.count)
 
@@ -147,7 +147,7 @@ module _ (shell : Keeps) (world : World) (h : Holds shell world) where
   at_place i d lt = h.stores i (get_or shell.nodes i d) (slice_get_at shell.nodes i (get_or shell.nodes i d) lt (get_or_twice shell.nodes i d))
 
   -- at one node something happens, and at no other
-  holds_at : (next : World) (i : ℕ) (node new : Replicated) → i < length shell.nodes → slice_get shell.nodes i ≡ Some node → new.writer ≡ node.writer
+  holds_at : (next : ScriptWorld) (i : ℕ) (node new : Replicated) → i < length shell.nodes → slice_get shell.nodes i ≡ Some node → new.writer ≡ node.writer
       → next.nodes ≡ world.nodes → next.pieces ≡ world.pieces → IsLawful next
       → ((p : ℕ) (piece : worlds.Piece) → slice_get (state world).pieces p ≡ Some piece → slice_get (state next).pieces p ≡ Some piece)
       → new.store ≡ held next i → ((k : ℕ) → k ≢ i → held next k ≡ held world k)
@@ -212,7 +212,7 @@ module _ (shell : Keeps) (world : World) (h : Holds shell world) where
     lawful = lawful_parted;
   }
     where
-      next : World
+      next : ScriptWorld
       next = parted world name j i paths
 
       lawful_parted : IsLawful next
@@ -259,11 +259,11 @@ module _ (shell : Keeps) (world : World) (h : Holds shell world) where
       m : Member
       m = record { name = name; writer = writer }
 
-      next : World
+      next : ScriptWorld
       next = with_node world name writer
 
       stays : (p : ℕ) (piece : worlds.Piece) → slice_get (state world).pieces p ≡ Some piece → slice_get (state next).pieces p ≡ Some piece
-      stays p piece there = ap (λ (w : worlds.World). slice_get w.pieces p) (state_with_node world name writer h.lawful.within) ∙ there
+      stays p piece there = ap (λ (w : worlds.EventWorld). slice_get w.pieces p) (state_with_node world name writer h.lawful.within) ∙ there
 
       holds_nothing : held world (length shell.nodes) ≡ sum_of []
       holds_nothing = ap (held world) h.count ∙ held_past world

@@ -8,7 +8,7 @@ use Rattle.std.proofs.lemmas.List.{append-nil, take_at, take_all}
 use Rattle.script_words.specs.Lines.{lines_of}
 use Rattle.script_pipes.specs.KnownBytes.{AppendsFront}
 use Rattle.script_pipes.specs.KnownBytesLaws.{Appends-append, Appends-nothing}
-use Rattle.script_worlds.specs.Worlds.{World, blank}
+use Rattle.script_worlds.specs.Worlds.{ScriptWorld, blank}
 use Rattle.fleet_script.specs.Scripts.{Run, AnswersLine, Answers, AnswersFront}
 use Rattle.edit_sums.specs.Sums.{EntryMap}
 use Rattle.replica_store.specs.Replicas.{Replicated}
@@ -16,7 +16,7 @@ use Rattle.fleet_script.specs.Holds.{Continues, Holds, IsBlank, IsNamed, Keeps}
 use Rattle.script_worlds.specs.LawfulLaws.{lawful_blank}
 
 -- one line more
-run_more : (old : World) (lines : List (List ℕ)) (written : List ℕ) (mid : World) (line answer : List ℕ) (new : World)
+run_more : (old : ScriptWorld) (lines : List (List ℕ)) (written : List ℕ) (mid : ScriptWorld) (line answer : List ℕ) (new : ScriptWorld)
     → Run old lines written mid → AnswersLine mid line answer new → Run old (lines ++ line ∷ []) (written ++ answer) new
 run_more old [] written mid line answer new r s =
     let end : AnswersLine old line answer new = subst (λ v. AnswersLine v line answer new) r.1 s in
@@ -33,7 +33,7 @@ run_more old (first ∷ lines) written mid line answer new r s = (
 -- what is true between two lines: some answers were written, and others wait
 pub record Progress (script rest : List ℕ) (keeps : Keeps) (old now : Option (List ℕ)) (pending : List ℕ) : Type 0 where
   pub before : List (List ℕ)
-  pub world : World
+  pub world : ScriptWorld
   pub written : List ℕ
   pub lines : lines_of script ≡ before ++ lines_of rest
   pub holds : Holds keeps world

@@ -22,7 +22,7 @@ use Rattle.script_commands.specs.declared.commands.Refusal.TheVariants.{BadLink,
 use Rattle.script_commands.specs.Outcomes.{Outcome, is_spent}
 use Rattle.script_commands.specs.Paths.{paths_of}
 use Rattle.script_answers.specs.Texts.{changed_line, entries_line, ok_line}
-use Rattle.script_worlds.specs.Worlds.{World, Member, happened, has_writer, held, merged, merged_all, next_edit, node_named, numbers_from, parted, piece_named, swept, with_node}
+use Rattle.script_worlds.specs.Worlds.{ScriptWorld, Member, happened, has_writer, held, merged, merged_all, next_edit, node_named, numbers_from, parted, piece_named, swept, with_node}
 use Rattle.script_worlds.specs.Counts.{IsPutUpTo}
 use Rattle.script_worlds.specs.CountsLaws.{put_next, put_same, puts_merged_all}
 use Rattle.script_worlds.specs.Lawful.{IsLawful, puts}
@@ -34,24 +34,24 @@ use Rattle.fleet_script.specs.Does.{AtNode, AtPath, AtPaths, AtPiece, Does, Give
 use Rattle.fleet_script.proofs.Between.{merged_all-append, merged_nodes}
 
 -- a lawful world is followed by a lawful one, and the greatest counter that was put grows by one at most
-pub record Follows (old new : World) : Type 0 where
+pub record Follows (old new : ScriptWorld) : Type 0 where
   pub lawful : IsLawful old → IsLawful new
   pub counted : (n : ℕ) → IsLawful old → IsPutUpTo n old → IsPutUpTo (suc n) new
 
 -- no node holds the greatest counter
-abbrev pub HasCounters : World → Type 0
+abbrev pub HasCounters : ScriptWorld → Type 0
 HasCounters world = (k : ℕ) → (high_of (held world k) == 18446744073709551615) ≡ false
 
 -- a step from a world has one outcome and leaves one world, which follows, and counters are spent only where the greatest is held
-pub record IsStep (old : World) (S : Outcome → World → Type 0) : Type 0 where
-  pub one : (a b : Outcome) (x y : World) → S a x → S b y → (a ≡ b) × (x ≡ y)
-  pub follows : (outcome : Outcome) (new : World) → S outcome new → Follows old new
-  pub unspent : HasCounters old → (outcome : Outcome) (new : World) → S outcome new → is_spent outcome ≡ false
+pub record IsStep (old : ScriptWorld) (S : Outcome → ScriptWorld → Type 0) : Type 0 where
+  pub one : (a b : Outcome) (x y : ScriptWorld) → S a x → S b y → (a ≡ b) × (x ≡ y)
+  pub follows : (outcome : Outcome) (new : ScriptWorld) → S outcome new → Follows old new
+  pub unspent : HasCounters old → (outcome : Outcome) (new : ScriptWorld) → S outcome new → is_spent outcome ≡ false
 
 -- ---- what the world's own words need
 
 -- merges between nodes that are there
-lawful_merges : (f : ℕ → ℕ × ℕ) (n first count : ℕ) (world : World) → length world.nodes ≡ n → ((k : ℕ) → 0 < k → k < n → ((f k).0 < n) × ((f k).1 < n)) → 0 < first → ((k : ℕ) → first ≤ k → k < first + count → k < n)
+lawful_merges : (f : ℕ → ℕ × ℕ) (n first count : ℕ) (world : ScriptWorld) → length world.nodes ≡ n → ((k : ℕ) → 0 < k → k < n → ((f k).0 < n) × ((f k).1 < n)) → 0 < first → ((k : ℕ) → first ≤ k → k < first + count → k < n)
     → IsLawful world → IsLawful (merged_all world (map f (numbers_from first count)))
 lawful_merges f n first zero world same there least within lawful = lawful
 lawful_merges f n first (suc count) world same there least within lawful =
@@ -62,33 +62,33 @@ lawful_merges f n first (suc count) world same there least within lawful =
     lawful_merges f n (suc first) count (merged world (f first).0 (f first).1) same there (omega arith) (λ k low high. within k (omega arith) (omega arith))
     (lawful_merged world (f first).0 (f first).1 lawful (omega arith) (omega arith))
 
-pub lawful_swept : (world : World) → IsLawful world → IsLawful (swept world)
+pub lawful_swept : (world : ScriptWorld) → IsLawful world → IsLawful (swept world)
 lawful_swept world lawful =
     let n = length world.nodes in
     let into : List (ℕ × ℕ) = map (λ k. (k, 0)) (numbers_from 1 (n - 1)) in
     let out_of : List (ℕ × ℕ) = map (λ k. (0, k)) (numbers_from 1 (n - 1)) in
-    subst (λ (w : World). IsLawful w) (sym (merged_all-append world into out_of))
+    subst (λ (w : ScriptWorld). IsLawful w) (sym (merged_all-append world into out_of))
     (lawful_merges (λ k. (0, k)) n 1 (n - 1) (merged_all world into) (ap (λ (ms : List Member). length ms) (merged_nodes world into)) (λ k low high. (omega arith, high)) (omega arith) (λ k low high. omega arith)
     (lawful_merges (λ k. (k, 0)) n 1 (n - 1) world refl (λ k low high. (high, omega arith)) (omega arith) (λ k low high. omega arith) lawful))
 
 -- ---- one lemma for each word
 
-module _ (old : World) where
+module _ (old : ScriptWorld) where
   -- nothing more is put
-  puts_nothing : (new : World) → (IsLawful old → IsLawful new) → puts new ≡ puts old → Follows old new
+  puts_nothing : (new : ScriptWorld) → (IsLawful old → IsLawful new) → puts new ≡ puts old → Follows old new
   puts_nothing new lawful same = record { lawful = lawful; counted = λ n l up. put_same n old new same up }
 
-  pub stays : (new : World) → new ≡ old → Follows old new
-  stays new same = subst (λ (w : World). Follows old w) (sym same) (puts_nothing old (λ l. l) refl)
+  pub stays : (new : ScriptWorld) → new ≡ old → Follows old new
+  stays new same = subst (λ (w : ScriptWorld). Follows old w) (sym same) (puts_nothing old (λ l. l) refl)
 
-  pub gives : (words : List ℕ) (world : World) → Follows old world → IsStep old (λ outcome new. Gives words world outcome new)
+  pub gives : (words : List ℕ) (world : ScriptWorld) → Follows old world → IsStep old (λ outcome new. Gives words world outcome new)
   gives words world follows = record {
     one = λ a b x y p q. (p.outcome_is ∙ sym q.outcome_is, p.world_is ∙ sym q.world_is);
-    follows = λ outcome new g. subst (λ (w : World). Follows old w) (sym g.world_is) follows;
+    follows = λ outcome new g. subst (λ (w : ScriptWorld). Follows old w) (sym g.world_is) follows;
     unspent = λ free outcome new g. ap is_spent g.outcome_is;
   }
 
-  pub refused_once : (refusal : Refusal) (a b : Outcome) (x y : World) → Refuses old refusal a x → Refuses old refusal b y → (a ≡ b) × (x ≡ y)
+  pub refused_once : (refusal : Refusal) (a b : Outcome) (x y : ScriptWorld) → Refuses old refusal a x → Refuses old refusal b y → (a ≡ b) × (x ≡ y)
   refused_once refusal a b x y p q = (p.outcome_is ∙ sym q.outcome_is, p.world_is ∙ sym q.world_is)
 
   refuses : (refusal : Refusal) → is_spent (Err refusal) ≡ false → IsStep old (λ outcome new. Refuses old refusal outcome new)
@@ -109,24 +109,24 @@ module _ (old : World) where
   never : IsStep old (λ outcome new. ⊥)
   never = record { one = λ a b x y p q. absurd p; follows = λ outcome new p. absurd p; unspent = λ free outcome new p. absurd p }
 
-  with_bool : (t : Bool) (P Q : Outcome → World → Type 0) → (t ≡ true → IsStep old P) → (t ≡ false → IsStep old Q) → IsStep old (λ outcome new. MatchBool t (P outcome new) (Q outcome new))
+  with_bool : (t : Bool) (P Q : Outcome → ScriptWorld → Type 0) → (t ≡ true → IsStep old P) → (t ≡ false → IsStep old Q) → IsStep old (λ outcome new. MatchBool t (P outcome new) (Q outcome new))
   with_bool true P Q p q = p refl
   with_bool false P Q p q = q refl
 
-  with_option : {X : Type 0} (o : Option X) (P : Outcome → World → Type 0) (Q : X → Outcome → World → Type 0) → (o ≡ None → IsStep old P) → ((v : X) → o ≡ Some v → IsStep old (Q v))
+  with_option : {X : Type 0} (o : Option X) (P : Outcome → ScriptWorld → Type 0) (Q : X → Outcome → ScriptWorld → Type 0) → (o ≡ None → IsStep old P) → ((v : X) → o ≡ Some v → IsStep old (Q v))
       → IsStep old (λ outcome new. MatchOption o (P outcome new) (λ v. Q v outcome new))
   with_option None P Q p q = p refl
   with_option (Some v) P Q p q = q v refl
 
-  with_result : {X E : Type 0} (r : Result X E) (P : X → Outcome → World → Type 0) (Q : E → Outcome → World → Type 0) → ((v : X) → IsStep old (P v)) → ((e : E) → IsStep old (Q e))
+  with_result : {X E : Type 0} (r : Result X E) (P : X → Outcome → ScriptWorld → Type 0) (Q : E → Outcome → ScriptWorld → Type 0) → ((v : X) → IsStep old (P v)) → ((e : E) → IsStep old (Q e))
       → IsStep old (λ outcome new. MatchResult r (λ v. P v outcome new) (λ e. Q e outcome new))
   with_result (Ok v) P Q p q = p v
   with_result (Err e) P Q p q = q e
 
-  at_node : (name : List ℕ) (P : ℕ → Outcome → World → Type 0) → ((k : ℕ) → k < length old.nodes → IsStep old (P k)) → IsStep old (λ outcome new. AtNode old outcome new name (λ k. P k outcome new))
+  at_node : (name : List ℕ) (P : ℕ → Outcome → ScriptWorld → Type 0) → ((k : ℕ) → k < length old.nodes → IsStep old (P k)) → IsStep old (λ outcome new. AtNode old outcome new name (λ k. P k outcome new))
   at_node name P f = with_option (node_named old.nodes name) (λ outcome new. Refuses old UnknownNode outcome new) P (λ none. refuses UnknownNode refl) (λ k is. f k (named_within old.nodes name k is))
 
-  at_piece : (name : List ℕ) (P : ℕ → Outcome → World → Type 0) → ((p : ℕ) → IsStep old (P p)) → IsStep old (λ outcome new. AtPiece old outcome new name (λ p. P p outcome new))
+  at_piece : (name : List ℕ) (P : ℕ → Outcome → ScriptWorld → Type 0) → ((p : ℕ) → IsStep old (P p)) → IsStep old (λ outcome new. AtPiece old outcome new name (λ p. P p outcome new))
   at_piece name P f = with_option (piece_named old.pieces name) (λ outcome new. Refuses old UnknownPiece outcome new) P (λ none. refuses UnknownPiece refl) (λ p is. f p)
 
   refuses_path : (fault : PathFault) → IsStep old (λ outcome new. RefusesPath old outcome new fault)
@@ -135,29 +135,29 @@ module _ (old : World) where
   refuses_path path.Component = refuses Component refl
   refuses_path path.Memory = never
 
-  at_path : (text : List ℕ) (P : PathParts → Outcome → World → Type 0) → ((at : PathParts) → IsStep old (P at)) → IsStep old (λ outcome new. AtPath old outcome new text (λ at. P at outcome new))
+  at_path : (text : List ℕ) (P : PathParts → Outcome → ScriptWorld → Type 0) → ((at : PathParts) → IsStep old (P at)) → IsStep old (λ outcome new. AtPath old outcome new text (λ at. P at outcome new))
   at_path text P f = with_result (path_of text) P (λ fault outcome new. RefusesPath old outcome new fault) f refuses_path
 
-  at_paths : (texts : List (List ℕ)) (P : List PathParts → Outcome → World → Type 0) → ((paths : List PathParts) → IsStep old (P paths)) → IsStep old (λ outcome new. AtPaths old outcome new texts (λ paths. P paths outcome new))
+  at_paths : (texts : List (List ℕ)) (P : List PathParts → Outcome → ScriptWorld → Type 0) → ((paths : List PathParts) → IsStep old (P paths)) → IsStep old (λ outcome new. AtPaths old outcome new texts (λ paths. P paths outcome new))
   at_paths texts P f = with_result (paths_of texts) P (λ fault outcome new. RefusesPath old outcome new fault) f refuses_path
 
-  with_text : (text : List ℕ) (P : List ℕ → Outcome → World → Type 0) → ((bytes : List ℕ) → IsStep old (P bytes)) → IsStep old (λ outcome new. WithText old outcome new text (λ bytes. P bytes outcome new))
+  with_text : (text : List ℕ) (P : List ℕ → Outcome → ScriptWorld → Type 0) → ((bytes : List ℕ) → IsStep old (P bytes)) → IsStep old (λ outcome new. WithText old outcome new text (λ bytes. P bytes outcome new))
   with_text text P f = record { one = one; follows = follows; unspent = unspent }
     where
-      W : Outcome → World → Type 0
+      W : Outcome → ScriptWorld → Type 0
       W outcome new = WithText old outcome new text (λ bytes. P bytes outcome new)
 
-      one : (a b : Outcome) (x y : World) → W a x → W b y → (a ≡ b) × (x ≡ y)
+      one : (a b : Outcome) (x y : ScriptWorld) → W a x → W b y → (a ≡ b) × (x ≡ y)
       one a b x y (inl p) (inl q) = (f q.0).one a b x y (subst (λ bytes. P bytes a x) (spells_one text p.0 q.0 p.1 q.1) p.2) q.2
       one a b x y (inl p) (inr q) = absurd (q.0 p.0 p.1)
       one a b x y (inr p) (inl q) = absurd (p.0 q.0 q.1)
       one a b x y (inr p) (inr q) = refused_once BadText a b x y p.1 q.1
 
-      follows : (outcome : Outcome) (new : World) → W outcome new → Follows old new
+      follows : (outcome : Outcome) (new : ScriptWorld) → W outcome new → Follows old new
       follows outcome new (inl p) = (f p.0).follows outcome new p.2
       follows outcome new (inr p) = stays new p.1.world_is
 
-      unspent : HasCounters old → (outcome : Outcome) (new : World) → W outcome new → is_spent outcome ≡ false
+      unspent : HasCounters old → (outcome : Outcome) (new : ScriptWorld) → W outcome new → is_spent outcome ≡ false
       unspent free outcome new (inl p) = (f p.0).unspent free outcome new p.2
       unspent free outcome new (inr p) = ap is_spent p.1.outcome_is
 
@@ -168,10 +168,10 @@ module _ (old : World) where
       (λ spent. spends k spent)
       (λ free. gives (ok_line edit.version) (happened old (event.Put k edit)) (record { lawful = λ l. lawful_put old k at c l lt; counted = λ n l up. put_next n old k at c l lt up }))
 
-  with_file : (bytes : List ℕ) (P : Content → Outcome → World → Type 0) → IsStep old (P (content.File bytes)) → IsStep old (λ outcome new. WithFile old outcome new bytes (λ c. P c outcome new))
+  with_file : (bytes : List ℕ) (P : Content → Outcome → ScriptWorld → Type 0) → IsStep old (P (content.File bytes)) → IsStep old (λ outcome new. WithFile old outcome new bytes (λ c. P c outcome new))
   with_file bytes P f = with_bool (is_file bytes) (P (content.File bytes)) (λ outcome new. Refuses old FileTooLarge outcome new) (λ is. f) (λ no. refuses FileTooLarge refl)
 
-  with_target : (target : List ℕ) (P : Content → Outcome → World → Type 0) → IsStep old (P (content.Link target)) → IsStep old (λ outcome new. WithTarget old outcome new target (λ c. P c outcome new))
+  with_target : (target : List ℕ) (P : Content → Outcome → ScriptWorld → Type 0) → IsStep old (P (content.Link target)) → IsStep old (λ outcome new. WithTarget old outcome new target (λ c. P c outcome new))
   with_target target P f = with_bool (is_target target) (P (content.Link target)) (λ outcome new. Refuses old BadLink outcome new) (λ is. f) (λ no. refuses BadLink refl)
 
   -- a command that only reads has one outcome if what it tells of a store is one thing
@@ -186,20 +186,20 @@ module _ (old : World) where
   compares : (P : Type 0) (alike apart : List ℕ) → IsStep old (λ outcome new. (P × Gives alike old outcome new) ⊎ ((P → ⊥) × Gives apart old outcome new))
   compares P alike apart = record { one = one; follows = follows; unspent = unspent }
     where
-      C : Outcome → World → Type 0
+      C : Outcome → ScriptWorld → Type 0
       C outcome new = (P × Gives alike old outcome new) ⊎ ((P → ⊥) × Gives apart old outcome new)
 
-      one : (a b : Outcome) (x y : World) → C a x → C b y → (a ≡ b) × (x ≡ y)
+      one : (a b : Outcome) (x y : ScriptWorld) → C a x → C b y → (a ≡ b) × (x ≡ y)
       one a b x y (inl p) (inl q) = (gives alike old (stays old refl)).one a b x y p.1 q.1
       one a b x y (inl p) (inr q) = absurd (q.0 p.0)
       one a b x y (inr p) (inl q) = absurd (p.0 q.0)
       one a b x y (inr p) (inr q) = (gives apart old (stays old refl)).one a b x y p.1 q.1
 
-      follows : (outcome : Outcome) (new : World) → C outcome new → Follows old new
+      follows : (outcome : Outcome) (new : ScriptWorld) → C outcome new → Follows old new
       follows outcome new (inl p) = stays new p.1.world_is
       follows outcome new (inr p) = stays new p.1.world_is
 
-      unspent : HasCounters old → (outcome : Outcome) (new : World) → C outcome new → is_spent outcome ≡ false
+      unspent : HasCounters old → (outcome : Outcome) (new : ScriptWorld) → C outcome new → is_spent outcome ≡ false
       unspent free outcome new (inl p) = ap is_spent p.1.outcome_is
       unspent free outcome new (inr p) = ap is_spent p.1.outcome_is
 
@@ -231,12 +231,12 @@ module _ (old : World) where
       (λ at. with_option (visible_at (held old k) at) (λ outcome new. Refuses old Nothing outcome new) (λ shown outcome new. Writes old outcome new k at content.Gone)
       (λ none. refuses Nothing refl) (λ shown is. writes k at content.Gone lt)))
   does (Merge from to) =
-      let G : ℕ → ℕ → Outcome → World → Type 0 = λ j k outcome new. Gives (changed_line (changed_paths (held old k) (held (merged old j k) k))) (merged old j k) outcome new in
+      let G : ℕ → ℕ → Outcome → ScriptWorld → Type 0 = λ j k outcome new. Gives (changed_line (changed_paths (held old k) (held (merged old j k) k))) (merged old j k) outcome new in
       at_node from (λ j outcome new. AtNode old outcome new to (λ k. G j k outcome new))
       (λ j lt_from. at_node to (G j) (λ k lt_to. gives (changed_line (changed_paths (held old k) (held (merged old j k) k))) (merged old j k) (puts_nothing (merged old j k) (λ l. lawful_merged old j k l lt_from lt_to) refl)))
   does (Part piece from to texts) =
       let words : ℕ → ℕ → List PathParts → List ℕ = λ j k paths. entries_line (length (finmap.entries (cut (held old j) (digest_of (held old k)) (if_any paths)))) in
-      let G : ℕ → ℕ → List PathParts → Outcome → World → Type 0 = λ j k paths outcome new. Gives (words j k paths) (parted old piece j k (if_any paths)) outcome new in
+      let G : ℕ → ℕ → List PathParts → Outcome → ScriptWorld → Type 0 = λ j k paths outcome new. Gives (words j k paths) (parted old piece j k (if_any paths)) outcome new in
       at_node from (λ j outcome new. AtNode old outcome new to (λ k. AtPaths old outcome new texts (λ paths. G j k paths outcome new)))
       (λ j lt_from. at_node to (λ k outcome new. AtPaths old outcome new texts (λ paths. G j k paths outcome new))
       (λ k lt_to. at_paths texts (G j k) (λ paths. gives (words j k paths) (parted old piece j k (if_any paths)) (puts_nothing (parted old piece j k (if_any paths)) (λ l. lawful_parted piece j k paths l lt_from lt_to) refl))))
@@ -246,7 +246,7 @@ module _ (old : World) where
           let l = lawful_answered old j k (if_any paths) lawful lt_from lt_to in
           record { within = l.within; apart = l.apart; own = λ e a. (let own = l.own e a in record { node = own.node; within = own.within; writer = own.writer; counter = own.counter }); honest = l.honest }
   does (Send piece node) =
-      let G : ℕ → ℕ → Outcome → World → Type 0 = λ p k outcome new. Gives (changed_line (changed_paths (held old k) (held (happened old (event.Give p k)) k))) (happened old (event.Give p k)) outcome new in
+      let G : ℕ → ℕ → Outcome → ScriptWorld → Type 0 = λ p k outcome new. Gives (changed_line (changed_paths (held old k) (held (happened old (event.Give p k)) k))) (happened old (event.Give p k)) outcome new in
       at_piece piece (λ p outcome new. AtNode old outcome new node (λ k. G p k outcome new))
       (λ p. at_node node (G p) (λ k lt. gives (changed_line (changed_paths (held old k) (held (happened old (event.Give p k)) k))) (happened old (event.Give p k)) (puts_nothing (happened old (event.Give p k)) (λ l. lawful_given old p k l lt) refl)))
   does Sweep =
@@ -255,6 +255,6 @@ module _ (old : World) where
   does (Files node) = reads node TellsPaths (λ s a b p q. p ∙ sym q) (λ s outcome p. ap is_spent p)
   does (Cat node unit) = reads node (TellsFiles unit) (files_are_told_once unit) (files_spend_nothing unit)
   does (Same left right) =
-      let C : ℕ → ℕ → Outcome → World → Type 0 = λ j k outcome new. ((held old j ≡ held old k) × Gives (codes "same\n") old outcome new) ⊎ ((held old j ≡ held old k → ⊥) × Gives (codes "differ\n") old outcome new) in
+      let C : ℕ → ℕ → Outcome → ScriptWorld → Type 0 = λ j k outcome new. ((held old j ≡ held old k) × Gives (codes "same\n") old outcome new) ⊎ ((held old j ≡ held old k → ⊥) × Gives (codes "differ\n") old outcome new) in
       at_node left (λ j outcome new. AtNode old outcome new right (λ k. C j k outcome new))
       (λ j lt_left. at_node right (C j) (λ k lt_right. compares (held old j ≡ held old k) (codes "same\n") (codes "differ\n")))

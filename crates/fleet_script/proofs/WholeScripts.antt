@@ -20,7 +20,7 @@ use Rattle.script_commands.specs.Outcomes.{Outcome, is_spent}
 use Rattle.script_answers.specs.Texts.{error_line, outcome_text}
 use Rattle.script_worlds.specs.Counts.{IsPutUpTo}
 use Rattle.script_worlds.specs.CountsLaws.{counted, put_blank}
-use Rattle.script_worlds.specs.Worlds.{World, blank, held}
+use Rattle.script_worlds.specs.Worlds.{ScriptWorld, blank, held}
 use Rattle.script_worlds.specs.Lawful.{IsLawful}
 use Rattle.script_worlds.specs.LawfulLaws.{lawful_blank}
 use Rattle.fleet_script.specs.Does.{Does, Refuses}
@@ -29,11 +29,11 @@ use Rattle.fleet_script.specs.Scripts.{Answers, AnswersCommand, AnswersLine, Run
 use Rattle.fleet_script.proofs.StepKinds.{Follows, HasCounters, does, refused_once, stays}
 
 -- a line has one answer and leaves one world, which follows
-record IsLine {X : Type 0} (old : World) (A : X → World → Type 0) : Type 0 where
-  one : (a b : X) (x y : World) → A a x → A b y → (a ≡ b) × (x ≡ y)
-  follows : (answer : X) (new : World) → A answer new → Follows old new
+record IsLine {X : Type 0} (old : ScriptWorld) (A : X → ScriptWorld → Type 0) : Type 0 where
+  one : (a b : X) (x y : ScriptWorld) → A a x → A b y → (a ≡ b) × (x ≡ y)
+  follows : (answer : X) (new : ScriptWorld) → A answer new → Follows old new
 
-module _ (old : World) where
+module _ (old : ScriptWorld) where
   says : (words : List ℕ) → IsLine old (λ answer new. Says words old answer new)
   says words = record {
     one = λ a b x y p q. (p.answer_is ∙ sym q.answer_is, p.world_is ∙ sym q.world_is);
@@ -52,7 +52,7 @@ module _ (old : World) where
         follows = λ answer new p. step.follows p.0 new p.2;
       }
 
-  either : (t : Bool) (P Q : List ℕ → World → Type 0) → IsLine old P → IsLine old Q → IsLine old (λ answer new. MatchBool t (P answer new) (Q answer new))
+  either : (t : Bool) (P Q : List ℕ → ScriptWorld → Type 0) → IsLine old P → IsLine old Q → IsLine old (λ answer new. MatchBool t (P answer new) (Q answer new))
   either true P Q p q = p
   either false P Q p q = q
 
@@ -63,7 +63,7 @@ module _ (old : World) where
       (says (error_line LineTooLong))
       (either (is_passed_over line) (λ answer new. Says [] old answer new) (λ answer new. AnswersCommand old line answer new) (says []) (answered line))
 
-run_same : (old : World) (lines : List (List ℕ)) (a b : List ℕ) (x y : World) → Run old lines a x → Run old lines b y → (a ≡ b) × (x ≡ y)
+run_same : (old : ScriptWorld) (lines : List (List ℕ)) (a b : List ℕ) (x y : ScriptWorld) → Run old lines a x → Run old lines b y → (a ≡ b) × (x ≡ y)
 run_same old [] a b x y p q = (p.0 ∙ sym q.0, p.1 ∙ sym q.1)
 run_same old (line ∷ lines) a b x y p q =
     let now = (line_is old line).one p.0 q.0 p.2 q.2 p.4 q.4 in
@@ -74,7 +74,7 @@ pub one : (script first second : List ℕ) → Answers script first → Answers 
 one script first second p q = (run_same blank (lines_of script) first second p.0 q.0 p.1 q.1).0
 
 -- a run of all lines begins with the run of the first of them
-front_of_run : (k : ℕ) (lines : List (List ℕ)) (old : World) (a b : List ℕ) (x y : World) → Run old (take k lines) a x → Run old lines b y → (rest : List ℕ) × (b ≡ a ++ rest)
+front_of_run : (k : ℕ) (lines : List (List ℕ)) (old : ScriptWorld) (a b : List ℕ) (x y : ScriptWorld) → Run old (take k lines) a x → Run old lines b y → (rest : List ℕ) × (b ≡ a ++ rest)
 front_of_run zero [] old a b x y p q = (b, ap (λ v. v ++ b) (sym p.0))
 front_of_run zero (line ∷ lines) old a b x y p q = (b, ap (λ v. v ++ b) (sym p.0))
 front_of_run (suc k) [] old a b x y p q = (b, ap (λ v. v ++ b) (sym p.0))
@@ -96,12 +96,12 @@ fronts_are_of_the_whole script written answers front whole =
     let cut = front_of_front front.1 front.2 goes_on.0 in
     (cut.0, front.5 ∙ cut.1 ∙ ap (take cut.0) (sym goes_on.1))
 
-pub run_lawful : (lines : List (List ℕ)) (old : World) (written : List ℕ) (new : World) → IsLawful old → Run old lines written new → IsLawful new
-run_lawful [] old written new lawful r = subst (λ (w : World). IsLawful w) (sym r.1) lawful
+pub run_lawful : (lines : List (List ℕ)) (old : ScriptWorld) (written : List ℕ) (new : ScriptWorld) → IsLawful old → Run old lines written new → IsLawful new
+run_lawful [] old written new lawful r = subst (λ (w : ScriptWorld). IsLawful w) (sym r.1) lawful
 run_lawful (line ∷ lines) old written new lawful r = run_lawful lines r.2 r.1 new (((line_is old line).follows r.0 r.2 r.4).lawful lawful) r.5
 
-run_counted : (lines : List (List ℕ)) (old : World) (written : List ℕ) (new : World) (n : ℕ) → IsLawful old → IsPutUpTo n old → Run old lines written new → IsPutUpTo (n + length lines) new
-run_counted [] old written new n lawful up r e a = let most = subst (λ (w : World). IsPutUpTo n w) (sym r.1) up e a in omega arith
+run_counted : (lines : List (List ℕ)) (old : ScriptWorld) (written : List ℕ) (new : ScriptWorld) (n : ℕ) → IsLawful old → IsPutUpTo n old → Run old lines written new → IsPutUpTo (n + length lines) new
+run_counted [] old written new n lawful up r e a = let most = subst (λ (w : ScriptWorld). IsPutUpTo n w) (sym r.1) up e a in omega arith
 run_counted (line ∷ lines) old written new n lawful up r e a =
     let step = (line_is old line).follows r.0 r.2 r.4 in
     let most = run_counted lines r.2 r.1 new (suc n) (step.lawful lawful) (step.counted n lawful up) r.5 e a in

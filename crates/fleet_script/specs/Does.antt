@@ -1,4 +1,5 @@
 -- What each command does: which outcome it may have in a world, and which world it leaves.
+-- Source: this project's own.
 use Rattle.std.specs.Prelude.{◌≡◌, ◌≢◌, ◌⊎◌, ℕ, ◌==◌, codes, List, [], ◌∷◌, length, Option, Some, None, Ok, Err, MatchOption, MatchResult, MatchBool}
 use Rattle.std.specs.FinMap as finmap
 use Rattle.load_path.specs.Paths.{PathParts, path_of}
@@ -19,20 +20,20 @@ use Rattle.script_commands.specs.declared.commands.Refusal.TheVariants.{UnknownN
 use Rattle.script_commands.specs.Outcomes.{Outcome}
 use Rattle.script_answers.specs.Texts.{ok_line, changed_line, entries_line, files_text}
 use Rattle.unit_answers.specs.Units.{TellsFiles}
-use Rattle.script_worlds.specs.Worlds.{World, held, happened, with_node, node_named, has_writer, next_edit, parted, piece_named, merged, swept}
+use Rattle.script_worlds.specs.Worlds.{ScriptWorld, held, happened, with_node, node_named, has_writer, next_edit, parted, piece_named, merged, swept}
 
 -- the answer is these words, and the new world is that one
-pub record Gives (words : List ℕ) (world : World) (outcome : Outcome) (new : World) : Type 0 where
+pub record Gives (words : List ℕ) (world : ScriptWorld) (outcome : Outcome) (new : ScriptWorld) : Type 0 where
   pub outcome_is : outcome ≡ Ok words
   pub world_is : new ≡ world
 
 -- it is refused, and the world stays
-pub record Refuses (old : World) (refusal : Refusal) (outcome : Outcome) (new : World) : Type 0 where
+pub record Refuses (old : ScriptWorld) (refusal : Refusal) (outcome : Outcome) (new : ScriptWorld) : Type 0 where
   pub outcome_is : outcome ≡ Err refusal
   pub world_is : new ≡ old
 
 -- the outcome is one of these, and the world stays
-pub record IsRead (Tells : Outcome → Type 0) (old : World) (outcome : Outcome) (new : World) : Type 0 where
+pub record IsRead (Tells : Outcome → Type 0) (old : ScriptWorld) (outcome : Outcome) (new : ScriptWorld) : Type 0 where
   pub told : Tells outcome
   pub world_is : new ≡ old
 
@@ -45,7 +46,7 @@ abbrev pub if_any : List PathParts → Option (List PathParts)
 if_any [] = None
 if_any (path ∷ paths) = Some (path ∷ paths)
 
-module _ (old : World) (outcome : Outcome) (new : World) where
+module _ (old : ScriptWorld) (outcome : Outcome) (new : ScriptWorld) where
   -- what holds of the node of a name, if there is one
   abbrev pub AtNode : List ℕ → (ℕ → Type 0) → Type 0
   AtNode name P = MatchOption (node_named old.nodes name) (Refuses old UnknownNode outcome new) P
@@ -146,7 +147,7 @@ module _ (old : World) (outcome : Outcome) (new : World) where
       ((held old j ≡ held old k) × Gives (codes "same\n") old outcome new) ⊎ ((held old j ≢ held old k) × Gives (codes "differ\n") old outcome new)))
 
 -- From the old world a command may have this outcome, and leave the new world.
-abbrev pub Does : World → Command → Outcome → World → Type 0
+abbrev pub Does : ScriptWorld → Command → Outcome → ScriptWorld → Type 0
 Does old (command.Node name writer) outcome new = Names old outcome new name writer
 Does old (command.Put node path text) outcome new = Puts old outcome new node path text
 Does old (command.Link node path target) outcome new = Links old outcome new node path target

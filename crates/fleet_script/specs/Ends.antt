@@ -1,4 +1,5 @@
 -- What stands where a run ends: of a reader that tells what it has left, and a writer that tells what it holds.
+-- Source: this project's own.
 use Rattle.std.specs.Prelude.{◌⊎◌, ℕ, List, Option, length, ◌≤◌}
 use Rattle.std.specs.Io.KnownBytes.{Appends, Keeps}
 use Rattle.script_pipes.specs.Failures.{FailedSince}

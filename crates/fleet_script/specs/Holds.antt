@@ -1,4 +1,5 @@
 -- What the shell keeps of a world: of each node its replica of now, by name the numbers of nodes and the pieces of now, and which writer numbers are taken.
+-- Source: this project's own.
 use Rattle.std.specs.Prelude.{◌≡◌, ◌⊎◌, ℕ, ◌<◌, Bool, false, Vec, List, [], length, slice_get, slice_index_or, slice_set, Option, Some, None, Result}
 use Rattle.std.specs.Cmp.Lexicographic.{slice_cmp}
 use Rattle.std.specs.Ordering.{nat_cmp}
@@ -13,7 +14,7 @@ use Rattle.script_commands.specs.declared.commands.Fault.{Fault}
 use Rattle.script_commands.specs.declared.commands.Fault.TheVariants.{Refused, Memory}
 use Rattle.script_commands.specs.declared.commands.Refusal.TheVariants.{UnknownNode}
 use Rattle.script_commands.specs.Outcomes.{Outcome, IsSaid}
-use Rattle.script_worlds.specs.Worlds.{World, state, held, has_writer, node_named, piece_named, writer_at}
+use Rattle.script_worlds.specs.Worlds.{ScriptWorld, state, held, has_writer, node_named, piece_named, writer_at}
 use Rattle.script_worlds.specs.Lawful.{IsLawful}
 use Rattle.fleet_script.specs.declared.states.Shell.{Shell}
 use Rattle.fleet_script.specs.Does.{Does}
@@ -40,20 +41,20 @@ pub record IsBlank (shell : Keeps) : Type 0 where
   pub pieces : (name : List ℕ) → shell.piece_of name ≡ None
 
 -- these are the entries of the piece of this number
-pub record IsPiece (world : World) (number : ℕ) (entries : EntryMap) : Type 0 where
+pub record IsPiece (world : ScriptWorld) (number : ℕ) (entries : EntryMap) : Type 0 where
   pub piece : worlds.Piece
   pub there : slice_get (state world).pieces number ≡ Some piece
   pub entries_are : piece.entries ≡ entries
 
 -- what is kept under a name is the latest piece of that name
-abbrev pub IsNamed : World → Option EntryMap → Option ℕ → Type 0
+abbrev pub IsNamed : ScriptWorld → Option EntryMap → Option ℕ → Type 0
 IsNamed world None None = Unit {0}
 IsNamed world None (Some number) = ⊥
 IsNamed world (Some entries) None = ⊥
 IsNamed world (Some entries) (Some number) = IsPiece world number entries
 
 -- the nodes are those of the world, each holds the sum of what it took under its own writer number, and names, writer numbers and pieces are those of the world
-pub record Holds (shell : Keeps) (world : World) : Type 0 where
+pub record Holds (shell : Keeps) (world : ScriptWorld) : Type 0 where
   pub count : length shell.nodes ≡ length world.nodes
   pub writers : (k : ℕ) (node : Replicated) → slice_get shell.nodes k ≡ Some node → writer_at world.nodes k ≡ node.writer
   pub stores : (k : ℕ) (node : Replicated) → slice_get shell.nodes k ≡ Some node → node.store ≡ held world k
@@ -63,11 +64,11 @@ pub record Holds (shell : Keeps) (world : World) : Type 0 where
   pub lawful : IsLawful world
 
 -- Whatever world the old shell holds, the new one holds one to which it may go.
-abbrev pub Continues : Keeps → Keeps → (World → World → Type 0) → Type 0
-Continues old new step = (world : World) → Holds old world → (next : World) × Holds new next × step world next
+abbrev pub Continues : Keeps → Keeps → (ScriptWorld → ScriptWorld → Type 0) → Type 0
+Continues old new step = (world : ScriptWorld) → Holds old world → (next : ScriptWorld) × Holds new next × step world next
 
 -- what a step came to, unless memory was refused: it may go so from whatever world the old shell holds
-abbrev pub Goes : Keeps → Keeps → (World → Outcome → World → Type 0) → Result (Vec ℕ Global) Fault → Type 0
+abbrev pub Goes : Keeps → Keeps → (ScriptWorld → Outcome → ScriptWorld → Type 0) → Result (Vec ℕ Global) Fault → Type 0
 Goes old new step result = IsSaid (λ (text : Vec ℕ Global). text.items) result (λ outcome. Continues old new (λ before after. step before outcome after))
 
 -- what a command came to

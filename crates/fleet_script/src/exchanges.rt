@@ -129,7 +129,8 @@ impl Shell {
     ) -> Result<Piece, AllocError>
         requires from_within { from < vec_len self.now.nodes }
         requires to_within { to < vec_len self.now.nodes }
-        ensures cut { IfOk result (λ piece. (d : Replicated) → piece ≡ cut (slice_index_or self.now.nodes.items from d).store
+        ensures cut { IfOk result (λ piece. (d : Replicated) → piece ≡ cut
+            (slice_index_or self.now.nodes.items from d).store
             (digest_of (slice_index_or self.now.nodes.items to d).store) (if_any paths.now)) }
     {
         if paths.is_empty() {

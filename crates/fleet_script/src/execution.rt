@@ -11,7 +11,7 @@ use edit_sums::Content;
 use byte_strings::Bytes;
 use load_path::Path;
 use replica_store::Replica;
-use script_answers::{files_of, put_done, refused};
+use script_answers::{list_files, put_done, refused};
 use script_commands::{Command, Fault, Refusal, parse, read_file, read_link, read_path};
 use script_words::is_passed_over;
 use std::alloc::{AllocError, Global};
@@ -37,7 +37,8 @@ impl Shell {
     /// The number of the node of a name, or that there is none.
     pub fn node_at(&self, alloc: Global, name: &[u8]) -> Result<usize, Fault>
         ensures within { IfOk result (λ at. at < length self.now.nodes.items) }
-        ensures found { MatchResult result (λ at. (kept_in self.now).number_of name.now ≡ Some at) (HasNoNode (kept_in self.now) name.now) }
+        ensures found { MatchResult result (λ at. (kept_in self.now).number_of name.now ≡ Some at)
+            (HasNoNode (kept_in self.now) name.now) }
     {
         let name = Bytes::from_slice(alloc, name)?;
         match self.numbers.get(&name) {
@@ -109,7 +110,7 @@ impl Shell {
         ensures done { Executes self.old self.new (Files node.now) result }
     {
         let at = self.node_at(alloc, node)?;
-        Ok(files_of(alloc, self.nodes[at].store())?)
+        Ok(list_files(alloc, self.nodes[at].store())?)
     }
 
     // Tells a unit's files: its fragment, and then its drop-ins.
@@ -141,7 +142,8 @@ impl Shell {
         content: Content,
     ) -> Result<Vec<u8>, Fault>
         requires within { at < vec_len self.old.nodes }
-        ensures done { Goes (kept_in self.old) (kept_in self.new) (λ before outcome after. Writes before outcome after at path content) result }
+        ensures done { Goes (kept_in self.old) (kept_in self.new) (λ before outcome after.
+            Writes before outcome after at path content) result }
     {
         let version = match self.nodes[at].put(path, content) {
             Ok(version) => version,
@@ -155,7 +157,8 @@ impl Shell {
     // Does what a line asks for.
     fn execute<R: AllocGlobal>(&mut self, rt: &R, line: &[u8]) -> Result<Vec<u8>, Fault>
         ensures done { Goes (kept_in self.old) (kept_in self.new) (λ before outcome after.
-            MatchResult (command_of line.now) (λ command. Does before command outcome after) (λ refusal. Refuses before refusal outcome after)) result }
+            MatchResult (command_of line.now) (λ command. Does before command outcome after)
+                (λ refusal. Refuses before refusal outcome after)) result }
     {
         let alloc = rt.alloc();
         match parse(line)? {

@@ -4,12 +4,13 @@ ghost use Rattle.edit_sums.specs.Sums.{IsHonest};
 ghost use Rattle.world_law.specs.Worlds as worlds;
 ghost use Rattle.fleet_script.specs.Scripts.{Answers, Run};
 ghost use Rattle.fleet_script.specs.ScriptLaws.{CountersAreLines, FrontsAreOfTheWhole, NoLineIsRefusedForVersions, VersionsAreNeverSpent};
-ghost use Rattle.script_worlds.specs.Worlds.{World, blank, held, state};
+ghost use Rattle.script_worlds.specs.Worlds.{ScriptWorld, blank, held, state};
 ghost use Rattle.script_worlds.specs.Lawful.{puts};
 
 /// A script has one list of answers at most, so whatever `run` writes for it is the same.
 pub fn one_answer()
-    ensures one { (script first second : List ℕ) → Answers script first → Answers script second → first ≡ second }
+    ensures one { (script first second : List ℕ) → Answers script first → Answers script second →
+        first ≡ second }
 {}
 
 /// What a fault leaves written is a front of the answers to the whole script, whenever that has
@@ -22,9 +23,12 @@ pub fn fronts_of_answers()
 /// one writer number. So each node's store, joined of all that it was given, is the sum of what it
 /// took.
 pub fn scripts_are_honest()
-    ensures honest { (lines : List (List ℕ)) (written : List ℕ) (world : World) → Run blank lines written world → IsHonest (puts world) }
-    ensures sums { (lines : List (List ℕ)) (written : List ℕ) (world : World) → Run blank lines written world
-        → (k : ℕ) (node : worlds.Node) → slice_get (state world).nodes k ≡ Some node → node.store ≡ held world k }
+    ensures honest { (lines : List (List ℕ)) (written : List ℕ) (world : ScriptWorld) →
+        Run blank lines written world → IsHonest (puts world) }
+    ensures sums { (lines : List (List ℕ)) (written : List ℕ) (world : ScriptWorld) →
+        Run blank lines written world
+        → (k : ℕ) (node : worlds.Node) → slice_get (state world).nodes k ≡ Some node →
+            node.store ≡ held world k }
 {}
 
 /// Each counter is at most the number of lines so far, of edits as of stores. So no command of a

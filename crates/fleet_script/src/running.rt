@@ -59,7 +59,8 @@ fn answer_all<R: AllocGlobal, K: Sink>(
         × Appends (K.contents writer.old) (K.contents writer.new) written) }
     ensures front { OnErr result ((written : List ℕ) × AnswersFront script.now written
         × Appends (K.contents writer.old) (K.contents writer.new) written) }
-    ensures write { IsErrOf result ShellFault.Write → FailedSince (K.refusals writer.old) (K.refusals writer.new) }
+    ensures write { IsErrOf result ShellFault.Write → FailedSince (K.refusals writer.old)
+        (K.refusals writer.new) }
     ensures read { IsErrOf result ShellFault.Read → ⊥ }
 {
     let mut shell = Shell::new(rt.alloc());
@@ -94,15 +95,18 @@ pub fn run<R: AllocGlobal, S: Source, K: Sink>(
     writer: &mut K,
 ) -> Result<(), ShellFault>
     // The answers to the whole script are written.
-    ensures ok { OnOk result (IsAnswered MAX_SCRIPT_BYTES (S.remaining reader.old) (K.contents writer.old) (K.contents writer.new)) }
+    ensures ok { OnOk result (IsAnswered MAX_SCRIPT_BYTES (S.remaining reader.old) (K.contents writer.old)
+        (K.contents writer.new)) }
 
     // Nothing is written where the script was not read, and then a read failed or it is too long.
     ensures read { IsErrOf result ShellFault.Read → IsUnread MAX_SCRIPT_BYTES (S.remaining reader.old)
         (S.failures reader.old) (S.failures reader.new) (K.contents writer.old) (K.contents writer.new) }
 
     // On every fault a front of the answers is written.
-    ensures front { OnErr result (IsFronted (S.remaining reader.old) (K.contents writer.old) (K.contents writer.new)) }
-    ensures write { IsErrOf result ShellFault.Write → FailedSince (K.refusals writer.old) (K.refusals writer.new) }
+    ensures front { OnErr result (IsFronted (S.remaining reader.old) (K.contents writer.old)
+        (K.contents writer.new)) }
+    ensures write { IsErrOf result ShellFault.Write → FailedSince (K.refusals writer.old)
+        (K.refusals writer.new) }
 {
     match read_all(rt.alloc(), reader) {
         Ok(script) => answer_all(rt, &script, writer),

@@ -1,4 +1,5 @@
 -- The exit status of the program.
+-- Source: this project's own.
 use Rattle.std.specs.Prelude.{ℕ, Result, Ok, Err}
 use Rattle.fleet_script.specs.declared.running.ShellFault.{ShellFault}
 use Rattle.fleet_script.specs.declared.running.ShellFault.TheVariants.{Read, Write, Memory}

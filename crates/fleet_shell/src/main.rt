@@ -44,15 +44,19 @@ fn answer_script<R: AllocGlobal + Eprint, S: Source, K: Sink>(
     ensures statuses { exit_status result ≤ 2 }
 
     // The answers to the whole script are written.
-    ensures answered { exit_status result ≡ 0 → IsAnswered MAX_SCRIPT_BYTES (S.remaining source.old) (K.contents sink.old) (K.contents sink.new) }
+    ensures answered { exit_status result ≡ 0 → IsAnswered MAX_SCRIPT_BYTES (S.remaining source.old)
+        (K.contents sink.old) (K.contents sink.new) }
 
     // A read failed or the script is too long, and nothing is written; or a write failed behind a front of the answers.
     ensures faulted { exit_status result ≡ 1 →
-        IsUnread MAX_SCRIPT_BYTES (S.remaining source.old) (S.failures source.old) (S.failures source.new) (K.contents sink.old) (K.contents sink.new)
-        ⊎ IsUnwritten (S.remaining source.old) (K.refusals sink.old) (K.refusals sink.new) (K.contents sink.old) (K.contents sink.new) }
+        IsUnread MAX_SCRIPT_BYTES (S.remaining source.old) (S.failures source.old) (S.failures source.new)
+        (K.contents sink.old) (K.contents sink.new)
+        ⊎ IsUnwritten (S.remaining source.old) (K.refusals sink.old) (K.refusals sink.new)
+        (K.contents sink.old) (K.contents sink.new) }
 
     // Memory was refused behind a front of the answers.
-    ensures refused { exit_status result ≡ 2 → IsFronted (S.remaining source.old) (K.contents sink.old) (K.contents sink.new) }
+    ensures starved { exit_status result ≡ 2 → IsFronted (S.remaining source.old) (K.contents sink.old)
+        (K.contents sink.new) }
 {
     let outcome = run(rt, source, sink);
     ExitCode::from(finish(rt, outcome))

@@ -1,4 +1,5 @@
 -- The choice of a unit's main file.
+-- Source: systemd.unit(5), "Unit File Load Path" and "Description"; the order of a link's tests is this project's own.
 use Rattle.std.specs.Prelude.{ℕ, Bool, true, false, not, ◌||◌, ◌==◌, if◌then◌else◌, Option, Some, None, List, [], ◌∷◌, codes, unwrap_or}
 use Rattle.std.specs.Option.{option_and_then, option_or}
 use Rattle.std.specs.List.{after_last}

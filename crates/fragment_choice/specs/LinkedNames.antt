@@ -1,4 +1,5 @@
 -- The names that links give to a unit.
+-- Source: systemd.unit(5), "Description".
 use Rattle.std.specs.Prelude.{◌≡◌, ℕ, Bool, true, false, Option, Some, None, List, [], ◌∷◌, ◌⊎◌, IsTrue, if◌then◌else◌}
 use Rattle.list_laws.specs.Members.{IsAmong}
 use Rattle.load_path.specs.Paths.{PathParts}

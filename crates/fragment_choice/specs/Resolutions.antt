@@ -1,4 +1,5 @@
 -- The chain of a unit's aliases, and its end.
+-- Source (aliases): systemd.unit(5), "Description"; that eight are followed is this project's own.
 use Rattle.std.specs.Prelude.{◌≡◌, ℕ, zero, suc, ◌≤◌}
 use Rattle.edit_sums.specs.Sums.{EntryMap}
 use Rattle.unit_name.specs.Names.{Name}

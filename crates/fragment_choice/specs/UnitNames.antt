@@ -1,4 +1,5 @@
 -- All names of a unit.
+-- Source: systemd.unit(5), "Description".
 use Rattle.std.specs.Prelude.{◌≡◌, ◌≢◌, List, ◌∷◌, ◌↔◌}
 use Rattle.std.specs.List.Sorted.{IsStrictlySortedBy}
 use Rattle.list_laws.specs.Members.{IsAmong}

@@ -60,7 +60,8 @@ fn has_no_alias(kind: Kind) -> bool
 
 // Whether a link may lead from the one shape to the other.
 fn shapes_agree(own: &UnitName, target: &UnitName) -> bool
-    ensures test { result ≡ shapes_agree (shape own.now) (instance own.now) (shape target.now) (instance target.now) }
+    ensures test { result ≡ shapes_agree (shape own.now) (instance own.now) (shape target.now)
+        (instance target.now) }
 {
     match (own.shape(), target.shape()) {
         (Shape::Plain, Shape::Plain) => true,

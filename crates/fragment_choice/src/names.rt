@@ -58,7 +58,8 @@ fn gather_at(
     unit: &UnitName,
     rank: u8,
 ) -> Result<(), AllocError>
-    ensures gathered { OnOk result (Gathers store.now unit.now (IsLinkedAt store.now rank) others.old.keys others.new.keys) }
+    ensures gathered { OnOk result (Gathers store.now unit.now (IsLinkedAt store.now rank) others.old.keys
+        others.new.keys) }
 {
     for path in &store.folder(rank, b"")? {
         gather_of(alloc, others, store, unit, rank, path.name())?;
@@ -75,7 +76,8 @@ fn gather_of(
     rank: u8,
     own: &[u8],
 ) -> Result<(), AllocError>
-    ensures gathered { OnOk result (Gathers store.now unit.now (IsLinkedBy store.now rank own.now) others.old.keys others.new.keys) }
+    ensures gathered { OnOk result (Gathers store.now unit.now (IsLinkedBy store.now rank own.now)
+        others.old.keys others.new.keys) }
 {
     if !is_link(store, rank, own) {
         return Ok(());
@@ -116,7 +118,8 @@ fn add_instance(
     unit: &UnitName,
     template: &UnitName,
 ) -> Result<(), AllocError>
-    ensures gathered { OnOk result (Gathers store.now unit.now (λ n. with_instance template.now (instance unit.now) ≡ Some n) others.old.keys others.new.keys) }
+    ensures gathered { OnOk result (Gathers store.now unit.now (λ n. with_instance template.now
+        (instance unit.now) ≡ Some n) others.old.keys others.new.keys) }
 {
     match template.with_instance(unit.instance())? {
         Some(name) => add_if_other(alloc, others, store, unit, name),
@@ -132,7 +135,8 @@ fn add_if_other(
     unit: &UnitName,
     name: UnitName,
 ) -> Result<(), AllocError>
-    ensures gathered { OnOk result (Gathers store.now unit.now (λ n. n ≡ name) others.old.keys others.new.keys) }
+    ensures gathered { OnOk result (Gathers store.now unit.now (λ n. n ≡ name) others.old.keys
+        others.new.keys) }
 {
     if !is_other(alloc, store, unit, &name)? {
         return Ok(());

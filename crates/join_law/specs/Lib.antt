@@ -1,3 +1,11 @@
 pub mod Order
 pub mod VersionOrder
 pub mod VersionOrderLaws
+pub mod EntryLaws
+pub mod VersionedLaws
+pub mod Maps
+pub mod MapLaws
+pub mod UnionLaws
+pub mod MapOneLaws
+pub mod LevelLaws
+pub mod LeafLaws

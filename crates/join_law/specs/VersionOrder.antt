@@ -1,9 +1,11 @@
--- The order of versions, and of contents with versions: by counter, then writer, then content.
-use Rattle.std.specs.Prelude.{◌≡◌, false, if◌then◌else◌}
-use Rattle.std.specs.Ordering.{nat_cmp, ordering_then, is_gt, is_lt}
+-- The order of versions, of entries, and of entries that may not be there yet: by counter, then writer, then content.
+-- Source (last writer wins by timestamps): Shapiro, Preguica, Baquero, Zawirski 2011; that ties go by content is this project's own.
+use Rattle.std.specs.Prelude.{◌≡◌, false, if◌then◌else◌, Option, Some, None}
+use Rattle.std.specs.Ordering.{nat_cmp, ordering_then, is_gt}
 use Rattle.std.specs.declared.cmp.Ordering.{Ordering}
 use Rattle.std.specs.declared.cmp.Ordering.TheVariants.{Less, Equal, Greater}
 use Rattle.join_law.specs.declared.versions.Version.{Version}
+use Rattle.join_law.specs.declared.versions.Entry.{Entry}
 use Rattle.join_law.specs.declared.versions.Versioned.{Versioned}
 use Rattle.join_law.specs.declared.versions.Versioned.TheVariants.{Never, At}
 
@@ -11,17 +13,45 @@ use Rattle.join_law.specs.declared.versions.Versioned.TheVariants.{Never, At}
 abbrev pub version_cmp : Version → Version → Ordering
 version_cmp v w = ordering_then (nat_cmp v.counter w.counter) (nat_cmp v.writer w.writer)
 
+-- by version, then by content
+abbrev pub entry_cmp : {C : Type 0} → (C → C → Ordering) → Entry C → Entry C → Ordering
+entry_cmp R x y = ordering_then (version_cmp x.version y.version) (R x.content y.content)
+
+-- x is at most y; nothing is at most anything
+abbrev pub IsBelow : {C : Type 0} → (C → C → Ordering) → Option (Entry C) → Option (Entry C) → Type 0
+IsBelow R None y = Unit {0}
+IsBelow R (Some x) None = ⊥
+IsBelow R (Some x) (Some y) = is_gt (entry_cmp R x y) ≡ false
+
+-- the larger of two, where there are two
+abbrev pub larger : {C : Type 0} → (C → C → Ordering) → Option (Entry C) → Option (Entry C) → Option (Entry C)
+larger R None y = y
+larger R (Some x) None = Some x
+larger R (Some x) (Some y) = if is_gt (entry_cmp R x y) then Some x else Some y
+
+-- the entry, if one was written
+abbrev pub written : {C : Type 0} → Versioned C → Option (Entry C)
+written Never = None
+written (At x) = Some x
+
+-- the entry, if a place is there and one was written at it
+abbrev pub written_at : {C : Type 0} → Option (Versioned C) → Option (Entry C)
+written_at None = None
+written_at (Some x) = written x
+
 -- nothing comes first; the rest goes by version, then by content
 abbrev pub versioned_cmp : {C : Type 0} → (C → C → Ordering) → Versioned C → Versioned C → Ordering
 versioned_cmp R Never Never = Equal
-versioned_cmp R Never (At w d) = Less
-versioned_cmp R (At v c) Never = Greater
-versioned_cmp R (At v c) (At w d) = ordering_then (version_cmp v w) (R c d)
+versioned_cmp R Never (At y) = Less
+versioned_cmp R (At x) Never = Greater
+versioned_cmp R (At x) (At y) = entry_cmp R x y
 
--- x is at most y
+-- what x has written is at most what y has
 abbrev pub IsUpTo : {C : Type 0} → (C → C → Ordering) → Versioned C → Versioned C → Type 0
-IsUpTo R x y = is_gt (versioned_cmp R x y) ≡ false
+IsUpTo R x y = IsBelow R (written x) (written y)
 
--- the greater of two
+-- the larger of two
 abbrev pub versioned_max : {C : Type 0} → (C → C → Ordering) → Versioned C → Versioned C → Versioned C
-versioned_max R x y = if is_lt (versioned_cmp R x y) then y else x
+versioned_max R Never y = y
+versioned_max R (At x) Never = At x
+versioned_max R (At x) (At y) = if is_gt (entry_cmp R x y) then At x else At y

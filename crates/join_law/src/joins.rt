@@ -1,6 +1,6 @@
 //! The trait of values that are joined.
-ghost use Rattle.std.specs.Prelude.{◌≡◌, ◌↔◌, IsTrue, OnOk, IfOk, IfErr};
-ghost use Rattle.join_law.specs.Order.{IsLeast, IsJoin, IsPartialJoin, IsBelowBoth};
+ghost use Rattle.std.specs.Prelude.{◌≡◌, ◌↔◌, IsTrue, IsOk, OnOk, IfOk, OnErr, IfErr};
+ghost use Rattle.join_law.specs.Order.{IsLeast, IsJoin, IsPartialJoin, IsBetween, IsBelowBoth};
 
 use std::alloc::AllocError;
 
@@ -28,6 +28,9 @@ pub trait Join: Drop {
     // Holds of each value that the type can have.
     ghost is_valid: { Self → Type 0 };
 
+    // Holds where joining a value that is given away takes no memory.
+    ghost joins_in_place: { Type 0 };
+
     /// Whether it is below each value. It takes no memory.
     fn is_bottom(&self) -> bool
         ensures least { IsTrue result ↔ IsLeast below self.now }
@@ -41,8 +44,21 @@ pub trait Join: Drop {
         ensures ok { OnOk result (IsJoin below self.old other self.new) }
         ensures refused { IfErr result (λ fault. IsPartialJoin below self.old other self.new fault.rest) }
         ensures single { IfErr result (λ _. is_single other → self.new ≡ self.old) }
+        ensures in_place { joins_in_place → IsOk result }
         ensures valid { is_valid self.new }
         ensures rest_valid { IfErr result (λ fault. is_valid fault.rest) };
+
+    /// Joins copies of what another value has more than this one.
+    ///
+    /// It fails for want of memory alone, and not where this value has all of the other already.
+    /// This value then lies between what it was and the join, and the same call may be made again;
+    /// where `other` is single, this value is unchanged.
+    fn join_copy(&mut self, other: &Self) -> Result<(), AllocError>
+        ensures ok { OnOk result (IsJoin below self.old other.now self.new) }
+        ensures refused { OnErr result (IsBetween below self.old other.now self.new) }
+        ensures single { OnErr result (is_single other.now → self.new ≡ self.old) }
+        ensures known { below other.now self.old → IsOk result }
+        ensures valid { is_valid self.new };
 
     /// An equal value. It fails for want of memory alone.
     fn try_clone(&self) -> Result<Self, AllocError>
@@ -60,6 +76,9 @@ pub trait Join: Drop {
 
     // Any two values have a least upper bound.
     ghost joins: { (x y : Self) → IsJoin below x y (join x y) };
+
+    // That of two values of the type is one.
+    ghost keeps: { (x y : Self) → is_valid x → is_valid y → is_valid (join x y) };
 
     // Values that are below each other are equal.
     ghost one: { (x y : Self) → is_valid x → is_valid y → IsBelowBoth below x y → x ≡ y };

@@ -1,15 +1,20 @@
-//! Values that are joined: the traits of keys and of joins with their laws, and contents with
-//! versions.
+//! Values that are joined: the traits of keys and of joins with their laws, entries with versions,
+//! and maps of joins.
 //!
 //! A join semilattice is an order in which any two values have a least upper bound, their join.
 //! Replicas whose states form one come to the same state in whatever order they hear of each
 //! other (Shapiro, Preguica, Baquero, Zawirski, "Conflict-free Replicated Data Types", 2011).
 #![tactic(auto)]
 
+mod copies;
+mod edits;
 mod joins;
 mod keys;
+mod maps;
+mod nested;
 mod versions;
 
 pub use joins::{Join, Rest};
 pub use keys::Key;
-pub use versions::{Version, Versioned};
+pub use maps::JoinMap;
+pub use versions::{Entry, Version, Versioned};

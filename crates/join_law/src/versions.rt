@@ -1,5 +1,5 @@
-//! Versions, and contents with versions.
-ghost use Rattle.std.specs.Prelude.{◌≡◌, ◌↔◌, IsTrue, IsOk, OnOk, IfOk, IfErr};
+//! Versions, entries with their versions, and entries that may not be there yet.
+ghost use Rattle.std.specs.Prelude.{◌≡◌, ◌↔◌, IsTrue, IsOk, OnOk, IfOk, OnErr, IfErr};
 
 use crate::joins::{Join, Rest};
 use crate::keys::Key;
@@ -18,17 +18,40 @@ pub struct Version {
     pub writer: u32,
 }
 
-/// A content with its version, or nothing yet: a register that keeps the greatest write.
+/// A content with the version of the write that left it, ordered by version, then by content. Of
+/// two entries at one place the greater one wins.
+#[derive(Debug, PartialEq, Eq, PartialOrd, Ord, Drop)]
+pub struct Entry<C: Key> {
+    /// The version of the write.
+    pub version: Version,
+    /// What was written.
+    pub content: C,
+}
+
+impl<C: Key> Entry<C> {
+    /// An equal entry. It fails for want of memory alone.
+    pub fn try_clone(&self) -> Result<Entry<C>, AllocError>
+        ensures copy { IfOk result (λ copy. copy ≡ self.now) }
+    {
+        Ok(Entry {
+            version: self.version,
+            content: self.content.try_clone()?,
+        })
+    }
+}
+
+/// An entry, or nothing yet: a register that keeps the greatest write.
 #[derive(Debug, Drop)]
 pub enum Versioned<C: Key> {
     /// Nothing was written yet.
     Never,
-    /// The greatest version that was written, with its content.
-    At(Version, C),
+    /// The greatest entry that was written.
+    At(Entry<C>),
 }
 
 impl<C: Key> Versioned<C> {
-    ghost use Rattle.join_law.specs.VersionOrder.{versioned_cmp};
+    ghost use Rattle.std.specs.Option.{option_copied};
+    ghost use Rattle.join_law.specs.VersionOrder.{versioned_cmp, written};
 
     /// The order: nothing first, then by version, then by content.
     pub fn rank(&self, other: &Self) -> Ordering
@@ -37,22 +60,30 @@ impl<C: Key> Versioned<C> {
         match self {
             Versioned::Never => match other {
                 Versioned::Never => Ordering::Equal,
-                Versioned::At(_, _) => Ordering::Less,
+                Versioned::At(_) => Ordering::Less,
             },
-            Versioned::At(version, content) => match other {
+            Versioned::At(entry) => match other {
                 Versioned::Never => Ordering::Greater,
-                Versioned::At(other_version, other_content) => version
-                    .cmp(other_version)
-                    .then(content.cmp(other_content)),
+                Versioned::At(other_entry) => entry.cmp(other_entry),
             },
+        }
+    }
+
+    /// The entry, if one was written.
+    pub fn entry(&self) -> Option<&Entry<C>>
+        ensures entry { option_copied result ≡ written self.now }
+    {
+        match self {
+            Versioned::Never => None,
+            Versioned::At(entry) => Some(entry),
         }
     }
 }
 
 impl<C: Key> Join for Versioned<C> {
-    ghost use Rattle.join_law.specs.Order.{IsJoin, IsPartialJoin};
+    ghost use Rattle.join_law.specs.Order.{IsJoin, IsPartialJoin, IsBetween};
     ghost use Rattle.join_law.specs.VersionOrder.{IsUpTo, versioned_max};
-    ghost use Rattle.join_law.specs.VersionOrderLaws.{up_to_itself, up_to_chain, max_joins, both_up};
+    ghost use Rattle.join_law.specs.VersionedLaws.{up_to_itself, up_to_chain, max_joins, both_up};
 
     ghost below = { IsUpTo C.cmp };
 
@@ -62,18 +93,22 @@ impl<C: Key> Join for Versioned<C> {
 
     ghost is_valid = { λ _. Unit {0} };
 
+    ghost joins_in_place = { Unit {0} };
+
     ghost reflexive = { up_to_itself C.cmp C.total };
 
     ghost transitive = { up_to_chain C.cmp C.total };
 
     ghost joins = { max_joins C.cmp C.total };
 
+    ghost keeps = { λ _ _ _ _. tt };
+
     ghost one = { λ x y _ _ both. both_up C.cmp C.total C.exact x y both.0 both.1 };
 
     fn is_bottom(&self) -> bool {
         match self {
             Versioned::Never => true,
-            Versioned::At(_, _) => false,
+            Versioned::At(_) => false,
         }
     }
 
@@ -84,6 +119,7 @@ impl<C: Key> Join for Versioned<C> {
         ensures ok { OnOk result (IsJoin (IsUpTo C.cmp) self.old other self.new) }
         ensures refused { IfErr result (λ fault. IsPartialJoin (IsUpTo C.cmp) self.old other self.new fault.rest) }
         ensures single { IfErr result (λ _. Unit {0} → self.new ≡ self.old) }
+        ensures in_place { Unit {0} → IsOk result }
         ensures valid { Unit {0} }
         ensures rest_valid { IfErr result (λ fault. Unit {0}) }
     {
@@ -93,10 +129,28 @@ impl<C: Key> Join for Versioned<C> {
         Ok(())
     }
 
+    /// Keeps the greater of the two; it copies the other one only where that is greater. A refused
+    /// copy leaves this one unchanged.
+    fn join_copy(&mut self, other: &Self) -> Result<(), AllocError>
+        ensures greater { OnOk result (self.new ≡ versioned_max C.cmp self.old other.now) }
+        ensures unchanged { OnErr result (self.new ≡ self.old) }
+        ensures ok { OnOk result (IsJoin (IsUpTo C.cmp) self.old other.now self.new) }
+        ensures refused { OnErr result (IsBetween (IsUpTo C.cmp) self.old other.now self.new) }
+        ensures single { OnErr result (Unit {0} → self.new ≡ self.old) }
+        ensures known { IsUpTo C.cmp other.now self.old → IsOk result }
+        ensures valid { Unit {0} }
+    {
+        if self.rank(other).is_lt() {
+            let copy = other.try_clone()?;
+            *self = copy;
+        }
+        Ok(())
+    }
+
     fn try_clone(&self) -> Result<Self, AllocError> {
         match self {
             Versioned::Never => Ok(Versioned::Never),
-            Versioned::At(version, content) => Ok(Versioned::At(*version, content.try_clone()?)),
+            Versioned::At(entry) => Ok(Versioned::At(entry.try_clone()?)),
         }
     }
 

@@ -1,4 +1,5 @@
 -- Functions that agree at one key and at all others.
+-- Source: this project's own.
 use Rattle.std.proofs.Common.{◌≡◌, ◌≢◌, ap, refl, sym, ◌∙◌}
 use Rattle.std.specs.Cmp.{IsTotalOrder}
 use Rattle.std.specs.FinMap.{IsAntisymmetric}

@@ -1,5 +1,6 @@
 -- Which lines a text has, said by how texts are put together from lines. A line ends at a line feed, and one carriage return directly before that is dropped.
 -- The last line needs no line feed: then a carriage return at its end belongs to it.
+-- Source: this project's own.
 use Rattle.std.proofs.Common.{◌≡◌, ◌≢◌, ◌<◌, ◌+◌, ◌-◌, ◌==◌, ℕ, zero, suc, List, [], ◌∷◌, ◌++◌, length, take, drop, get_or, refl, ap, ◌∙◌, append_assoc, length-append, add-zero, arith}
 use Rattle.std.specs.List.{All, AllByRecursion, flat_map, slice_split}
 use Rattle.std.specs.Str.Lines.{lines, lines_of_parts, strip_carriage_return}

@@ -1,4 +1,5 @@
 -- What a comparison answers.
+-- Source: this project's own.
 use Rattle.std.proofs.Common.{◌≡◌, ◌≢◌, true, false, IsTrue, refl, ap, ◌∙◌}
 use Rattle.std.specs.Cmp.{IsTotalOrder}
 use Rattle.std.specs.Ordering.{is_eq, is_lt, ordering_reverse}

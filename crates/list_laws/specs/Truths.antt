@@ -1,4 +1,5 @@
 -- Tests that hold, in the two forms in which facts name them.
+-- Source: this project's own.
 use Rattle.std.proofs.Common.{Bool, true, false, IsTrue, refl, sym, subst}
 use Rattle.std.specs.Prelude.{T, ◌&&◌}
 

@@ -1,4 +1,5 @@
 -- Paths of the unit load path, their texts and their order.
+-- Source (directories and their order): systemd.unit(5), "Unit File Load Path", four of its directories. Limits, faults and the order of paths are this project's own.
 use Rattle.std.specs.Prelude.{ℕ, ◌+◌, ◌==◌, ◌<◌, ◌≡◌, Bool, not, ◌&&◌, ◌||◌, nat_lt, nat_le, nat_eq, if◌then◌else◌, List, [], ◌∷◌, ◌++◌, length, drop, codes, Option, Some, None, unwrap_or, slice_get, Result, Ok, Err, IsTrue}
 use Rattle.std.specs.List.{slice_split, starts_with, list_all}
 use Rattle.std.specs.Option.{option_map_or}

@@ -69,7 +69,7 @@ impl Path {
     /// as `Memory` only where it is a path. Linear in the text.
     pub fn parse(alloc: Global, text: &[u8]) -> Result<Path, PathFault>
         ensures parsed { (result ≡ Err PathFault.Memory) ⊎ (result ≡ path_of text.now) }
-        ensures refused { IsErr (path_of text.now) → result ≡ path_of text.now }
+        ensures faults { IsErr (path_of text.now) → result ≡ path_of text.now }
     {
         let parts = Parts::of(text)?;
         Ok(Path {

@@ -1,4 +1,5 @@
 -- Paths by their parts, and the paths of a folder.
+-- Source: this project's own.
 use Rattle.std.specs.Prelude.{ℕ, Bool, ◌==◌, ◌&&◌, Option, Some, None, List}
 use Rattle.std.specs.Str.{bytes_eq}
 use Rattle.std.specs.Ordering.{nat_cmp, ordering_then}

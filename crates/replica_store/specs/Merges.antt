@@ -1,4 +1,5 @@
 -- What a pass that joins other entries has come to.
+-- Source: this project's own.
 use Rattle.std.specs.Prelude.{◌≡◌, ℕ, Bool, true, IsTrue, Option, Some, None, is_some, List, [], ◌∷◌, ◌++◌, count_by}
 use Rattle.std.specs.Ordering.{is_lt}
 use Rattle.std.specs.FinMap as finmap

@@ -1,4 +1,5 @@
 -- What a replica is: a store, and the number under which its node writes.
+-- Source: Lamport 1978, for a counter that is one above all that were seen; the rest is this project's own.
 use Rattle.std.specs.Prelude.{ℕ, ◌+◌, refl}
 use Rattle.std.specs.Coded.{Coded, code_by, coded×, coded_ℕ}
 use Rattle.std.specs.FinMap as finmap

@@ -18,7 +18,8 @@ pub fn pair_at<'a>(
     name: &[u8],
 ) -> Option<&'a (Path, Entry)>
     requires sorted { IsTrue (is_sorted path_cmp entries.now) }
-    ensures found { option_copied result ≡ paired (path_at rank folder.now name.now) (find path_cmp (path_at rank folder.now name.now) entries.now) }
+    ensures found { option_copied result ≡ paired (path_at rank folder.now name.now)
+        (find path_cmp (path_at rank folder.now name.now) entries.now) }
 {
     match entries.binary_search_by(|pair| place(&pair.0, rank, folder, name)) {
         Ok(at) => Some(&entries[at]),

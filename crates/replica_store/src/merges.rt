@@ -24,7 +24,8 @@ pub fn join_one(
 ) -> Result<(), AllocError>
     requires sorted { IsTrue (is_sorted path_cmp entries.old.items) }
     ensures sorted { IsTrue (is_sorted path_cmp entries.new.items) }
-    ensures ok { OnOk result (map_of entries.new.items ≡ with_edit (map_of entries.old.items) (edit_of (path, entry))) }
+    ensures ok { OnOk result (map_of entries.new.items ≡ with_edit (map_of entries.old.items)
+        (edit_of (path, entry))) }
     ensures err { OnErr result (entries.new.items ≡ entries.old.items) }
     ensures held { IsSome (find path_cmp path entries.old.items) → IsOk result }
 {
@@ -62,7 +63,8 @@ fn rises(rest: &VecDeque<(Path, Entry)>, path: &Path, entry: &Entry) -> bool
 // Drops what is held at a path.
 fn drop_tied(rest: &mut VecDeque<(Path, Entry)>, path: &Path)
     requires next { IsNotBelow path_cmp path.now rest.old.items }
-    ensures made_room { (entry : Entry) → put path_cmp path.now entry rest.old.items ≡ (path.now, entry) ∷ rest.new.items }
+    ensures made_room { (entry : Entry) → put path_cmp path.now entry rest.old.items ≡
+        (path.now, entry) ∷ rest.new.items }
     ensures len { deque_len rest.new ≤ deque_len rest.old }
 {
     let Some(next) = rest.front() else {
@@ -84,7 +86,8 @@ fn place(
     requires room { vec_len passed.old + deque_len rest.old + 1 ≤ vec_capacity passed.old }
     requires below { AreBelow path_cmp path passed.old.items }
     requires next { IsNotBelow path_cmp path rest.old.items }
-    ensures pairs { passed.new.items ++ rest.new.items ≡ put path_cmp path entry (passed.old.items ++ rest.old.items) }
+    ensures pairs { passed.new.items ++ rest.new.items ≡ put path_cmp path entry
+        (passed.old.items ++ rest.old.items) }
     ensures passed { passed.new.items ≡ passed.old.items ++ (path, entry) ∷ [] }
     ensures len { vec_len passed.new + deque_len rest.new ≤ vec_len passed.old + deque_len rest.old + 1 }
     ensures capacity { vec_capacity passed.old ≤ vec_capacity passed.new }
@@ -106,8 +109,10 @@ fn join_copies(
     requires none { passed.old.items ≡ [] }
     requires sorted { IsTrue (is_sorted path_cmp rest.old.items) }
     requires other_sorted { IsTrue (is_sorted path_cmp other.now) }
-    ensures ok { IfOk result (λ changed. Merges rest.old.items other.now passed.new.items rest.new.items [] changed) }
-    ensures err { OnErr result ((left : List Pair) × (changed : ℕ) × Merges rest.old.items other.now passed.new.items rest.new.items left changed) }
+    ensures ok { IfOk result (λ changed. Merges rest.old.items other.now passed.new.items rest.new.items []
+        changed) }
+    ensures err { OnErr result ((left : List Pair) × (changed : ℕ) × Merges rest.old.items other.now
+        passed.new.items rest.new.items left changed) }
     ensures room { vec_len passed.new + deque_len rest.new ≤ vec_capacity passed.new }
 {
     let mut changed = 0;
@@ -171,7 +176,8 @@ fn from_rise<'a>(entries: &[(Path, Entry)], other: &'a [(Path, Entry)]) -> &'a [
     requires sorted { IsTrue (is_sorted path_cmp entries.now) }
     requires other_sorted { IsTrue (is_sorted path_cmp other.now) }
     ensures sorted { IsTrue (is_sorted path_cmp result.now) }
-    ensures whole { join (map_of entries.now) (map_of result.now) ≡ join (map_of entries.now) (map_of other.now) }
+    ensures whole { join (map_of entries.now) (map_of result.now) ≡ join (map_of entries.now)
+        (map_of other.now) }
 {
     let mut left = other;
     while let Some((next, further)) = left.split_first() {

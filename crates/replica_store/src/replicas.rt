@@ -98,11 +98,12 @@ impl Replica {
     /// want of memory alone, and not even that at a path that is held. A refusal changes nothing.
     pub fn put(&mut self, path: Path, content: Content) -> Result<Version, EditFault>
         ensures version { IfOk result (λ version. version ≡ next_version self.old) }
-        ensures joined { OnOk result (self.new ≡ with_put self.old (record { path = path; version = next_version self.old; content = content })) }
+        ensures joined { OnOk result (self.new ≡ with_put self.old (record
+            { path = path; version = next_version self.old; content = content })) }
         ensures spent { IsErrOf result EditFault.VersionsSpent ↔ (high_of self.old.store ≡ u64.MAX) }
         ensures always { IsErrOf result EditFault.Nothing → ⊥ }
         ensures held { IsSome (finmap.get self.old.store path) → IsErrOf result EditFault.Memory → ⊥ }
-        ensures refused { OnErr result (self.new ≡ self.old) }
+        ensures err { OnErr result (self.new ≡ self.old) }
     {
         let Some(counter) = self.store.high().checked_add(1) else {
             return Err(EditFault::VersionsSpent);
@@ -129,11 +130,13 @@ impl Replica {
     /// memory, since the path is held. A refusal changes nothing.
     pub fn remove(&mut self, path: Path) -> Result<Version, EditFault>
         ensures version { IfOk result (λ version. version ≡ next_version self.old) }
-        ensures joined { OnOk result (self.new ≡ with_put self.old (record { path = path; version = next_version self.old; content = Gone })) }
+        ensures joined { OnOk result (self.new ≡ with_put self.old (record
+            { path = path; version = next_version self.old; content = Gone })) }
         ensures nothing { IsErrOf result EditFault.Nothing ↔ (visible_at self.old.store path ≡ None) }
-        ensures spent { IsErrOf result EditFault.VersionsSpent ↔ (IsSome (visible_at self.old.store path) × (high_of self.old.store ≡ u64.MAX)) }
+        ensures spent { IsErrOf result EditFault.VersionsSpent ↔ (IsSome (visible_at self.old.store path)
+            × (high_of self.old.store ≡ u64.MAX)) }
         ensures without_memory { IsErrOf result EditFault.Memory → ⊥ }
-        ensures refused { OnErr result (self.new ≡ self.old) }
+        ensures err { OnErr result (self.new ≡ self.old) }
     {
         if self.store.visible(&path).is_none() {
             return Err(EditFault::Nothing);

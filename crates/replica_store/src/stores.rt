@@ -125,7 +125,8 @@ impl Store {
     /// folder stands for none. O(log n), without memory and without a path being built.
     pub fn visible_at(&self, rank: u8, folder: &[u8], name: &[u8]) -> Option<(&Path, &Content)>
         ensures path { IfSome result (λ found. found.0.now ≡ path_at rank folder.now name.now) }
-        ensures visible { option_map (λ found. found.1.now) result ≡ visible_at self.now (path_at rank folder.now name.now) }
+        ensures visible { option_map (λ found. found.1.now) result ≡ visible_at self.now
+            (path_at rank folder.now name.now) }
     {
         let (path, entry) = pair_at(&self.entries, rank, folder, name)?;
         Some((path, content_shown(entry)?))
@@ -150,7 +151,8 @@ impl Store {
     ///
     /// O(log n) and the paths given.
     pub fn folder(&self, rank: u8, folder: &[u8]) -> Result<Vec<Path>, AllocError>
-        ensures paths { IfOk result (λ paths. paths.items ≡ filter (is_in rank folder.now) (finmap.keys self.now)) }
+        ensures paths { IfOk result (λ paths. paths.items ≡ filter (is_in rank folder.now)
+            (finmap.keys self.now)) }
     {
         paths_of(
             *self.entries.allocator(),

@@ -1,4 +1,5 @@
 -- How answers are written.
+-- Source: this project's own.
 use Rattle.std.specs.Prelude.{ℕ, codes, List, [], ◌++◌, length, Ok, Err}
 use Rattle.std.specs.List.{flat_map}
 use Rattle.std.specs.Fmt.{decimal}

@@ -12,7 +12,7 @@ use std::alloc::{AllocError, Global};
 use std::fmt::Write;
 
 // The code and the name of a refusal.
-fn name_of(refusal: &Refusal) -> &'static [u8]
+fn code_and_name(refusal: &Refusal) -> &'static [u8]
     ensures name { result.now ≡ refusal_name refusal.now }
 {
     match refusal {
@@ -63,7 +63,7 @@ pub fn refused(alloc: Global, refusal: Refusal) -> Result<Vec<u8>, AllocError>
     ensures line { IfOk result (λ line. line.items ≡ error_line refusal) }
 {
     let mut line = Vec::from_slice(alloc, b"error: ")?;
-    line.extend_from_slice(name_of(&refusal))?;
+    line.extend_from_slice(code_and_name(&refusal))?;
     append_values(alloc, &mut line, &refusal)?;
     line.push(b'\n')?;
     Ok(line)
@@ -150,7 +150,7 @@ fn append_entry(
 
 /// All that a store holds, a line for each entry, in path order. Linear in what is written; all
 /// numbers share one piece of memory.
-pub fn files_of(alloc: Global, store: &Store) -> Result<Vec<u8>, AllocError>
+pub fn list_files(alloc: Global, store: &Store) -> Result<Vec<u8>, AllocError>
     ensures lines { IfOk result (λ text. text.items ≡ files_text store.now) }
 {
     let mut out = Vec::new(alloc);

@@ -3,4 +3,4 @@
 
 mod answers;
 
-pub use answers::{files_of, merge_done, part_done, put_done, refused};
+pub use answers::{list_files, merge_done, part_done, put_done, refused};

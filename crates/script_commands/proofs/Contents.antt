@@ -1,16 +1,37 @@
 -- Bytes that make no file.
-use Rattle.std.proofs.Common.{◌≡◌, ℕ, Bool, true, false, cond, List, Result, Ok, Err, refl}
+use Rattle.std.proofs.Common.{◌≡◌, ◌⊎◌, inl, inr, ℕ, Bool, true, false, cond, List, Result, Ok, Err, refl}
 use Rattle.edit_sums.specs.declared.contents.Content.{Content}
 use Rattle.edit_sums.specs.declared.contents.Content.TheVariants.{File}
 use Rattle.edit_sums.specs.declared.contents.ContentFault.{ContentFault}
-use Rattle.edit_sums.specs.declared.contents.ContentFault.TheVariants.{FileTooLarge}
+use Rattle.edit_sums.specs.declared.contents.ContentFault.TheVariants as content
 use Rattle.edit_sums.specs.Contents.{file_of}
 use Rattle.edit_sums.specs.Limits.{is_file}
+use Rattle.script_words.specs.Text.{Spells}
+use Rattle.script_commands.specs.Faults.{fault_of_content}
+use Rattle.script_commands.specs.Files.{IsNoFile, without_memory, too_large}
 
--- bytes that are refused as a file are too many
-pub file_refused : (bytes : List ℕ) (f : ContentFault) → Err f ≡ file_of bytes → is_file bytes ≡ false
-file_refused bytes f e = by (is_file bytes) e
+-- bytes that are refused as too many are too many
+too_many : (bytes : List ℕ) → Err content.FileTooLarge ≡ file_of bytes → is_file bytes ≡ false
+too_many bytes e = by (is_file bytes) e
   where
-    by : (b : Bool) → ◌≡◌ {A = Result Content ContentFault} (Err f) (cond b (Ok (File bytes)) (Err FileTooLarge)) → b ≡ false
+    by : (b : Bool) → ◌≡◌ {A = Result Content ContentFault} (Err content.FileTooLarge) (cond b (Ok (File bytes)) (Err content.FileTooLarge)) → b ≡ false
     by true e = cc (e)
     by false e = refl
+
+-- no bytes are refused as a link
+no_link : (bytes : List ℕ) → Err content.BadLink ≡ file_of bytes → ⊥
+no_link bytes e = by (is_file bytes) e
+  where
+    by : (b : Bool) → ◌≡◌ {A = Result Content ContentFault} (Err content.BadLink) (cond b (Ok (File bytes)) (Err content.FileTooLarge)) → ⊥
+    by true e = cc (e)
+    by false e = cc (e)
+
+abbrev pub IsRefusedAs : List ℕ → ContentFault → Type 0
+IsRefusedAs bytes f = (◌≡◌ {A = Result Content ContentFault} (Err f) (Err content.Memory)) ⊎ (Err f ≡ file_of bytes)
+
+pub file_refused : (text bytes : List ℕ) → Spells text bytes → (f : ContentFault) → IsRefusedAs bytes f → IsNoFile text (fault_of_content f)
+file_refused text bytes spelled content.FileTooLarge (inl e) = cc (e)
+file_refused text bytes spelled content.FileTooLarge (inr e) = too_large bytes spelled (too_many bytes e) refl
+file_refused text bytes spelled content.BadLink (inl e) = cc (e)
+file_refused text bytes spelled content.BadLink (inr e) = absurd (no_link bytes e)
+file_refused text bytes spelled content.Memory e = without_memory refl

@@ -1,4 +1,5 @@
 -- What a line asks for.
+-- Source: this project's own.
 use Rattle.std.specs.Prelude.{ℕ, ◌&&◌, codes, if◌then◌else◌, List, [], ◌∷◌, Option, Some, None, Result, Ok, Err}
 use Rattle.std.specs.Str.{bytes_eq}
 use Rattle.script_words.specs.Words.{words_of, text_after}
@@ -25,67 +26,67 @@ abbrev pub node_with : List ℕ → Option ℕ → Result Command Refusal
 node_with name None = Err Arguments
 node_with name (Some writer) = if is_name name then Ok (Node name writer) else Err Arguments
 
-abbrev pub node_of : List (List ℕ) → Result Command Refusal
-node_of (name ∷ writer ∷ []) = node_with name (number_of writer)
-node_of words = Err Arguments
+abbrev pub node_command : List (List ℕ) → Result Command Refusal
+node_command (name ∷ writer ∷ []) = node_with name (number_of writer)
+node_command words = Err Arguments
 
 -- the text is what follows the path and one space
-abbrev pub put_of : List (List ℕ) → List ℕ → Result Command Refusal
-put_of (node ∷ path ∷ words) text = if is_name node then Ok (Put node path text) else Err Arguments
-put_of words text = Err Arguments
+abbrev pub put_command : List (List ℕ) → List ℕ → Result Command Refusal
+put_command (node ∷ path ∷ words) text = if is_name node then Ok (Put node path text) else Err Arguments
+put_command words text = Err Arguments
 
-abbrev pub link_of : List (List ℕ) → Result Command Refusal
-link_of (node ∷ path ∷ target ∷ []) = if is_name node then Ok (Link node path target) else Err Arguments
-link_of words = Err Arguments
+abbrev pub link_command : List (List ℕ) → Result Command Refusal
+link_command (node ∷ path ∷ target ∷ []) = if is_name node then Ok (Link node path target) else Err Arguments
+link_command words = Err Arguments
 
-abbrev pub remove_of : List (List ℕ) → Result Command Refusal
-remove_of (node ∷ path ∷ []) = if is_name node then Ok (Remove node path) else Err Arguments
-remove_of words = Err Arguments
+abbrev pub remove_command : List (List ℕ) → Result Command Refusal
+remove_command (node ∷ path ∷ []) = if is_name node then Ok (Remove node path) else Err Arguments
+remove_command words = Err Arguments
 
-abbrev pub merge_of : List (List ℕ) → Result Command Refusal
-merge_of (from ∷ to ∷ []) = if is_name from && is_name to then Ok (Merge from to) else Err Arguments
-merge_of words = Err Arguments
+abbrev pub merge_command : List (List ℕ) → Result Command Refusal
+merge_command (from ∷ to ∷ []) = if is_name from && is_name to then Ok (Merge from to) else Err Arguments
+merge_command words = Err Arguments
 
 -- the paths are the words that follow; there may be none
-abbrev pub part_of : List (List ℕ) → Result Command Refusal
-part_of (piece ∷ from ∷ to ∷ paths) = if is_name piece && is_name from && is_name to then Ok (Part piece from to paths) else Err Arguments
-part_of words = Err Arguments
+abbrev pub part_command : List (List ℕ) → Result Command Refusal
+part_command (piece ∷ from ∷ to ∷ paths) = if is_name piece && is_name from && is_name to then Ok (Part piece from to paths) else Err Arguments
+part_command words = Err Arguments
 
-abbrev pub send_of : List (List ℕ) → Result Command Refusal
-send_of (piece ∷ node ∷ []) = if is_name piece && is_name node then Ok (Send piece node) else Err Arguments
-send_of words = Err Arguments
+abbrev pub send_command : List (List ℕ) → Result Command Refusal
+send_command (piece ∷ node ∷ []) = if is_name piece && is_name node then Ok (Send piece node) else Err Arguments
+send_command words = Err Arguments
 
-abbrev pub sweep_of : List (List ℕ) → Result Command Refusal
-sweep_of [] = Ok Sweep
-sweep_of words = Err Arguments
+abbrev pub sweep_command : List (List ℕ) → Result Command Refusal
+sweep_command [] = Ok Sweep
+sweep_command words = Err Arguments
 
-abbrev pub files_of : List (List ℕ) → Result Command Refusal
-files_of (node ∷ []) = if is_name node then Ok (Files node) else Err Arguments
-files_of words = Err Arguments
+abbrev pub files_command : List (List ℕ) → Result Command Refusal
+files_command (node ∷ []) = if is_name node then Ok (Files node) else Err Arguments
+files_command words = Err Arguments
 
-abbrev pub cat_of : List (List ℕ) → Result Command Refusal
-cat_of (node ∷ unit ∷ []) = if is_name node then Ok (Cat node unit) else Err Arguments
-cat_of words = Err Arguments
+abbrev pub cat_command : List (List ℕ) → Result Command Refusal
+cat_command (node ∷ unit ∷ []) = if is_name node then Ok (Cat node unit) else Err Arguments
+cat_command words = Err Arguments
 
-abbrev pub same_of : List (List ℕ) → Result Command Refusal
-same_of (left ∷ right ∷ []) = if is_name left && is_name right then Ok (Same left right) else Err Arguments
-same_of words = Err Arguments
+abbrev pub same_command : List (List ℕ) → Result Command Refusal
+same_command (left ∷ right ∷ []) = if is_name left && is_name right then Ok (Same left right) else Err Arguments
+same_command words = Err Arguments
 
 -- the first word names the command
 abbrev pub command_of_words : List (List ℕ) → List ℕ → Result Command Refusal
 command_of_words [] line = Err UnknownCommand
 command_of_words (verb ∷ words) line =
-    if bytes_eq verb (codes "node") then node_of words
-    else (if bytes_eq verb (codes "put") then put_of words (text_after 3 line)
-    else (if bytes_eq verb (codes "link") then link_of words
-    else (if bytes_eq verb (codes "remove") then remove_of words
-    else (if bytes_eq verb (codes "merge") then merge_of words
-    else (if bytes_eq verb (codes "part") then part_of words
-    else (if bytes_eq verb (codes "send") then send_of words
-    else (if bytes_eq verb (codes "sweep") then sweep_of words
-    else (if bytes_eq verb (codes "files") then files_of words
-    else (if bytes_eq verb (codes "cat") then cat_of words
-    else (if bytes_eq verb (codes "same") then same_of words
+    if bytes_eq verb (codes "node") then node_command words
+    else (if bytes_eq verb (codes "put") then put_command words (text_after 3 line)
+    else (if bytes_eq verb (codes "link") then link_command words
+    else (if bytes_eq verb (codes "remove") then remove_command words
+    else (if bytes_eq verb (codes "merge") then merge_command words
+    else (if bytes_eq verb (codes "part") then part_command words
+    else (if bytes_eq verb (codes "send") then send_command words
+    else (if bytes_eq verb (codes "sweep") then sweep_command words
+    else (if bytes_eq verb (codes "files") then files_command words
+    else (if bytes_eq verb (codes "cat") then cat_command words
+    else (if bytes_eq verb (codes "same") then same_command words
     else Err UnknownCommand))))))))))
 
 -- the command of a line, or why it is none

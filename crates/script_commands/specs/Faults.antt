@@ -1,4 +1,5 @@
 -- Which refusal a fault of a layer below is.
+-- Source: this project's own.
 use Rattle.edit_sums.specs.declared.contents.ContentFault.{ContentFault}
 use Rattle.edit_sums.specs.declared.contents.ContentFault.TheVariants as content
 use Rattle.load_path.specs.declared.paths.PathFault.{PathFault}

@@ -1,4 +1,5 @@
 -- What a command comes to.
+-- Source: this project's own.
 use Rattle.std.specs.Prelude.{ℕ, Bool, true, false, List, ⊤, Result, Ok, Err}
 use Rattle.script_commands.specs.declared.commands.Fault.{Fault}
 use Rattle.script_commands.specs.declared.commands.Fault.TheVariants.{Refused, Memory}

@@ -1,4 +1,5 @@
 -- The paths that words write.
+-- Source: this project's own.
 use Rattle.std.specs.Prelude.{◌≡◌, ◌⊎◌, ℕ, List, [], ◌∷◌, Result, Ok, Err}
 use Rattle.load_path.specs.Paths.{PathParts, path_of}
 use Rattle.load_path.specs.declared.paths.PathFault.{PathFault}

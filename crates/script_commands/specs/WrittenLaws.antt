@@ -20,7 +20,7 @@ use Rattle.script_commands.specs.declared.commands.Command.TheVariants.{Node, Pu
 use Rattle.script_commands.specs.declared.commands.Command.{Command}
 use Rattle.script_commands.specs.declared.commands.Refusal.{Refusal}
 use Rattle.script_commands.specs.declared.commands.Refusal.TheVariants.{Arguments, UnknownCommand}
-use Rattle.script_commands.specs.Commands.{cat_of, command_of, command_of_words, files_of, link_of, merge_of, node_of, node_with, part_of, put_of, remove_of, same_of, send_of, sweep_of}
+use Rattle.script_commands.specs.Commands.{cat_command, command_of, command_of_words, files_command, link_command, merge_command, node_command, node_with, part_command, put_command, remove_command, same_command, send_command, sweep_command}
 
 -- words, with one space between each two
 abbrev pub line_of : List (List ℕ) → List ℕ
@@ -242,19 +242,19 @@ same_is_read_back left right is and =
 
 -- ---- no other words
 
-same_command : (a b : Command) → ◌≡◌ {A = Result Command Refusal} (Ok a) (Ok b) → a ≡ b
-same_command a b e = cc
+one_command : (a b : Command) → ◌≡◌ {A = Result Command Refusal} (Ok a) (Ok b) → a ≡ b
+one_command a b e = cc
 
 never : (refusal : Refusal) (c : Command) → ◌≡◌ {A = Result Command Refusal} (Err refusal) (Ok c) → ⊥
 never refusal c e = cc
 
 -- a command that is read only where a test holds
 read_where : (t : Bool) (command c : Command) → ◌≡◌ {A = Result Command Refusal} (cond t (Ok command) (Err Arguments)) (Ok c) → (t ≡ true) × (command ≡ c)
-read_where true command c e = (refl, same_command command c e)
+read_where true command c e = (refl, one_command command c e)
 read_where false command c e = absurd (never Arguments c e)
 
 module _ (c : Command) (line : List ℕ) where
-  node_read : (words : List (List ℕ)) → node_of words ≡ Ok c → AreWordsOf c (codes "node" ∷ words) line
+  node_read : (words : List (List ℕ)) → node_command words ≡ Ok c → AreWordsOf c (codes "node" ∷ words) line
   node_read [] e = absurd (never Arguments c e)
   node_read (name ∷ []) e = absurd (never Arguments c e)
   node_read (name ∷ number ∷ []) e = by (number_of number) refl e
@@ -266,14 +266,14 @@ module _ (c : Command) (line : List ℕ) where
           subst (λ (d : Command). AreWordsOf d (codes "node" ∷ name ∷ number ∷ []) line) read.1 (number, refl, is, read.0)
   node_read (name ∷ number ∷ word ∷ words) e = absurd (never Arguments c e)
 
-  put_read : (words : List (List ℕ)) → put_of words (text_after 3 line) ≡ Ok c → AreWordsOf c (codes "put" ∷ words) line
+  put_read : (words : List (List ℕ)) → put_command words (text_after 3 line) ≡ Ok c → AreWordsOf c (codes "put" ∷ words) line
   put_read [] e = absurd (never Arguments c e)
   put_read (node ∷ []) e = absurd (never Arguments c e)
   put_read (node ∷ path ∷ rest) e =
       let read = read_where (is_name node) (Put node path (text_after 3 line)) c e in
       subst (λ (d : Command). AreWordsOf d (codes "put" ∷ node ∷ path ∷ rest) line) read.1 (rest, refl, refl, read.0)
 
-  link_read : (words : List (List ℕ)) → link_of words ≡ Ok c → AreWordsOf c (codes "link" ∷ words) line
+  link_read : (words : List (List ℕ)) → link_command words ≡ Ok c → AreWordsOf c (codes "link" ∷ words) line
   link_read [] e = absurd (never Arguments c e)
   link_read (node ∷ []) e = absurd (never Arguments c e)
   link_read (node ∷ path ∷ []) e = absurd (never Arguments c e)
@@ -282,7 +282,7 @@ module _ (c : Command) (line : List ℕ) where
       subst (λ (d : Command). AreWordsOf d (codes "link" ∷ node ∷ path ∷ target ∷ []) line) read.1 (refl, read.0)
   link_read (node ∷ path ∷ target ∷ word ∷ words) e = absurd (never Arguments c e)
 
-  remove_read : (words : List (List ℕ)) → remove_of words ≡ Ok c → AreWordsOf c (codes "remove" ∷ words) line
+  remove_read : (words : List (List ℕ)) → remove_command words ≡ Ok c → AreWordsOf c (codes "remove" ∷ words) line
   remove_read [] e = absurd (never Arguments c e)
   remove_read (node ∷ []) e = absurd (never Arguments c e)
   remove_read (node ∷ path ∷ []) e =
@@ -290,7 +290,7 @@ module _ (c : Command) (line : List ℕ) where
       subst (λ (d : Command). AreWordsOf d (codes "remove" ∷ node ∷ path ∷ []) line) read.1 (refl, read.0)
   remove_read (node ∷ path ∷ word ∷ words) e = absurd (never Arguments c e)
 
-  merge_read : (words : List (List ℕ)) → merge_of words ≡ Ok c → AreWordsOf c (codes "merge" ∷ words) line
+  merge_read : (words : List (List ℕ)) → merge_command words ≡ Ok c → AreWordsOf c (codes "merge" ∷ words) line
   merge_read [] e = absurd (never Arguments c e)
   merge_read (from ∷ []) e = absurd (never Arguments c e)
   merge_read (from ∷ to ∷ []) e =
@@ -299,7 +299,7 @@ module _ (c : Command) (line : List ℕ) where
       subst (λ (d : Command). AreWordsOf d (codes "merge" ∷ from ∷ to ∷ []) line) read.1 (refl, are.0, are.1)
   merge_read (from ∷ to ∷ word ∷ words) e = absurd (never Arguments c e)
 
-  part_read : (words : List (List ℕ)) → part_of words ≡ Ok c → AreWordsOf c (codes "part" ∷ words) line
+  part_read : (words : List (List ℕ)) → part_command words ≡ Ok c → AreWordsOf c (codes "part" ∷ words) line
   part_read [] e = absurd (never Arguments c e)
   part_read (piece ∷ []) e = absurd (never Arguments c e)
   part_read (piece ∷ from ∷ []) e = absurd (never Arguments c e)
@@ -309,7 +309,7 @@ module _ (c : Command) (line : List ℕ) where
       let first = and_parts (is_name piece) (is_name from) are.0 in
       subst (λ (d : Command). AreWordsOf d (codes "part" ∷ piece ∷ from ∷ to ∷ paths) line) read.1 (refl, first.0, first.1, are.1)
 
-  send_read : (words : List (List ℕ)) → send_of words ≡ Ok c → AreWordsOf c (codes "send" ∷ words) line
+  send_read : (words : List (List ℕ)) → send_command words ≡ Ok c → AreWordsOf c (codes "send" ∷ words) line
   send_read [] e = absurd (never Arguments c e)
   send_read (piece ∷ []) e = absurd (never Arguments c e)
   send_read (piece ∷ node ∷ []) e =
@@ -318,18 +318,18 @@ module _ (c : Command) (line : List ℕ) where
       subst (λ (d : Command). AreWordsOf d (codes "send" ∷ piece ∷ node ∷ []) line) read.1 (refl, are.0, are.1)
   send_read (piece ∷ node ∷ word ∷ words) e = absurd (never Arguments c e)
 
-  sweep_read : (words : List (List ℕ)) → sweep_of words ≡ Ok c → AreWordsOf c (codes "sweep" ∷ words) line
-  sweep_read [] e = subst (λ (d : Command). AreWordsOf d (codes "sweep" ∷ []) line) (same_command Sweep c e) refl
+  sweep_read : (words : List (List ℕ)) → sweep_command words ≡ Ok c → AreWordsOf c (codes "sweep" ∷ words) line
+  sweep_read [] e = subst (λ (d : Command). AreWordsOf d (codes "sweep" ∷ []) line) (one_command Sweep c e) refl
   sweep_read (word ∷ words) e = absurd (never Arguments c e)
 
-  files_read : (words : List (List ℕ)) → files_of words ≡ Ok c → AreWordsOf c (codes "files" ∷ words) line
+  files_read : (words : List (List ℕ)) → files_command words ≡ Ok c → AreWordsOf c (codes "files" ∷ words) line
   files_read [] e = absurd (never Arguments c e)
   files_read (node ∷ []) e =
       let read = read_where (is_name node) (Files node) c e in
       subst (λ (d : Command). AreWordsOf d (codes "files" ∷ node ∷ []) line) read.1 (refl, read.0)
   files_read (node ∷ word ∷ words) e = absurd (never Arguments c e)
 
-  cat_read : (words : List (List ℕ)) → cat_of words ≡ Ok c → AreWordsOf c (codes "cat" ∷ words) line
+  cat_read : (words : List (List ℕ)) → cat_command words ≡ Ok c → AreWordsOf c (codes "cat" ∷ words) line
   cat_read [] e = absurd (never Arguments c e)
   cat_read (node ∷ []) e = absurd (never Arguments c e)
   cat_read (node ∷ unit ∷ []) e =
@@ -337,7 +337,7 @@ module _ (c : Command) (line : List ℕ) where
       subst (λ (d : Command). AreWordsOf d (codes "cat" ∷ node ∷ unit ∷ []) line) read.1 (refl, read.0)
   cat_read (node ∷ unit ∷ word ∷ words) e = absurd (never Arguments c e)
 
-  same_read : (words : List (List ℕ)) → same_of words ≡ Ok c → AreWordsOf c (codes "same" ∷ words) line
+  same_read : (words : List (List ℕ)) → same_command words ≡ Ok c → AreWordsOf c (codes "same" ∷ words) line
   same_read [] e = absurd (never Arguments c e)
   same_read (left ∷ []) e = absurd (never Arguments c e)
   same_read (left ∷ right ∷ []) e =
@@ -358,17 +358,17 @@ module _ (c : Command) (line : List ℕ) where
   read_words_of : (words : List (List ℕ)) → command_of_words words line ≡ Ok c → AreWordsOf c words line
   read_words_of [] e = absurd (never UnknownCommand c e)
   read_words_of (verb ∷ words) e =
-      verb_or verb (codes "node") words (node_of words) _ e (node_read words) (λ e0.
-      verb_or verb (codes "put") words (put_of words (text_after 3 line)) _ e0 (put_read words) (λ e1.
-      verb_or verb (codes "link") words (link_of words) _ e1 (link_read words) (λ e2.
-      verb_or verb (codes "remove") words (remove_of words) _ e2 (remove_read words) (λ e3.
-      verb_or verb (codes "merge") words (merge_of words) _ e3 (merge_read words) (λ e4.
-      verb_or verb (codes "part") words (part_of words) _ e4 (part_read words) (λ e5.
-      verb_or verb (codes "send") words (send_of words) _ e5 (send_read words) (λ e6.
-      verb_or verb (codes "sweep") words (sweep_of words) _ e6 (sweep_read words) (λ e7.
-      verb_or verb (codes "files") words (files_of words) _ e7 (files_read words) (λ e8.
-      verb_or verb (codes "cat") words (cat_of words) _ e8 (cat_read words) (λ e9.
-      verb_or verb (codes "same") words (same_of words) _ e9 (same_read words) (λ e10.
+      verb_or verb (codes "node") words (node_command words) _ e (node_read words) (λ e0.
+      verb_or verb (codes "put") words (put_command words (text_after 3 line)) _ e0 (put_read words) (λ e1.
+      verb_or verb (codes "link") words (link_command words) _ e1 (link_read words) (λ e2.
+      verb_or verb (codes "remove") words (remove_command words) _ e2 (remove_read words) (λ e3.
+      verb_or verb (codes "merge") words (merge_command words) _ e3 (merge_read words) (λ e4.
+      verb_or verb (codes "part") words (part_command words) _ e4 (part_read words) (λ e5.
+      verb_or verb (codes "send") words (send_command words) _ e5 (send_read words) (λ e6.
+      verb_or verb (codes "sweep") words (sweep_command words) _ e6 (sweep_read words) (λ e7.
+      verb_or verb (codes "files") words (files_command words) _ e7 (files_read words) (λ e8.
+      verb_or verb (codes "cat") words (cat_command words) _ e8 (cat_read words) (λ e9.
+      verb_or verb (codes "same") words (same_command words) _ e9 (same_read words) (λ e10.
       absurd (never UnknownCommand c e10))))))))))))
 
 -- and these are read
@@ -403,7 +403,7 @@ refused_where true command r e = absurd (done command r e)
 refused_where false command r e = same_refusal r Arguments e
 
 module _ (r : Refusal) (line : List ℕ) where
-  node_refused : (words : List (List ℕ)) → node_of words ≡ Err r → r ≡ Arguments
+  node_refused : (words : List (List ℕ)) → node_command words ≡ Err r → r ≡ Arguments
   node_refused [] e = same_refusal r Arguments e
   node_refused (name ∷ []) e = same_refusal r Arguments e
   node_refused (name ∷ number ∷ []) e = by (number_of number) e
@@ -413,58 +413,58 @@ module _ (r : Refusal) (line : List ℕ) where
       by (Some writer) e = refused_where (is_name name) (Node name writer) r e
   node_refused (name ∷ number ∷ word ∷ words) e = same_refusal r Arguments e
 
-  put_refused : (words : List (List ℕ)) → put_of words (text_after 3 line) ≡ Err r → r ≡ Arguments
+  put_refused : (words : List (List ℕ)) → put_command words (text_after 3 line) ≡ Err r → r ≡ Arguments
   put_refused [] e = same_refusal r Arguments e
   put_refused (node ∷ []) e = same_refusal r Arguments e
   put_refused (node ∷ path ∷ rest) e = refused_where (is_name node) (Put node path (text_after 3 line)) r e
 
-  link_refused : (words : List (List ℕ)) → link_of words ≡ Err r → r ≡ Arguments
+  link_refused : (words : List (List ℕ)) → link_command words ≡ Err r → r ≡ Arguments
   link_refused [] e = same_refusal r Arguments e
   link_refused (node ∷ []) e = same_refusal r Arguments e
   link_refused (node ∷ path ∷ []) e = same_refusal r Arguments e
   link_refused (node ∷ path ∷ target ∷ []) e = refused_where (is_name node) (Link node path target) r e
   link_refused (node ∷ path ∷ target ∷ word ∷ words) e = same_refusal r Arguments e
 
-  remove_refused : (words : List (List ℕ)) → remove_of words ≡ Err r → r ≡ Arguments
+  remove_refused : (words : List (List ℕ)) → remove_command words ≡ Err r → r ≡ Arguments
   remove_refused [] e = same_refusal r Arguments e
   remove_refused (node ∷ []) e = same_refusal r Arguments e
   remove_refused (node ∷ path ∷ []) e = refused_where (is_name node) (Remove node path) r e
   remove_refused (node ∷ path ∷ word ∷ words) e = same_refusal r Arguments e
 
-  merge_refused : (words : List (List ℕ)) → merge_of words ≡ Err r → r ≡ Arguments
+  merge_refused : (words : List (List ℕ)) → merge_command words ≡ Err r → r ≡ Arguments
   merge_refused [] e = same_refusal r Arguments e
   merge_refused (from ∷ []) e = same_refusal r Arguments e
   merge_refused (from ∷ to ∷ []) e = refused_where (is_name from && is_name to) (Merge from to) r e
   merge_refused (from ∷ to ∷ word ∷ words) e = same_refusal r Arguments e
 
-  part_refused : (words : List (List ℕ)) → part_of words ≡ Err r → r ≡ Arguments
+  part_refused : (words : List (List ℕ)) → part_command words ≡ Err r → r ≡ Arguments
   part_refused [] e = same_refusal r Arguments e
   part_refused (piece ∷ []) e = same_refusal r Arguments e
   part_refused (piece ∷ from ∷ []) e = same_refusal r Arguments e
   part_refused (piece ∷ from ∷ to ∷ paths) e = refused_where (is_name piece && is_name from && is_name to) (Part piece from to paths) r e
 
-  send_refused : (words : List (List ℕ)) → send_of words ≡ Err r → r ≡ Arguments
+  send_refused : (words : List (List ℕ)) → send_command words ≡ Err r → r ≡ Arguments
   send_refused [] e = same_refusal r Arguments e
   send_refused (piece ∷ []) e = same_refusal r Arguments e
   send_refused (piece ∷ node ∷ []) e = refused_where (is_name piece && is_name node) (Send piece node) r e
   send_refused (piece ∷ node ∷ word ∷ words) e = same_refusal r Arguments e
 
-  sweep_refused : (words : List (List ℕ)) → sweep_of words ≡ Err r → r ≡ Arguments
+  sweep_refused : (words : List (List ℕ)) → sweep_command words ≡ Err r → r ≡ Arguments
   sweep_refused [] e = absurd (done Sweep r e)
   sweep_refused (word ∷ words) e = same_refusal r Arguments e
 
-  files_refused : (words : List (List ℕ)) → files_of words ≡ Err r → r ≡ Arguments
+  files_refused : (words : List (List ℕ)) → files_command words ≡ Err r → r ≡ Arguments
   files_refused [] e = same_refusal r Arguments e
   files_refused (node ∷ []) e = refused_where (is_name node) (Files node) r e
   files_refused (node ∷ word ∷ words) e = same_refusal r Arguments e
 
-  cat_refused : (words : List (List ℕ)) → cat_of words ≡ Err r → r ≡ Arguments
+  cat_refused : (words : List (List ℕ)) → cat_command words ≡ Err r → r ≡ Arguments
   cat_refused [] e = same_refusal r Arguments e
   cat_refused (node ∷ []) e = same_refusal r Arguments e
   cat_refused (node ∷ unit ∷ []) e = refused_where (is_name node) (Cat node unit) r e
   cat_refused (node ∷ unit ∷ word ∷ words) e = same_refusal r Arguments e
 
-  same_refused : (words : List (List ℕ)) → same_of words ≡ Err r → r ≡ Arguments
+  same_refused : (words : List (List ℕ)) → same_command words ≡ Err r → r ≡ Arguments
   same_refused [] e = same_refusal r Arguments e
   same_refused (left ∷ []) e = same_refusal r Arguments e
   same_refused (left ∷ right ∷ []) e = refused_where (is_name left && is_name right) (Same left right) r e
@@ -493,17 +493,17 @@ module _ (r : Refusal) (line : List ℕ) where
       → (BeginsWithVerb words × (r ≡ Arguments)) ⊎ ((BeginsWithVerb words → ⊥) × (r ≡ UnknownCommand))
   why_refused [] e = inr (λ none. none, same_refusal r UnknownCommand e)
   why_refused (verb ∷ words) e =
-      refused_at verb (codes "node") (codes "put" ∷ codes "link" ∷ codes "remove" ∷ codes "merge" ∷ codes "part" ∷ codes "send" ∷ codes "sweep" ∷ codes "files" ∷ codes "cat" ∷ codes "same" ∷ []) (node_of words) _ e (node_refused words) (λ e0.
-      refused_at verb (codes "put") (codes "link" ∷ codes "remove" ∷ codes "merge" ∷ codes "part" ∷ codes "send" ∷ codes "sweep" ∷ codes "files" ∷ codes "cat" ∷ codes "same" ∷ []) (put_of words (text_after 3 line)) _ e0 (put_refused words) (λ e1.
-      refused_at verb (codes "link") (codes "remove" ∷ codes "merge" ∷ codes "part" ∷ codes "send" ∷ codes "sweep" ∷ codes "files" ∷ codes "cat" ∷ codes "same" ∷ []) (link_of words) _ e1 (link_refused words) (λ e2.
-      refused_at verb (codes "remove") (codes "merge" ∷ codes "part" ∷ codes "send" ∷ codes "sweep" ∷ codes "files" ∷ codes "cat" ∷ codes "same" ∷ []) (remove_of words) _ e2 (remove_refused words) (λ e3.
-      refused_at verb (codes "merge") (codes "part" ∷ codes "send" ∷ codes "sweep" ∷ codes "files" ∷ codes "cat" ∷ codes "same" ∷ []) (merge_of words) _ e3 (merge_refused words) (λ e4.
-      refused_at verb (codes "part") (codes "send" ∷ codes "sweep" ∷ codes "files" ∷ codes "cat" ∷ codes "same" ∷ []) (part_of words) _ e4 (part_refused words) (λ e5.
-      refused_at verb (codes "send") (codes "sweep" ∷ codes "files" ∷ codes "cat" ∷ codes "same" ∷ []) (send_of words) _ e5 (send_refused words) (λ e6.
-      refused_at verb (codes "sweep") (codes "files" ∷ codes "cat" ∷ codes "same" ∷ []) (sweep_of words) _ e6 (sweep_refused words) (λ e7.
-      refused_at verb (codes "files") (codes "cat" ∷ codes "same" ∷ []) (files_of words) _ e7 (files_refused words) (λ e8.
-      refused_at verb (codes "cat") (codes "same" ∷ []) (cat_of words) _ e8 (cat_refused words) (λ e9.
-      refused_at verb (codes "same") ([]) (same_of words) _ e9 (same_refused words) (λ e10.
+      refused_at verb (codes "node") (codes "put" ∷ codes "link" ∷ codes "remove" ∷ codes "merge" ∷ codes "part" ∷ codes "send" ∷ codes "sweep" ∷ codes "files" ∷ codes "cat" ∷ codes "same" ∷ []) (node_command words) _ e (node_refused words) (λ e0.
+      refused_at verb (codes "put") (codes "link" ∷ codes "remove" ∷ codes "merge" ∷ codes "part" ∷ codes "send" ∷ codes "sweep" ∷ codes "files" ∷ codes "cat" ∷ codes "same" ∷ []) (put_command words (text_after 3 line)) _ e0 (put_refused words) (λ e1.
+      refused_at verb (codes "link") (codes "remove" ∷ codes "merge" ∷ codes "part" ∷ codes "send" ∷ codes "sweep" ∷ codes "files" ∷ codes "cat" ∷ codes "same" ∷ []) (link_command words) _ e1 (link_refused words) (λ e2.
+      refused_at verb (codes "remove") (codes "merge" ∷ codes "part" ∷ codes "send" ∷ codes "sweep" ∷ codes "files" ∷ codes "cat" ∷ codes "same" ∷ []) (remove_command words) _ e2 (remove_refused words) (λ e3.
+      refused_at verb (codes "merge") (codes "part" ∷ codes "send" ∷ codes "sweep" ∷ codes "files" ∷ codes "cat" ∷ codes "same" ∷ []) (merge_command words) _ e3 (merge_refused words) (λ e4.
+      refused_at verb (codes "part") (codes "send" ∷ codes "sweep" ∷ codes "files" ∷ codes "cat" ∷ codes "same" ∷ []) (part_command words) _ e4 (part_refused words) (λ e5.
+      refused_at verb (codes "send") (codes "sweep" ∷ codes "files" ∷ codes "cat" ∷ codes "same" ∷ []) (send_command words) _ e5 (send_refused words) (λ e6.
+      refused_at verb (codes "sweep") (codes "files" ∷ codes "cat" ∷ codes "same" ∷ []) (sweep_command words) _ e6 (sweep_refused words) (λ e7.
+      refused_at verb (codes "files") (codes "cat" ∷ codes "same" ∷ []) (files_command words) _ e7 (files_refused words) (λ e8.
+      refused_at verb (codes "cat") (codes "same" ∷ []) (cat_command words) _ e8 (cat_refused words) (λ e9.
+      refused_at verb (codes "same") ([]) (same_command words) _ e9 (same_refused words) (λ e10.
       inr (λ none. none, same_refusal r UnknownCommand e10))))))))))))
 
 pub others_are_refused : OthersAreRefused

@@ -65,7 +65,8 @@ impl<'a> Words<'a> {
 
     /// Takes the first of them, if there is one.
     pub fn take_first(&mut self) -> Option<&'a [u8]>
-        ensures first { MatchOption result ((self.old ≡ []) × (self.new ≡ [])) (λ word. self.old ≡ word.now ∷ self.new) }
+        ensures first { MatchOption result ((self.old ≡ []) × (self.new ≡ []))
+            (λ word. self.old ≡ word.now ∷ self.new) }
     {
         let (word, rest) = cut_word(self.rest)?;
         self.rest = rest;

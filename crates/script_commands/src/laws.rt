@@ -20,5 +20,5 @@ pub fn commands_read_back()
 
     // However many spaces there are, a line is a command just where it has that command's words.
     ensures words { JustItsWordsAreRead }
-    ensures refused { OthersAreRefused }
+    ensures others { OthersAreRefused }
 {}

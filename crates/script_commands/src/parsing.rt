@@ -1,7 +1,7 @@
 //! From a line to a command.
 ghost use Rattle.std.specs.Prelude.{◌≡◌, [], ◌∷◌, MatchOption};
 ghost use Rattle.script_words.specs.Words.{words_of, text_after};
-ghost use Rattle.script_commands.specs.Commands.{command_of, node_of, put_of, link_of, remove_of, merge_of, part_of, send_of, sweep_of, files_of, cat_of, same_of, AreNotOne, AreNotTwo, AreNotThree};
+ghost use Rattle.script_commands.specs.Commands.{command_of, node_command, put_command, link_command, remove_command, merge_command, part_command, send_command, sweep_command, files_command, cat_command, same_command, AreNotOne, AreNotTwo, AreNotThree};
 
 use crate::commands::{Command, Refusal, Word, Words};
 use script_words::{cut_word, is_name, parse_number, text_of_rest};
@@ -53,7 +53,8 @@ fn one_word(line: &[u8]) -> Option<&[u8]>
 
 // The two words of a line that has just these.
 fn two_words(line: &[u8]) -> Option<(&[u8], &[u8])>
-    ensures two { MatchOption result (AreNotTwo (words_of line.now)) (λ two. words_of line.now ≡ two.0.now ∷ two.1.now ∷ []) }
+    ensures two { MatchOption result (AreNotTwo (words_of line.now)) (λ two.
+        words_of line.now ≡ two.0.now ∷ two.1.now ∷ []) }
 {
     let (first, rest) = cut_word(line)?;
     let (second, rest) = cut_word(rest)?;
@@ -65,7 +66,8 @@ fn two_words(line: &[u8]) -> Option<(&[u8], &[u8])>
 
 // The three words of a line that has just these.
 fn three_words(line: &[u8]) -> Option<(&[u8], &[u8], &[u8])>
-    ensures three { MatchOption result (AreNotThree (words_of line.now)) (λ three. words_of line.now ≡ three.0.now ∷ three.1.now ∷ three.2.now ∷ []) }
+    ensures three { MatchOption result (AreNotThree (words_of line.now))
+        (λ three. words_of line.now ≡ three.0.now ∷ three.1.now ∷ three.2.now ∷ []) }
 {
     let (first, rest) = cut_word(line)?;
     let (second, third) = two_words(rest)?;
@@ -73,7 +75,7 @@ fn three_words(line: &[u8]) -> Option<(&[u8], &[u8], &[u8])>
 }
 
 fn node(rest: &[u8]) -> Result<Command<'_>, Refusal>
-    ensures command { result ≡ node_of (words_of rest.now) }
+    ensures command { result ≡ node_command (words_of rest.now) }
 {
     let Some((name, writer)) = two_words(rest) else {
         return Err(Refusal::Arguments);
@@ -88,7 +90,7 @@ fn node(rest: &[u8]) -> Result<Command<'_>, Refusal>
 }
 
 fn put(rest: &[u8]) -> Result<Command<'_>, Refusal>
-    ensures command { result ≡ put_of (words_of rest.now) (text_after 2 rest.now) }
+    ensures command { result ≡ put_command (words_of rest.now) (text_after 2 rest.now) }
 {
     let Some((node, rest)) = cut_word(rest) else {
         return Err(Refusal::Arguments);
@@ -108,7 +110,7 @@ fn put(rest: &[u8]) -> Result<Command<'_>, Refusal>
 }
 
 fn link(rest: &[u8]) -> Result<Command<'_>, Refusal>
-    ensures command { result ≡ link_of (words_of rest.now) }
+    ensures command { result ≡ link_command (words_of rest.now) }
 {
     let Some((node, path, target)) = three_words(rest) else {
         return Err(Refusal::Arguments);
@@ -125,7 +127,7 @@ fn link(rest: &[u8]) -> Result<Command<'_>, Refusal>
 }
 
 fn remove(rest: &[u8]) -> Result<Command<'_>, Refusal>
-    ensures command { result ≡ remove_of (words_of rest.now) }
+    ensures command { result ≡ remove_command (words_of rest.now) }
 {
     let Some((node, path)) = two_words(rest) else {
         return Err(Refusal::Arguments);
@@ -141,7 +143,7 @@ fn remove(rest: &[u8]) -> Result<Command<'_>, Refusal>
 }
 
 fn merge(rest: &[u8]) -> Result<Command<'_>, Refusal>
-    ensures command { result ≡ merge_of (words_of rest.now) }
+    ensures command { result ≡ merge_command (words_of rest.now) }
 {
     let Some((from, to)) = two_words(rest) else {
         return Err(Refusal::Arguments);
@@ -157,7 +159,7 @@ fn merge(rest: &[u8]) -> Result<Command<'_>, Refusal>
 }
 
 fn part(rest: &[u8]) -> Result<Command<'_>, Refusal>
-    ensures command { result ≡ part_of (words_of rest.now) }
+    ensures command { result ≡ part_command (words_of rest.now) }
 {
     let Some((piece, rest)) = cut_word(rest) else {
         return Err(Refusal::Arguments);
@@ -181,7 +183,7 @@ fn part(rest: &[u8]) -> Result<Command<'_>, Refusal>
 }
 
 fn send(rest: &[u8]) -> Result<Command<'_>, Refusal>
-    ensures command { result ≡ send_of (words_of rest.now) }
+    ensures command { result ≡ send_command (words_of rest.now) }
 {
     let Some((piece, node)) = two_words(rest) else {
         return Err(Refusal::Arguments);
@@ -197,7 +199,7 @@ fn send(rest: &[u8]) -> Result<Command<'_>, Refusal>
 }
 
 fn sweep(rest: &[u8]) -> Result<Command<'_>, Refusal>
-    ensures command { result ≡ sweep_of (words_of rest.now) }
+    ensures command { result ≡ sweep_command (words_of rest.now) }
 {
     match cut_word(rest) {
         None => Ok(Command::Sweep),
@@ -206,7 +208,7 @@ fn sweep(rest: &[u8]) -> Result<Command<'_>, Refusal>
 }
 
 fn files(rest: &[u8]) -> Result<Command<'_>, Refusal>
-    ensures command { result ≡ files_of (words_of rest.now) }
+    ensures command { result ≡ files_command (words_of rest.now) }
 {
     let Some(node) = one_word(rest) else {
         return Err(Refusal::Arguments);
@@ -221,7 +223,7 @@ fn files(rest: &[u8]) -> Result<Command<'_>, Refusal>
 }
 
 fn cat(rest: &[u8]) -> Result<Command<'_>, Refusal>
-    ensures command { result ≡ cat_of (words_of rest.now) }
+    ensures command { result ≡ cat_command (words_of rest.now) }
 {
     let Some((node, unit)) = two_words(rest) else {
         return Err(Refusal::Arguments);
@@ -237,7 +239,7 @@ fn cat(rest: &[u8]) -> Result<Command<'_>, Refusal>
 }
 
 fn same(rest: &[u8]) -> Result<Command<'_>, Refusal>
-    ensures command { result ≡ same_of (words_of rest.now) }
+    ensures command { result ≡ same_command (words_of rest.now) }
 {
     let Some((left, right)) = two_words(rest) else {
         return Err(Refusal::Arguments);

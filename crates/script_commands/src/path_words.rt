@@ -23,7 +23,8 @@ pub fn read_path(alloc: Global, text: &[u8]) -> Result<Path, Fault>
 /// The paths that the words of a line write, or the first thing wrong with the first word that writes none. Want of
 /// memory may come in place of any answer.
 pub fn read_paths(alloc: Global, mut texts: Words<'_>) -> Result<Vec<Path>, Fault>
-    ensures read { MatchResult result (λ paths. paths_of texts.entry ≡ Ok paths.items) (IsPathFault (paths_of texts.entry)) }
+    ensures read { MatchResult result (λ paths. paths_of texts.entry ≡ Ok paths.items)
+        (IsPathFault (paths_of texts.entry)) }
 {
     let mut paths = Vec::new(alloc);
     while let Some(text) = texts.take_first() {
@@ -42,7 +43,10 @@ pub fn read_file(alloc: Global, text: &[u8]) -> Result<Content, Fault>
     let Some(bytes) = unescape(alloc, text)? else {
         return Err(Fault::Refused(Refusal::BadText));
     };
-    Ok(Content::file(bytes)?)
+    match Content::file(bytes) {
+        Ok(content) => Ok(content),
+        Err(fault) => Err(Fault::from(fault)),
+    }
 }
 
 /// The link to a target, if links may have it.

@@ -1,4 +1,5 @@
 -- How many calls failed, and whether some of them failed since.
+-- Source: this project's own.
 use Rattle.std.specs.Prelude.{ℕ, ◌+◌, ◌<◌, ◌==◌, nat_lt, if◌then◌else◌, Bool, true, false, Result, Ok, Err}
 
 -- A count goes up by one where the test says so. It stops at the greatest number of 64 bits.

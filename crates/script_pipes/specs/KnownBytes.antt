@@ -1,4 +1,5 @@
 -- What happens to the bytes that a source has left and to those that a sink holds, where they are known.
+-- Source: this project's own.
 use Rattle.std.specs.Prelude.{◌≡◌, ℕ, ◌<◌, List, length, take, Option, Some, None, ⊤}
 use Rattle.std.specs.Io.KnownBytes.{Appends, Consumes}
 

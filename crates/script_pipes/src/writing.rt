@@ -35,7 +35,7 @@ pub fn write_all<K: Sink>(sink: &mut K, bytes: &[u8]) -> Result<(), WriteFault>
     ensures ok { OnOk result (Appends (K.contents sink.old) (K.contents sink.new) bytes.now) }
     ensures unrefused { OnOk result (K.refusals sink.new ≡ K.refusals sink.old) }
     ensures front { OnErr result (AppendsFront (K.contents sink.old) (K.contents sink.new) bytes.now) }
-    ensures refused { OnErr result (FailedSince (K.refusals sink.old) (K.refusals sink.new)) }
+    ensures failed { OnErr result (FailedSince (K.refusals sink.old) (K.refusals sink.new)) }
 {
     let mut rest = bytes;
     while !rest.is_empty() {
@@ -52,7 +52,7 @@ fn write_some<K: Sink>(sink: &mut K, bytes: &[u8]) -> Result<usize, WriteFault>
     ensures ok { IfOk result (λ n. Appends (K.contents sink.old) (K.contents sink.new) (take n bytes.now)) }
     ensures unrefused { OnOk result (K.refusals sink.new ≡ K.refusals sink.old) }
     ensures err { OnErr result (Keeps (K.contents sink.old) (K.contents sink.new)) }
-    ensures refused { OnErr result (K.refusals sink.new ≡ count_with true (K.refusals sink.old)) }
+    ensures failed { OnErr result (K.refusals sink.new ≡ count_with true (K.refusals sink.old)) }
 {
     match sink.write(bytes) {
         Ok(0) | Err(_) => Err(WriteFault),

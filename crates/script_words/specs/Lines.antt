@@ -1,4 +1,5 @@
 -- The lines of a script, and which of them ask for nothing.
+-- Source: this project's own.
 use Rattle.std.specs.Prelude.{ℕ, Bool, ◌||◌, nat_eq, codes, List}
 use Rattle.std.specs.List.{list_all, starts_with}
 use Rattle.std.specs.Str.Lines.{lines}

@@ -1,4 +1,5 @@
 -- The words of a line, and the text that follows some of them.
+-- Source: this project's own.
 use Rattle.std.specs.Prelude.{◌≢◌, ℕ, zero, suc, ◌<◌, ◌==◌, nat_lt, Bool, List, [], ◌∷◌, ◌++◌, length, drop, filter, All}
 use Rattle.std.specs.List.{flat_map, slice_split, prefix_len, position_or_len}
 

@@ -63,13 +63,13 @@ fn read_hex(text: &[u8]) -> Option<(u8, &[u8])>
 {
     let (high, rest) = text.split_first()?;
     let (low, rest) = rest.split_first()?;
-    let high = hex_digit(*high)?;
-    let low = hex_digit(*low)?;
+    let high = digit_value(*high)?;
+    let low = digit_value(*low)?;
     Some((16 * high + low, rest))
 }
 
 /// The value of a hexadecimal digit of either case.
-fn hex_digit(b: u8) -> Option<u8>
+fn digit_value(b: u8) -> Option<u8>
     ensures value { SomeIff result (digit_value b < 16) (digit_value b) }
 {
     match b {

@@ -14,7 +14,7 @@ use Rattle.world_law.specs.Worlds.{puts_of, took, took_by}
 use Rattle.world_law.specs.Took.{world_of}
 use Rattle.world_law.specs.SoundLaws.{IsSound, blank_sound, happens_keeps, puts_first, puts_rest}
 use Rattle.world_law.specs.WorldLaws.{puts_of-Put}
-use Rattle.script_worlds.specs.Worlds.{World, blank, happened, held, merged, merged_all, next_edit, state}
+use Rattle.script_worlds.specs.Worlds.{ScriptWorld, blank, happened, held, merged, merged_all, next_edit, state}
 use Rattle.script_worlds.specs.Lawful.{IsLawful, puts}
 use Rattle.script_worlds.specs.Counts.{IsCountedTo, IsPutUpTo}
 
@@ -28,7 +28,7 @@ sound_after n all (event ∷ history) honest within =
     (sound_after n all history honest (λ e a. within e (puts_rest n event history e a)))
     (λ e a. within e (puts_first n event history e a))
 
-took_was_put : (world : World) → IsLawful world → (k : ℕ) (e : Edit) → IsAmong e (took (state world) k) → IsAmong e (puts world)
+took_was_put : (world : ScriptWorld) → IsLawful world → (k : ℕ) (e : Edit) → IsAmong e (took (state world) k) → IsAmong e (puts world)
 took_was_put world lawful k e a = by (slice_get (state world).nodes k) refl a
   where
     by : (o : Option worlds.Node) → slice_get (state world).nodes k ≡ o → IsAmong e (took_by o) → IsAmong e (puts world)
@@ -36,7 +36,7 @@ took_was_put world lawful k e a = by (slice_get (state world).nodes k) refl a
     by (Some node) at a = ((sound_after (length world.nodes) world.events world.events lawful.honest (λ f b. b)).nodes k node at).puts e a
 
 -- so nothing is held with a greater counter than was put
-pub counted : (n : ℕ) (world : World) → IsLawful world → IsPutUpTo n world → IsCountedTo n world
+pub counted : (n : ℕ) (world : ScriptWorld) → IsLawful world → IsPutUpTo n world → IsCountedTo n world
 counted n world lawful up = record {
   edits = up;
   stores = λ k.
@@ -50,11 +50,11 @@ pub put_blank : IsPutUpTo 0 blank
 put_blank e a = absurd a
 
 -- the same was put
-pub put_same : (n : ℕ) (old new : World) → puts new ≡ puts old → IsPutUpTo n old → IsPutUpTo (suc n) new
+pub put_same : (n : ℕ) (old new : ScriptWorld) → puts new ≡ puts old → IsPutUpTo n old → IsPutUpTo (suc n) new
 put_same n old new same up e a = let most = up e (subst (λ (es : List Edit). IsAmong e es) same a) in omega arith
 
 -- a node put its next edit
-pub put_next : (n : ℕ) (world : World) (i : ℕ) (path : PathParts) (content : Content) → IsLawful world → i < length world.nodes → IsPutUpTo n world
+pub put_next : (n : ℕ) (world : ScriptWorld) (i : ℕ) (path : PathParts) (content : Content) → IsLawful world → i < length world.nodes → IsPutUpTo n world
     → IsPutUpTo (suc n) (happened world (Put i (next_edit world i path content)))
 put_next n world i path content lawful lt up f a = by (subst (λ (es : List Edit). IsAmong f es) (puts_of-Put (length world.nodes) world.events i e lt) a)
   where
@@ -69,6 +69,6 @@ put_next n world i path content lawful lt up f a = by (subst (λ (es : List Edit
     by (inr b) = let most = up f b in omega arith
 
 -- merges put nothing
-pub puts_merged_all : (world : World) (pairs : List (ℕ × ℕ)) → puts (merged_all world pairs) ≡ puts world
+pub puts_merged_all : (world : ScriptWorld) (pairs : List (ℕ × ℕ)) → puts (merged_all world pairs) ≡ puts world
 puts_merged_all world [] = refl
 puts_merged_all world (pair ∷ pairs) = puts_merged_all (merged world pair.0 pair.1) pairs

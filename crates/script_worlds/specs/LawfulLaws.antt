@@ -16,12 +16,12 @@ use Rattle.world_law.specs.Worlds as worlds
 use Rattle.world_law.specs.Worlds.{took, took_by, puts_of, happens, AreWithin, with_new_node}
 use Rattle.world_law.specs.Took.{world_of}
 use Rattle.world_law.specs.WorldLaws.{node_count, took-Put, took-Put_elsewhere, took-Ask, took-Cut, took-Give_elsewhere, took_stays, took-with_new_node, one_node_more, within_more, puts_of-one_more, puts_of-Put, given_is_joined, merge_is_joined}
-use Rattle.script_worlds.specs.Worlds.{World, Member, blank, state, held, happened, with_node, has_writer, writer_at, next_edit, next_ask, next_piece, answered, merged}
+use Rattle.script_worlds.specs.Worlds.{ScriptWorld, Member, blank, state, held, happened, with_node, has_writer, writer_at, next_edit, next_ask, next_piece, answered, merged}
 use Rattle.script_worlds.specs.Lawful.{IsLawful, IsOwn, puts}
 
 -- ---- what nodes hold after an event
 
-module _ (world : World) where
+module _ (world : ScriptWorld) where
   pub held_put : (i : ℕ) (e : Edit) → i < length world.nodes → held (happened world (Put i e)) i ≡ with_edit (held world i) e
   held_put i e lt = ap sum_of (took-Put (state world) i e (omega (arith, node_count (length world.nodes) world.events))) ∙ sum_of-push (took (state world) i) e
 
@@ -48,7 +48,7 @@ module _ (world : World) where
     pub held_merged : (from to : ℕ) → from < length world.nodes → to < length world.nodes → held (merged world from to) to ≡ join (held world to) (held world from)
     held_merged from to lt_from lt_to = merge_is_joined (length world.nodes) world.events lawful.honest from to lt_from lt_to
 
-pub held_merged_elsewhere : (world : World) (from to k : ℕ) → k ≢ to → held (merged world from to) k ≡ held world k
+pub held_merged_elsewhere : (world : ScriptWorld) (from to k : ℕ) → k ≢ to → held (merged world from to) k ≡ held world k
 held_merged_elsewhere world from to k ne = held_given_elsewhere (answered world from to None) (next_piece world) to k ne ∙ held_answered world from to None k
 
 -- ---- lawful worlds
@@ -59,14 +59,14 @@ high_grows xs ys within =
     omega (arith, high_of-sum_of xs, high_of-sum_of ys)
 
 -- an edit that a node owns it owns after any event
-own_stays : (world : World) (event : Event) (e : Edit) → IsOwn world e → IsOwn (happened world event) e
+own_stays : (world : ScriptWorld) (event : Event) (e : Edit) → IsOwn world e → IsOwn (happened world event) e
 own_stays world event e own =
     let grows = high_grows (took (state world) own.node) (took (state (happened world event)) own.node) (λ f a. took_stays (state world) event own.node f a) in
     let counter = own.counter in
     record { node = own.node; within = own.within; writer = own.writer; counter = omega arith }
 
 -- nothing is put
-pub lawful_quiet : (world : World) (event : Event) → IsLawful world → AreWithin (length world.nodes) (event ∷ world.events) → puts (happened world event) ≡ puts world → IsLawful (happened world event)
+pub lawful_quiet : (world : ScriptWorld) (event : Event) → IsLawful world → AreWithin (length world.nodes) (event ∷ world.events) → puts (happened world event) ≡ puts world → IsLawful (happened world event)
 lawful_quiet world event lawful within same = record {
   within = within;
   apart = lawful.apart;
@@ -75,7 +75,7 @@ lawful_quiet world event lawful within same = record {
 }
 
 -- a node puts its next edit
-pub lawful_put : (world : World) (i : ℕ) (path : PathParts) (content : Content) → IsLawful world → i < length world.nodes → IsLawful (happened world (Put i (next_edit world i path content)))
+pub lawful_put : (world : ScriptWorld) (i : ℕ) (path : PathParts) (content : Content) → IsLawful world → i < length world.nodes → IsLawful (happened world (Put i (next_edit world i path content)))
 lawful_put world i path content lawful lt = record {
   within = (lt, lawful.within);
   apart = lawful.apart;
@@ -115,14 +115,14 @@ lawful_put world i path content lawful lt = record {
     honest f g (inr a) (inl b) same = absurd (fresh f a (ap (λ (h : Edit). h.version) b ∙ sym same))
     honest f g (inr a) (inr b) same = lawful.honest f g a b same
 
-pub lawful_answered : (world : World) (from to : ℕ) (paths : Option (List PathParts)) → IsLawful world → from < length world.nodes → to < length world.nodes → IsLawful (answered world from to paths)
+pub lawful_answered : (world : ScriptWorld) (from to : ℕ) (paths : Option (List PathParts)) → IsLawful world → from < length world.nodes → to < length world.nodes → IsLawful (answered world from to paths)
 lawful_answered world from to paths lawful lt_from lt_to =
     lawful_quiet (happened world (Ask to)) (Cut from (next_ask world) paths) (lawful_quiet world (Ask to) lawful (lt_to, lawful.within) refl) (lt_from, (lt_to, lawful.within)) refl
 
-pub lawful_given : (world : World) (p k : ℕ) → IsLawful world → k < length world.nodes → IsLawful (happened world (Give p k))
+pub lawful_given : (world : ScriptWorld) (p k : ℕ) → IsLawful world → k < length world.nodes → IsLawful (happened world (Give p k))
 lawful_given world p k lawful lt = lawful_quiet world (Give p k) lawful (lt, lawful.within) refl
 
-pub lawful_merged : (world : World) (from to : ℕ) → IsLawful world → from < length world.nodes → to < length world.nodes → IsLawful (merged world from to)
+pub lawful_merged : (world : ScriptWorld) (from to : ℕ) → IsLawful world → from < length world.nodes → to < length world.nodes → IsLawful (merged world from to)
 lawful_merged world from to lawful lt_from lt_to = lawful_given (answered world from to None) (next_piece world) to (lawful_answered world from to None lawful lt_from lt_to) lt_to
 
 pub lawful_blank : IsLawful blank
@@ -134,7 +134,7 @@ length_push : {X : Type 0} (xs : List X) (x : X) → length (xs ++ x ∷ []) ≡
 length_push [] x = refl
 length_push (y ∷ xs) x = ap suc (length_push xs x)
 
-module _ (world : World) (name : List ℕ) (writer : ℕ) where
+module _ (world : ScriptWorld) (name : List ℕ) (writer : ℕ) where
   count_is : length (with_node world name writer).nodes ≡ suc (length world.nodes)
   count_is = length_push world.nodes (record { name = name; writer = writer })
 
@@ -142,7 +142,7 @@ module _ (world : World) (name : List ℕ) (writer : ℕ) where
   state_with_node within = ap (λ n. world_of n world.events) count_is ∙ one_node_more (length world.nodes) world.events within
 
   pub held_with_node : AreWithin (length world.nodes) world.events → (k : ℕ) → held (with_node world name writer) k ≡ held world k
-  held_with_node within k = ap (λ (w : worlds.World). sum_of (took w k)) (state_with_node within) ∙ ap sum_of (took-with_new_node (state world) k)
+  held_with_node within k = ap (λ (w : worlds.EventWorld). sum_of (took w k)) (state_with_node within) ∙ ap sum_of (took-with_new_node (state world) k)
 
   pub puts_with_node : AreWithin (length world.nodes) world.events → puts (with_node world name writer) ≡ puts world
   puts_with_node within = ap (λ n. puts_of n world.events) count_is ∙ puts_of-one_more (length world.nodes) world.events within
@@ -166,7 +166,7 @@ not_taken [] writer k free lt same = absurd (omega arith)
 not_taken (n ∷ nodes) writer zero free lt same = true≢false (sym (eq-eqb n.writer writer same) ∙ (or_false (n.writer == writer) (has_writer nodes writer) free).0)
 not_taken (n ∷ nodes) writer (suc k) free lt same = not_taken nodes writer k (or_false (n.writer == writer) (has_writer nodes writer) free).1 (omega arith) same
 
-pub lawful_with_node : (world : World) (name : List ℕ) (writer : ℕ) → IsLawful world → has_writer world.nodes writer ≡ false → IsLawful (with_node world name writer)
+pub lawful_with_node : (world : ScriptWorld) (name : List ℕ) (writer : ℕ) → IsLawful world → has_writer world.nodes writer ≡ false → IsLawful (with_node world name writer)
 lawful_with_node world name writer lawful free = record {
   within = subst (λ n. AreWithin n world.events) (sym (count_is world name writer)) (within_more (length world.nodes) world.events lawful.within);
   apart = λ j k lt_j lt_k same. apart j k (omega (arith, count_is world name writer)) (omega (arith, count_is world name writer)) same;
@@ -213,13 +213,13 @@ abbrev pub BlankIsLawful : Type 0
 BlankIsLawful = IsLawful blank
 
 abbrev pub EditsStayLawful : Type 0
-EditsStayLawful = (world : World) (i : ℕ) (path : PathParts) (content : Content) → IsLawful world → i < length world.nodes → IsLawful (happened world (Put i (next_edit world i path content)))
+EditsStayLawful = (world : ScriptWorld) (i : ℕ) (path : PathParts) (content : Content) → IsLawful world → i < length world.nodes → IsLawful (happened world (Put i (next_edit world i path content)))
 
 abbrev pub AnswersStayLawful : Type 0
-AnswersStayLawful = (world : World) (from to : ℕ) (paths : Option (List PathParts)) → IsLawful world → from < length world.nodes → to < length world.nodes → IsLawful (answered world from to paths)
+AnswersStayLawful = (world : ScriptWorld) (from to : ℕ) (paths : Option (List PathParts)) → IsLawful world → from < length world.nodes → to < length world.nodes → IsLawful (answered world from to paths)
 
 abbrev pub GiftsStayLawful : Type 0
-GiftsStayLawful = (world : World) (p k : ℕ) → IsLawful world → k < length world.nodes → IsLawful (happened world (Give p k))
+GiftsStayLawful = (world : ScriptWorld) (p k : ℕ) → IsLawful world → k < length world.nodes → IsLawful (happened world (Give p k))
 
 abbrev pub NewNodesStayLawful : Type 0
-NewNodesStayLawful = (world : World) (name : List ℕ) (writer : ℕ) → IsLawful world → has_writer world.nodes writer ≡ false → IsLawful (with_node world name writer)
+NewNodesStayLawful = (world : ScriptWorld) (name : List ℕ) (writer : ℕ) → IsLawful world → has_writer world.nodes writer ≡ false → IsLawful (with_node world name writer)

@@ -1,4 +1,5 @@
 -- The world behind a script: its nodes, the events so far, and the pieces that were named.
+-- Source: The events are those of `world_law`; names and writer numbers are this project's own.
 use Rattle.std.specs.Prelude.{ℕ, zero, suc, ◌+◌, ◌-◌, ◌==◌, Bool, if◌then◌else◌, List, [], ◌∷◌, ◌++◌, length, map, position, slice_get, Option, Some, None, unwrap_or}
 use Rattle.std.specs.Option.{option_map}
 use Rattle.std.specs.List.{list_any}
@@ -19,28 +20,28 @@ pub record Member : Type 0 where
   pub writer : ℕ
 
 -- the nodes in the order of their making; what happened, the latest first; and the pieces by name with their numbers, the latest first
-pub record World : Type 0 where
+pub record ScriptWorld : Type 0 where
   pub nodes : List Member
   pub events : List Event
   pub pieces : List (List ℕ × ℕ)
 
-abbrev pub blank : World
+abbrev pub blank : ScriptWorld
 blank = record { nodes = []; events = []; pieces = [] }
 
 -- all that the events have come to: what each node took, and each ask and piece that there ever was
-abbrev pub state : World → worlds.World
+abbrev pub state : ScriptWorld → worlds.EventWorld
 state world = world_of (length world.nodes) world.events
 
 -- what a node holds: the sum of what it took
-abbrev pub held : World → ℕ → EntryMap
+abbrev pub held : ScriptWorld → ℕ → EntryMap
 held world k = sum_of (took (state world) k)
 
 -- one event more
-abbrev pub happened : World → Event → World
+abbrev pub happened : ScriptWorld → Event → ScriptWorld
 happened world event = record world { events = event ∷ world.events }
 
 -- one node more
-abbrev pub with_node : World → List ℕ → ℕ → World
+abbrev pub with_node : ScriptWorld → List ℕ → ℕ → ScriptWorld
 with_node world name writer = record world { nodes = world.nodes ++ record { name = name; writer = writer } ∷ [] }
 
 -- the number of the node of a name
@@ -55,22 +56,22 @@ abbrev pub writer_at : List Member → ℕ → ℕ
 writer_at nodes k = unwrap_or (option_map (λ member. member.writer) (slice_get nodes k)) 0
 
 -- a node's next edit: its version is above all that the node holds
-abbrev pub next_edit : World → ℕ → PathParts → Content → Edit
+abbrev pub next_edit : ScriptWorld → ℕ → PathParts → Content → Edit
 next_edit world k path content = record { path = path; version = record { counter = high_of (held world k) + 1; writer = writer_at world.nodes k }; content = content }
 
 -- the numbers of the next ask and of the next piece
-abbrev pub next_ask : World → ℕ
+abbrev pub next_ask : ScriptWorld → ℕ
 next_ask world = length (state world).asks
 
-abbrev pub next_piece : World → ℕ
+abbrev pub next_piece : ScriptWorld → ℕ
 next_piece world = length (state world).pieces
 
 -- one node asks, and another cuts for that ask
-abbrev pub answered : World → (from to : ℕ) → Option (List PathParts) → World
+abbrev pub answered : ScriptWorld → (from to : ℕ) → Option (List PathParts) → ScriptWorld
 answered world from to paths = happened (happened world (Ask to)) (Cut from (next_ask world) paths)
 
 -- what was cut then is kept under a name
-abbrev pub parted : World → List ℕ → (from to : ℕ) → Option (List PathParts) → World
+abbrev pub parted : ScriptWorld → List ℕ → (from to : ℕ) → Option (List PathParts) → ScriptWorld
 parted world name from to paths = record (answered world from to paths) { pieces = (name, next_piece world) ∷ world.pieces }
 
 -- the number of the latest piece of a name
@@ -79,11 +80,11 @@ piece_named [] name = None
 piece_named (piece ∷ pieces) name = if bytes_eq piece.0 name then Some piece.1 else piece_named pieces name
 
 -- one node is given all that it lacks of another
-abbrev pub merged : World → (from to : ℕ) → World
+abbrev pub merged : ScriptWorld → (from to : ℕ) → ScriptWorld
 merged world from to = happened (answered world from to None) (Give (next_piece world) to)
 
 -- merges one after another, each from one node into another
-abbrev pub merged_all : World → List (ℕ × ℕ) → World
+abbrev pub merged_all : ScriptWorld → List (ℕ × ℕ) → ScriptWorld
 merged_all world [] = world
 merged_all world (pair ∷ pairs) = merged_all (merged world pair.0 pair.1) pairs
 
@@ -93,7 +94,7 @@ numbers_from first zero = []
 numbers_from first (suc count) = first ∷ numbers_from (suc first) count
 
 -- every node is merged into the first, and then the first into every node
-abbrev pub swept : World → World
+abbrev pub swept : ScriptWorld → ScriptWorld
 swept world =
     let others = numbers_from 1 (length world.nodes - 1) in
     merged_all world (map (λ k. (k, 0)) others ++ map (λ k. (0, k)) others)

@@ -12,7 +12,7 @@ use Rattle.section_reader.specs.Parts.{form, spaced, trimmed, has_bytes, header_
 use Rattle.section_reader.specs.Logical.{going_on, joined, joined_lines, lines_behind, trimmed_line, has_text, logical_of, logical_lines}
 use Rattle.section_reader.specs.LogicalLaws.{going_on-blank, going_on-comment, going_on-continued, going_on-whole, joined_lines-blank, joined_lines-comment, joined_lines-continued, joined_lines-whole, lines_behind-blank, lines_behind-comment, lines_behind-continued, lines_behind-whole}
 use Rattle.section_reader.specs.Sections.{note, assigned, unassigned, up_to_bracket, section_items, assignments_in, section_notes, notes_behind, notes_in, assignments_of, notes_of}
-use Rattle.section_reader.specs.FileLaws.{said, kind_of, file_of, ArePlainLines, SameButNumbers, CommentsChangeNumbersAlone, BlankLinesChangeNumbersAlone, FirstBlankLineChangesNumbersAlone, ContinuedLinesAreJoined, physical_lines-file}
+use Rattle.section_reader.specs.FileLaws.{said, kind_of, text_of_lines, ArePlainLines, SameButNumbers, CommentsChangeNumbersAlone, BlankLinesChangeNumbersAlone, FirstBlankLineChangesNumbersAlone, ContinuedLinesAreJoined, physical_lines-file}
 
 abbrev text_of : Line → List ℕ
 text_of line = line.text
@@ -272,7 +272,7 @@ alike_cut n m [] back start end p q r = cut _ _ _ _ _ p q r (spaced-cut start en
 alike_cut n m (t ∷ front) back start end p q r = one _ _ _ _ refl (alike_cut (n + 1) (m + 1) front back start end p q r)
 
 joined_same : (xs ys : List (List ℕ)) → ArePlainLines xs → ArePlainLines ys → map text_of (joined_lines (numbered 1 xs)) ≡ map text_of (joined_lines (numbered 1 ys))
-    → SameButNumbers (file_of xs) (file_of ys)
+    → SameButNumbers (text_of_lines xs) (text_of_lines ys)
 unfolding assignments_of notes_of logical_lines
 joined_same xs ys p q same =
     let logical = both_sides _ _ _ _

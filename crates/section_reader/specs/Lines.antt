@@ -1,4 +1,5 @@
 -- The physical lines of a file, with their numbers.
+-- Source: systemd.syntax(7), "Introduction"; the mark and the carriage return are this project's own.
 use Rattle.std.specs.Prelude.{ℕ, ◌+◌, nat_eq, if◌then◌else◌, List, [], ◌∷◌, drop}
 use Rattle.std.specs.List.{starts_with}
 use Rattle.std.specs.Str.Lines.{lines}

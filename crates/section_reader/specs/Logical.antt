@@ -1,4 +1,5 @@
 -- The logical lines of a file: physical lines, by cases on the first and what follows it.
+-- Source: systemd.syntax(7), "Introduction"; what a blank line, the end of the file and several backslashes do is this project's own.
 use Rattle.std.specs.Prelude.{ℕ, List, [], ◌∷◌, ◌++◌, map, filter, Bool, if◌then◌else◌}
 use Rattle.section_reader.specs.declared.parts.LineForm.TheVariants.{Blank, Comment, Continued, Whole}
 use Rattle.section_reader.specs.Lines.{Line, physical_lines}

@@ -1,4 +1,5 @@
 -- What single lines are: blank, comments, continued, headers, assignments.
+-- Source: systemd.syntax(7), "Introduction"; which bytes are whitespace is this project's own.
 use Rattle.std.specs.Prelude.{ℕ, ◌-◌, ◌==◌, nat_eq, nat_lt, Bool, ◌||◌, ◌&&◌, if◌then◌else◌, codes, Option, Some, None, List, [], ◌∷◌, ◌++◌, length, take, drop}
 use Rattle.std.specs.List.{list_all, starts_with, ends_with, slice_range, prefix_len, suffix_len, position_or_len, before_first, after_first}
 use Rattle.section_reader.specs.declared.parts.LineForm.{LineForm}

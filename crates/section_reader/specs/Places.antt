@@ -1,4 +1,5 @@
 -- What lines still give to a reader that stands at a place of the file, and the words of notes.
+-- Source: this project's own.
 use Rattle.std.specs.Prelude.{ℕ, Some, None, List, [], ◌∷◌, ◌++◌, map}
 use Rattle.std.specs.List.{flat_map}
 use Rattle.section_reader.specs.declared.assignments.Assignment.{Assignment}

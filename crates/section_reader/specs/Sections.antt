@@ -1,4 +1,5 @@
 -- The assignments and notes of a file, by its logical lines.
+-- Source: systemd.syntax(7), "Introduction"; that a file is read on behind a bad header is this project's own.
 use Rattle.std.specs.Prelude.{ℕ, Some, None, if◌then◌else◌, List, [], ◌∷◌, ◌++◌, map}
 use Rattle.std.specs.List.{flat_map}
 use Rattle.section_reader.specs.declared.assignments.Assignment.{Assignment}

@@ -1,4 +1,5 @@
 -- How notes are spelled.
+-- Source: this project's own.
 use Rattle.std.specs.Prelude.{ℕ, List, codes}
 use Rattle.section_reader.specs.declared.assignments.NoteKind.{NoteKind}
 use Rattle.section_reader.specs.declared.assignments.NoteKind.TheVariants.{OutsideSection, NoEquals, BadHeader}

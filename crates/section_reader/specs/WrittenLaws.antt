@@ -7,7 +7,7 @@ use Rattle.section_reader.specs.declared.assignments.Assignment.{Assignment}
 use Rattle.section_reader.specs.Lines.{numbered}
 use Rattle.section_reader.specs.Parts.{is_white}
 use Rattle.section_reader.specs.Logical.{logical_of}
-use Rattle.section_reader.specs.FileLaws.{file_of}
+use Rattle.section_reader.specs.FileLaws.{text_of_lines}
 use Rattle.section_reader.specs.Sections.{assignments_of, notes_of}
 
 -- the first and the last byte, where there is one
@@ -73,7 +73,7 @@ section_lines section = header_line section.name ∷ map pair_line section.pairs
 
 -- the file of these sections
 abbrev pub written : List Section → List ℕ
-written sections = file_of (flat_map section_lines sections)
+written sections = text_of_lines (flat_map section_lines sections)
 
 -- the assignments of a section, the first of which stands at line n
 abbrev pub pairs_from : List ℕ → ℕ → List (List ℕ × List ℕ) → List Assignment

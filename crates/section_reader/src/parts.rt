@@ -93,7 +93,8 @@ pub(crate) fn is_bracketed(text: &[u8]) -> bool
 /// The name in a good header.
 #[tactic(auto, unfolding(crate::specs::Parts::header_name))]
 pub(crate) fn header_name(text: &[u8]) -> Option<&[u8]>
-    ensures name { MatchOption result (header_name text.now ≡ None) (λ name. header_name text.now ≡ Some name.now) }
+    ensures name { MatchOption result (header_name text.now ≡ None) (λ name.
+        header_name text.now ≡ Some name.now) }
 {
     if is_bracketed(text) && text.ends_with(b"]") && text.len() > 2 {
         Some(&text[1..text.len() - 1])

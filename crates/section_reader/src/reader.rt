@@ -123,7 +123,8 @@ impl Reader {
     }
 
     fn note(&mut self, line: usize, kind: NoteKind) -> Result<(), AllocError>
-        ensures notes { OnOk result (self.new.sections.notes ≡ self.old.sections.notes ++ record { line = line; kind = kind } ∷ []) }
+        ensures notes { OnOk result (self.new.sections.notes ≡ self.old.sections.notes ++ record
+            { line = line; kind = kind } ∷ []) }
         ensures items { OnOk result (self.new.sections.items ≡ self.old.sections.items) }
         ensures place { OnOk result (self.new.place ≡ self.old.place) }
     {

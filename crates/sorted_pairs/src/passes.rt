@@ -3,12 +3,15 @@ ghost use Rattle.std.specs.Prelude.{◌≡◌, ◌+◌, ◌<◌, ◌≤◌, ◌+
 ghost use Rattle.std.specs.VecDeque.{deque_len};
 ghost use Rattle.sorted_pairs.specs.Places.{AreBelow, IsNotBelow};
 
-use join_law::Key;
 use std::collections::VecDeque;
 
 /// Passes the pairs whose keys are below the given one. No pair is lost, and none is moved past
 /// another. Linear in the pairs that are passed.
-pub fn pass_below<K: Key, V: Drop>(passed: &mut Vec<(K, V)>, rest: &mut VecDeque<(K, V)>, key: &K)
+pub fn pass_below<K: Ord + Drop, V: Drop>(
+    passed: &mut Vec<(K, V)>,
+    rest: &mut VecDeque<(K, V)>,
+    key: &K,
+)
     requires room { vec_len passed.old + deque_len rest.old ≤ vec_capacity passed.old }
     requires below { AreBelow K.cmp key.now passed.old.items }
     ensures pairs { passed.new.items ++ rest.new.items ≡ passed.old.items ++ rest.old.items }

@@ -3,10 +3,8 @@ ghost use Rattle.std.specs.Prelude.{◌≡◌, ◌≤◌, ◌<◌, length, IsTru
 ghost use Rattle.std.specs.FinMap.{is_sorted};
 ghost use Rattle.sorted_pairs.specs.Places.{IsAt, IsGap};
 
-use join_law::Key;
-
 /// Where a key stands among sorted pairs, or as an error where it would stand. O(log n).
-pub fn seek<K: Key, V>(pairs: &[(K, V)], key: &K) -> Result<usize, usize>
+pub fn seek<K: Ord, V>(pairs: &[(K, V)], key: &K) -> Result<usize, usize>
     requires sorted { IsTrue (is_sorted K.cmp pairs.now) }
     ensures found { IfOk result (IsAt K.cmp key.now pairs.now) }
     ensures absent { IfErr result (IsGap K.cmp key.now pairs.now) }

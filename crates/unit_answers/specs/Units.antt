@@ -1,4 +1,5 @@
 -- The files of a unit, and how they are told.
+-- Source: As `systemctl cat` tells a unit (systemctl(1)); the texts of refusals are this project's own.
 use Rattle.std.specs.Prelude.{◌≡◌, ℕ, nat_eq, codes, if◌then◌else◌, ◌↔◌, Option, Some, None, List, [], ◌∷◌, ◌++◌, map, Ok, Err, MatchResult}
 use Rattle.std.specs.List.{Contains, flat_map, ends_with}
 use Rattle.std.specs.List.Sorted.{IsStrictlySortedBy}

@@ -29,7 +29,8 @@ fn file_at<'a>(store: &'a Store, path: &Path) -> &'a [u8]
 // last of them is none.
 fn append_file(out: &mut Vec<u8>, store: &Store, path: &Path) -> Result<(), AllocError>
     requires file { IsFileAt store.now path.now }
-    ensures appended { OnOk result (out.new.items ≡ out.old.items ++ file_lines path.now (file_bytes (visible_at store.now path.now))) }
+    ensures appended { OnOk result (out.new.items ≡ out.old.items ++ file_lines path.now
+        (file_bytes (visible_at store.now path.now))) }
 {
     let bytes = file_at(store, path);
     out.extend_from_slice(b"# ")?;
@@ -44,7 +45,7 @@ fn append_file(out: &mut Vec<u8>, store: &Store, path: &Path) -> Result<(), Allo
 
 // The files of a unit: its fragment, and then its drop-ins. Linear in what is written, and a
 // search in the store for each file.
-fn cat_of(
+fn files_text(
     alloc: Global,
     store: &Store,
     fragment: &Path,
@@ -76,7 +77,7 @@ fn files_of_unit(
 {
     let names = names_of(alloc, store, unit)?;
     let dropins = order(alloc, store, &names)?;
-    cat_of(alloc, store, fragment, &dropins)
+    files_text(alloc, store, fragment, &dropins)
 }
 
 /// Tells the files of the unit that a word names: its fragment, and then its drop-ins. Refused are a word that is no

@@ -1,4 +1,5 @@
 -- Bytes that are spelled by the bytes of names.
+-- Source: systemd.unit(5), "String Escaping for Inclusion in Unit Names"; systemd-escape(1).
 use Rattle.std.specs.Prelude.{ℕ, ◌+◌, ◌*◌, ◌/◌, ◌%◌, ◌==◌, nat_lt, Bool, ◌&&◌, ◌||◌, if◌then◌else◌, Option, Some, None, List, [], ◌∷◌, ◌++◌}
 use Rattle.std.specs.List.{flat_map}
 use Rattle.std.specs.Char.{is_ascii_alphanumeric, digit_char, digit_value}

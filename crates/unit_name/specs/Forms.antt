@@ -1,4 +1,5 @@
 -- Names that are put together from parts.
+-- Source: systemd.unit(5), "Description"; which bytes an instance may have is this project's own.
 use Rattle.std.specs.Prelude.{ℕ, nat_le, Bool, ◌&&◌, not, if◌then◌else◌, Option, Some, None, List, ◌∷◌, ◌++◌, length}
 use Rattle.std.specs.List.{list_all}
 use Rattle.unit_name.specs.declared.names.Shape.{Shape}

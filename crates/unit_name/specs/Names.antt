@@ -1,4 +1,5 @@
 -- The parts of a unit name, and which bytes are one. A name is its bytes.
+-- Source: systemd.unit(5), "Description"; the order of the faults is this project's own.
 use Rattle.std.specs.Prelude.{ℕ, ◌==◌, nat_lt, Bool, true, false, ◌||◌, not, if◌then◌else◌, IsTrue, Option, Some, None, is_none, Result, Ok, Err, IsOk, is_ok, ◌≡◌, List, [], ◌∷◌, length, codes, position, find}
 use Rattle.std.specs.List.{before_first, after_first, before_last, after_last, list_any}
 use Rattle.std.specs.Char.{is_ascii_alphanumeric}

@@ -1,4 +1,5 @@
 -- Values with the specifiers of a unit's name.
+-- Source: systemd.unit(5), "Specifiers", those of the unit's name; what stays as written is this project's own.
 use Rattle.std.specs.Prelude.{◌≡◌, ℕ, ◌==◌, Bool, if◌then◌else◌, Option, Some, None, IsSome, List, [], ◌∷◌, ◌++◌}
 use Rattle.unit_name.specs.declared.specifiers.ExpandFault.{ExpandFault}
 use Rattle.unit_name.specs.declared.specifiers.ExpandFault.TheVariants.{BadEscape, Memory}

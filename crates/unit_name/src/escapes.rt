@@ -78,7 +78,8 @@ fn hex_digit(digit: u8) -> u8
 /// either case, and other bytes stay. None where a backslash stands otherwise (systemd-escape(1), `--unescape`).
 pub fn unescape(alloc: Global, text: &[u8]) -> Result<Option<Vec<u8>>, AllocError>
     ensures unescaped { IfOk result
-        (λ found. MatchOption found (unescape text.now ≡ None) (λ bytes. unescape text.now ≡ Some bytes.items)) }
+        (λ found. MatchOption found (unescape text.now ≡ None) (λ bytes.
+            unescape text.now ≡ Some bytes.items)) }
 {
     let mut bytes = Vec::new(alloc);
     let is_whole = push_unescaped(&mut bytes, text)?;

@@ -182,7 +182,7 @@ impl UnitName {
 
     /// The same name again.
     pub fn try_clone(&self) -> Result<UnitName, AllocError>
-        ensures same { IfOk result (λ copy. copy ≡ self.now) }
+        ensures copy { IfOk result (λ copy. copy ≡ self.now) }
     {
         Ok(UnitName {
             bytes: self.bytes.try_clone()?,

@@ -112,7 +112,8 @@ fn stands(letter: u8, name: &UnitName) -> bool
 #[tactic(auto, unfolding(crate::specs::Specifiers::specifier))]
 fn push_specifier(out: &mut Vec<u8>, letter: u8, name: &UnitName) -> Result<(), AllocError>
     requires some { IsSome (specifier letter name.now) }
-    ensures pushed { OnOk result (MatchOption (specifier letter name.now) ⊥ (λ bytes. out.new.items ≡ out.old.items ++ bytes)) }
+    ensures pushed { OnOk result (MatchOption (specifier letter name.now) ⊥
+        (λ bytes. out.new.items ≡ out.old.items ++ bytes)) }
 {
     match letter {
         b'n' => out.extend_from_slice(name.bytes())?,
@@ -132,7 +133,8 @@ fn push_specifier(out: &mut Vec<u8>, letter: u8, name: &UnitName) -> Result<(), 
 // Adds the bytes that a text spells.
 fn push_spelled(out: &mut Vec<u8>, text: &[u8]) -> Result<(), AllocError>
     requires some { IsSome (unescape text.now) }
-    ensures pushed { OnOk result (MatchOption (unescape text.now) ⊥ (λ bytes. out.new.items ≡ out.old.items ++ bytes)) }
+    ensures pushed { OnOk result (MatchOption (unescape text.now) ⊥ (λ bytes.
+        out.new.items ≡ out.old.items ++ bytes)) }
 {
     push_unescaped(out, text)?;
     Ok(())

@@ -22,7 +22,11 @@ pub fn version_of(word: &[u8]) -> Result<Version, CallFault> {
 
 // The content of a lawful file or link.
 fn made(content: Result<Content, ContentFault>) -> Result<Content, CallFault> {
-    content.map_err(|_| CallFault::Line)
+    match content {
+        Ok(content) => Ok(content),
+        Err(ContentFault::Memory) => Err(CallFault::Memory),
+        Err(ContentFault::FileTooLarge | ContentFault::BadLink) => Err(CallFault::Line),
+    }
 }
 
 /// The path and the content that a word writes.

@@ -1,8 +1,8 @@
 //! Calls on paths of the load path, written in full, and on byte strings.
 use crate::calls::{CallFault, Words, append_path, append_text};
 use crate::orders::{append_signs, same_word};
-use join_law::Key;
 use byte_strings::Bytes;
+use join_law::Key;
 use load_path::{Path, PathFault};
 use std::alloc::{AllocError, Global};
 

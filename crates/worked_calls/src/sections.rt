@@ -2,8 +2,8 @@
 //!
 //! An assignment is told as `LINE:SECTION.KEY=VALUE`, and a note as `LINE:` and its words.
 use crate::calls::{CallFault, Words, append_text};
-use crate::orders::{append_signs, same_word};
-use section_reader::{Assignment, SectionName, Sections, Text, read};
+use crate::orders::same_word;
+use section_reader::{Assignment, Sections, read};
 use std::alloc::{AllocError, Global};
 
 /// What a call on sections answers.
@@ -14,8 +14,6 @@ pub fn answer(alloc: Global, words: &mut Words) -> Result<Vec<u8>, CallFault> {
         b"long" => long(alloc, words),
         b"clone" => clone(alloc, words),
         b"compare" => compare(alloc, words),
-        b"text_order" => text_order(alloc, words),
-        b"name_order" => name_order(alloc, words),
         _ => Err(CallFault::Line),
     }
 }
@@ -148,29 +146,5 @@ fn compare(alloc: Global, words: &mut Words) -> Result<Vec<u8>, CallFault> {
     let y = read_next(alloc, words)?;
     let mut out = Vec::new(alloc);
     append_verdict(&mut out, x == y, x.items == y.items, x.notes == y.notes)?;
-    Ok(out)
-}
-
-// How texts are ordered, each being a clone.
-fn text_order(alloc: Global, words: &mut Words) -> Result<Vec<u8>, CallFault> {
-    let mut texts = Vec::new(alloc);
-    for _ in 0..words.count() {
-        let text = Text::from_slice(alloc, &words.text()?)?;
-        texts.push(text.try_clone()?)?;
-    }
-    let mut out = Vec::new(alloc);
-    append_signs(&mut out, &texts)?;
-    Ok(out)
-}
-
-// How names of sections are ordered, each being a clone.
-fn name_order(alloc: Global, words: &mut Words) -> Result<Vec<u8>, CallFault> {
-    let mut names = Vec::new(alloc);
-    for _ in 0..words.count() {
-        let name = SectionName::from_slice(alloc, &words.text()?)?;
-        names.push(name.try_clone()?)?;
-    }
-    let mut out = Vec::new(alloc);
-    append_signs(&mut out, &names)?;
     Ok(out)
 }

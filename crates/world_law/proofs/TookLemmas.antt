@@ -16,7 +16,7 @@ use Rattle.world_law.specs.Cuts.{is_asked, at_paths, cut}
 use Rattle.edit_sums.specs.GreatestLaws.{get-sum_of, greatest_at-above, greatest_at-found, IsAmong_from_filter}
 use Rattle.world_law.specs.declared.events.Event.{Event}
 use Rattle.world_law.specs.declared.events.Event.TheVariants.{Put, Ask, Cut, Give}
-use Rattle.world_law.specs.Worlds.{Node, Asked, Piece, World, taken, changed_at, asked_by, cut_for, edits_with, given_to, after, blank, took, took_by}
+use Rattle.world_law.specs.Worlds.{Node, Asked, Piece, EventWorld, taken, changed_at, asked_by, cut_for, edits_with, given_to, after, blank, took, took_by}
 use Rattle.world_law.specs.WorldLaws.{node_count, piece_stays, took_stays, slice_get_last}
 use Rattle.world_law.specs.Took.{world_of, WasCut, IsAskOf, Took, IsSumOf, HoldsTheSum, TookAsTold}
 use Rattle.world_law.specs.Took.Took.{put, entry, whole, stays}
@@ -72,20 +72,20 @@ shorter (x ∷ later) event earlier = let h : length earlier < length (later ++ 
 
 -- the nodes stay as many, and pieces stay
 
-asked_nodes : (w : World) (i : ℕ) (o : Option Node) → (asked_by w i o).nodes ≡ w.nodes
+asked_nodes : (w : EventWorld) (i : ℕ) (o : Option Node) → (asked_by w i o).nodes ≡ w.nodes
 asked_nodes w i None = refl
 asked_nodes w i (Some n) = refl
 
-cut_nodes : (w : World) (paths : Option (List PathParts)) (o : Option Node) (q : Option Asked) → (cut_for w paths o q).nodes ≡ w.nodes
+cut_nodes : (w : EventWorld) (paths : Option (List PathParts)) (o : Option Node) (q : Option Asked) → (cut_for w paths o q).nodes ≡ w.nodes
 cut_nodes w paths None q = refl
 cut_nodes w paths (Some n) None = refl
 cut_nodes w paths (Some n) (Some a) = refl
 
-asked_pieces : (w : World) (i : ℕ) (o : Option Node) → (asked_by w i o).pieces ≡ w.pieces
+asked_pieces : (w : EventWorld) (i : ℕ) (o : Option Node) → (asked_by w i o).pieces ≡ w.pieces
 asked_pieces w i None = refl
 asked_pieces w i (Some n) = refl
 
-given_pieces : (w : World) (k : ℕ) (o : Option Piece) → (given_to w k o).pieces ≡ w.pieces
+given_pieces : (w : EventWorld) (k : ℕ) (o : Option Piece) → (given_to w k o).pieces ≡ w.pieces
 given_pieces w k None = refl
 given_pieces w k (Some p) = refl
 
@@ -245,7 +245,7 @@ module _ (n : ℕ) where
 
   pub took_as_told : (events : List Event) → TookAsTold n events
   took_as_told events k e =
-      subst (λ (w : World). IsAmong e (took w k) ↔ Took n (reverse events) k e) (sym (after_is events)) (took_is (reverse events) k e)
+      subst (λ (w : EventWorld). IsAmong e (took w k) ↔ Took n (reverse events) k e) (sym (after_is events)) (took_is (reverse events) k e)
 
   IfSome_at : (o : Option Node) (P : Node → Type 0) (node : Node) → o ≡ Some node → IfSome o P → P node
   IfSome_at o P node is h = let Q : Option Node → Type 0 = λ x. IfSome x P in subst Q is h

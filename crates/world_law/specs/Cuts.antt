@@ -1,4 +1,5 @@
 -- Asks, and what is cut for them.
+-- Source: Digests and deltas, after Almeida, Shoker, Baquero 2018; which entries a cut has is this project's own.
 use Rattle.std.specs.Prelude.{Bool, true, ◌&&◌, Option, Some, None, List, map, filter}
 use Rattle.std.specs.List.{list_any}
 use Rattle.std.specs.Ordering.{eq_by_cmp, is_gt}

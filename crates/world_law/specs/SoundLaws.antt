@@ -21,7 +21,7 @@ use Rattle.world_law.specs.CutLaws.{get-cut, get-digest_of, get_from_cut, greate
 use Rattle.edit_sums.specs.SumLaws.{same_store, sum_of-append, sum_of-edits_of, join-left}
 use Rattle.world_law.specs.declared.events.Event.{Event}
 use Rattle.world_law.specs.declared.events.Event.TheVariants.{Put, Ask, Cut, Give}
-use Rattle.world_law.specs.Worlds.{Node, Asked, Piece, World, taken, changed_at, asked_by, cut_for, edits_with, given_to, happens, after, blank, puts_of}
+use Rattle.world_law.specs.Worlds.{Node, Asked, Piece, EventWorld, taken, changed_at, asked_by, cut_for, edits_with, given_to, happens, after, blank, puts_of}
 
 -- lists
 
@@ -111,7 +111,7 @@ module _ (count : ℕ) (IsPut : Edit → Type 0) where
   abbrev pub IsCovered : Piece → Node → Type 0
   IsCovered p n = (q : PathParts) → IsBelow (greatest_at q p.had) (larger (finmap.get p.entries q) (finmap.get n.store q))
 
-  pub record IsSound (w : World) : Type 0 where
+  pub record IsSound (w : EventWorld) : Type 0 where
     pub length_is : length w.nodes ≡ count
     pub nodes : (k : ℕ) (n : Node) → slice_get w.nodes k ≡ Some n → IsNodeSound n
     pub asks : (i : ℕ) (a : Asked) (n : Node) → slice_get w.asks i ≡ Some a → slice_get w.nodes a.node ≡ Some n → IsAskBelow a n
@@ -140,7 +140,7 @@ module _ (count : ℕ) (IsPut : Edit → Type 0) where
       )
 
   -- a node takes what keeps its store the sum
-  takes_keeps : (w : World) (i : ℕ) (s : EntryMap) (es : List Edit) → IsSound w → ((n : Node) → slice_get w.nodes i ≡ Some n → (join n.store s ≡ sum_of (n.took ++ es)) × ((e : Edit) → IsAmong e es → IsPut e)) → IsSound (record w { nodes = changed_at i (taken s es) w.nodes })
+  takes_keeps : (w : EventWorld) (i : ℕ) (s : EntryMap) (es : List Edit) → IsSound w → ((n : Node) → slice_get w.nodes i ≡ Some n → (join n.store s ≡ sum_of (n.took ++ es)) × ((e : Edit) → IsAmong e es → IsPut e)) → IsSound (record w { nodes = changed_at i (taken s es) w.nodes })
   takes_keeps w i s es sound good = record {
     length_is = length-changed_at i (taken s es) w.nodes ∙ sound.length_is;
     nodes = λ k m h.
@@ -161,7 +161,7 @@ module _ (count : ℕ) (IsPut : Edit → Type 0) where
   }
 
   -- what was put at one node
-  put_keeps : (w : World) (i : ℕ) (e : Edit) → IsSound w → (nat_lt i count ≡ true → IsPut e) → IsSound (happens w (Put i e))
+  put_keeps : (w : EventWorld) (i : ℕ) (e : Edit) → IsSound w → (nat_lt i count ≡ true → IsPut e) → IsSound (happens w (Put i e))
   put_keeps w i e sound good =
       takes_keeps w i (sum_of (e ∷ [])) (e ∷ []) sound
       (λ n h. (
@@ -169,7 +169,7 @@ module _ (count : ℕ) (IsPut : Edit → Type 0) where
         λ f a. elim a [ inl same ↦ subst IsPut same (good (in_range w.nodes i count n sound.length_is h)) | inr none ↦ absurd none ],
       ))
 
-  ask_keeps : (w : World) (i : ℕ) → IsSound w → IsSound (happens w (Ask i))
+  ask_keeps : (w : EventWorld) (i : ℕ) → IsSound w → IsSound (happens w (Ask i))
   ask_keeps w i sound =
       elim (slice_get w.nodes i) as (λ o. slice_get w.nodes i ≡ o → IsSound (asked_by w i o)) [
         | None ↦ λ _. sound
@@ -243,7 +243,7 @@ module _ (count : ℕ) (IsPut : Edit → Type 0) where
       had_put = λ e h. sound.puts e (IsAmong_from_filter (λ f. is_asked f.path paths) e n.took h);
     }
 
-    cut_keeps : (w : World) (j a : ℕ) (paths : Option (List PathParts)) → IsSound w → IsSound (cut_for w paths (slice_get w.nodes j) (slice_get w.asks a))
+    cut_keeps : (w : EventWorld) (j a : ℕ) (paths : Option (List PathParts)) → IsSound w → IsSound (cut_for w paths (slice_get w.nodes j) (slice_get w.asks a))
     cut_keeps w j a paths sound =
         elim (slice_get w.nodes j) as (λ o. slice_get w.nodes j ≡ o → IsSound (cut_for w paths o (slice_get w.asks a))) [
           | None ↦ λ _. sound
@@ -294,7 +294,7 @@ module _ (count : ℕ) (IsPut : Edit → Type 0) where
         ap (λ s. join (sum_of n.took) s) (sym (sum_of-edits_of p.entries) ∙ ap sum_of (sym (append-nil (edits_of p.entries)))) ∙
         sym (sum_of-append n.took (edits_of p.entries ++ []))
 
-    give_keeps : (w : World) (p k : ℕ) → IsSound w → IsSound (happens w (Give p k))
+    give_keeps : (w : EventWorld) (p k : ℕ) → IsSound w → IsSound (happens w (Give p k))
     give_keeps w p k sound =
         elim (slice_get w.pieces p) as (λ o. slice_get w.pieces p ≡ o → IsSound (given_to w k o)) [
           | None ↦ λ _. sound
@@ -311,13 +311,13 @@ module _ (count : ℕ) (IsPut : Edit → Type 0) where
               ))
         ] refl
 
-    pub happens_keeps : (w : World) (event : Event) → IsSound w → ((e : Edit) → IsAmong e (puts_of count (event ∷ [])) → IsPut e) → IsSound (happens w event)
+    pub happens_keeps : (w : EventWorld) (event : Event) → IsSound w → ((e : Edit) → IsAmong e (puts_of count (event ∷ [])) → IsPut e) → IsSound (happens w event)
     happens_keeps w (Put i e) sound puts = put_keeps w i e sound (λ real. puts e (subst (λ (b : Bool). IsAmong e (cond b (e ∷ []) [])) (sym real) (inl refl)))
     happens_keeps w (Ask i) sound puts = ask_keeps w i sound
     happens_keeps w (Cut j a paths) sound puts = cut_keeps w j a paths sound
     happens_keeps w (Give p k) sound puts = give_keeps w p k sound
 
-    pub after_keeps : (events : List Event) (w : World) → IsSound w → ((e : Edit) → IsAmong e (puts_of count events) → IsPut e) → IsSound (after events w)
+    pub after_keeps : (events : List Event) (w : EventWorld) → IsSound w → ((e : Edit) → IsAmong e (puts_of count events) → IsPut e) → IsSound (after events w)
     after_keeps [] w sound puts = sound
     after_keeps (event ∷ events) w sound puts =
         after_keeps events (happens w event)

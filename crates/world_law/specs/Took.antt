@@ -1,4 +1,5 @@
 -- What a node took, told from the events alone.
+-- Source (causal history): Shapiro, Preguica, Baquero, Zawirski 2011.
 use Rattle.std.specs.Prelude.{◌≡◌, ℕ, ◌<◌, true, Option, Some, List, [], ◌∷◌, ◌++◌, ◌↔◌, length, reverse, slice_get, IsSome, IfSome}
 use Rattle.std.specs.FinMap as finmap
 use Rattle.list_laws.specs.Members.{IsAmong}
@@ -10,10 +11,10 @@ use Rattle.edit_sums.specs.Sums.{EntryMap, IsHonest, edits_of, edit_of, entry_of
 use Rattle.world_law.specs.Cuts.{is_asked}
 use Rattle.world_law.specs.declared.events.Event.{Event}
 use Rattle.world_law.specs.declared.events.Event.TheVariants.{Put, Cut, Give}
-use Rattle.world_law.specs.Worlds.{World, Asked, Piece, happens, after, blank, puts_of, took}
+use Rattle.world_law.specs.Worlds.{EventWorld, Asked, Piece, happens, after, blank, puts_of, took}
 
 -- a world of so many nodes after a history: its events, the newest first
-abbrev pub world_of : ℕ → List Event → World
+abbrev pub world_of : ℕ → List Event → EventWorld
 world_of n [] = blank n
 world_of n (e ∷ es) = happens (world_of n es) e
 
@@ -26,7 +27,7 @@ pub record WasCut (n : ℕ) (history : List Event) (p : ℕ) (earlier : List Eve
   pub for_ask : IsSome (slice_get (world_of n earlier).asks a)
 
 -- the a-th ask is of node k
-abbrev pub IsAskOf : World → ℕ → ℕ → Type 0
+abbrev pub IsAskOf : EventWorld → ℕ → ℕ → Type 0
 IsAskOf w a k = (ask : Asked) × (slice_get w.asks a ≡ Some ask) × (ask.node ≡ k)
 
 -- after this history node k took e

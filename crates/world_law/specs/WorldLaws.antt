@@ -14,7 +14,7 @@ use Rattle.world_law.specs.CutLaws.{whole_answer}
 use Rattle.world_law.specs.declared.events.Event.{Event}
 use Rattle.world_law.specs.declared.events.Event.TheVariants.{Put, Ask, Cut, Give}
 use Rattle.world_law.specs.Cuts.{digest_of, cut, at_paths}
-use Rattle.world_law.specs.Worlds.{Node, Asked, Piece, World, taken, changed_at, asked_by, cut_for, edits_with, given_to, happens, puts_of, took, took_by, AreWithin, with_new_node}
+use Rattle.world_law.specs.Worlds.{Node, Asked, Piece, EventWorld, taken, changed_at, asked_by, cut_for, edits_with, given_to, happens, puts_of, took, took_by, AreWithin, with_new_node}
 use Rattle.world_law.specs.Took.{world_of}
 use Rattle.world_law.specs.SoundLaws.{IsSound, blank_sound, happens_keeps, puts_first, puts_rest}
 
@@ -80,11 +80,11 @@ pub one_node_more : (n : ℕ) (history : List Event) → AreWithin n history →
 one_node_more n [] h = λ i. record { nodes = replicate-push n (record { store = finmap.empty; took = [] }) i; asks = []; pieces = [] }
 one_node_more n (Put i e ∷ es) h =
     let w = world_of n es in
-    ap (λ (v : World). happens v (Put i e)) (one_node_more n es h.1)
+    ap (λ (v : EventWorld). happens v (Put i e)) (one_node_more n es h.1)
     ∙ (λ j. record { nodes = changed_at-push i (taken (sum_of (e ∷ [])) (e ∷ [])) w.nodes (record { store = finmap.empty; took = [] }) (omega (arith, node_count n es, h.0)) j; asks = w.asks; pieces = w.pieces })
 one_node_more n (Ask i ∷ es) h =
     let w = world_of n es in
-    ap (λ (v : World). happens v (Ask i)) (one_node_more n es h.1)
+    ap (λ (v : EventWorld). happens v (Ask i)) (one_node_more n es h.1)
     ∙ ap (asked_by (with_new_node w) i) (within_push w.nodes _ i (omega (arith, node_count n es, h.0)))
     ∙ by (slice_get w.nodes i)
   where
@@ -93,7 +93,7 @@ one_node_more n (Ask i ∷ es) h =
     by (Some node) = refl
 one_node_more n (Cut j a paths ∷ es) h =
     let w = world_of n es in
-    ap (λ (v : World). happens v (Cut j a paths)) (one_node_more n es h.1)
+    ap (λ (v : EventWorld). happens v (Cut j a paths)) (one_node_more n es h.1)
     ∙ ap (λ (o : Option Node). cut_for (with_new_node w) paths o (slice_get w.asks a)) (within_push w.nodes _ j (omega (arith, node_count n es, h.0)))
     ∙ by (slice_get w.nodes j) (slice_get w.asks a)
   where
@@ -102,7 +102,7 @@ one_node_more n (Cut j a paths ∷ es) h =
     by (Some node) None = refl
     by (Some node) (Some ask) = refl
 one_node_more n (Give p k ∷ es) h =
-    ap (λ (v : World). happens v (Give p k)) (one_node_more n es h.1) ∙ by (node_count n es) (slice_get (world_of n es).pieces p)
+    ap (λ (v : EventWorld). happens v (Give p k)) (one_node_more n es h.1) ∙ by (node_count n es) (slice_get (world_of n es).pieces p)
   where
     by : length (world_of n es).nodes ≡ n → (o : Option Piece) → given_to (with_new_node (world_of n es)) k o ≡ with_new_node (given_to (world_of n es) k o)
     by count None = refl
@@ -148,7 +148,7 @@ module _ (s : EntryMap) (xs : List Edit) where
   took_elsewhere (suc i) zero (n ∷ ns) ne = refl
   took_elsewhere (suc i) (suc k) (n ∷ ns) ne = took_elsewhere i k ns (λ e. ne (ap suc e))
 
-module _ (w : World) where
+module _ (w : EventWorld) where
   pub took-Put : (i : ℕ) (e : Edit) → i < length w.nodes → took (happens w (Put i e)) i ≡ took w i ++ e ∷ []
   took-Put i e lt = took_here (sum_of (e ∷ [])) (e ∷ []) i w.nodes lt
 
@@ -199,7 +199,7 @@ push_keeps (z ∷ xs) y zero x h = h
 push_keeps (z ∷ xs) y (suc i) x h = push_keeps xs y i x h
 
 -- a piece stays whatever happens
-pub piece_stays : (w : World) (event : Event) (p : ℕ) (piece : Piece) → slice_get w.pieces p ≡ Some piece → slice_get (happens w event).pieces p ≡ Some piece
+pub piece_stays : (w : EventWorld) (event : Event) (p : ℕ) (piece : Piece) → slice_get w.pieces p ≡ Some piece → slice_get (happens w event).pieces p ≡ Some piece
 piece_stays w (Put i e) p piece h = h
 piece_stays w (Ask i) p piece h = by (slice_get w.nodes i)
   where
@@ -226,7 +226,7 @@ taken_stays (suc i) zero s xs (n ∷ ns) e h = h
 taken_stays (suc i) (suc k) s xs (n ∷ ns) e h = taken_stays i k s xs ns e h
 
 -- what a node took it has taken whatever happens
-pub took_stays : (w : World) (event : Event) (k : ℕ) (e : Edit) → IsAmong e (took w k) → IsAmong e (took (happens w event) k)
+pub took_stays : (w : EventWorld) (event : Event) (k : ℕ) (e : Edit) → IsAmong e (took w k) → IsAmong e (took (happens w event) k)
 took_stays w (Put i f) k e h = taken_stays i k (sum_of (f ∷ [])) (f ∷ []) w.nodes e h
 took_stays w (Ask i) k e h = subst (λ (es : List Edit). IsAmong e es) (sym (took-Ask w i k)) h
 took_stays w (Cut j a paths) k e h = subst (λ (es : List Edit). IsAmong e es) (sym (took-Cut w j a paths k)) h
@@ -237,7 +237,7 @@ took_stays w (Give p i) k e h = by (slice_get w.pieces p)
     by (Some piece) = taken_stays i k piece.entries (edits_with piece i) w.nodes e h
 
 -- a node more took nothing
-pub took-with_new_node : (w : World) (k : ℕ) → took (with_new_node w) k ≡ took w k
+pub took-with_new_node : (w : EventWorld) (k : ℕ) → took (with_new_node w) k ≡ took w k
 took-with_new_node w k = by w.nodes k
   where
     by : (ns : List Node) (i : ℕ) → took_by (slice_get (ns ++ record { store = finmap.empty; took = [] } ∷ []) i) ≡ took_by (slice_get ns i)
@@ -284,7 +284,7 @@ held_was_put n history honest k node at e a =
     sound.puts e ((sum_of-IsSum node.took).found e.path (entry_of e) (sym (ap (λ (s : EntryMap). finmap.get s e.path) sound.is_sum) ∙ get_from_edits_of e node.store a))
 
 module _ (n : ℕ) (history : List Event) (honest : IsHonest (puts_of n history)) (j k : ℕ) (from : j < n) (to : k < n) where
-  abbrev pub w : World
+  abbrev pub w : EventWorld
   w = world_of n history
 
   abbrev pub a : ℕ
@@ -297,12 +297,12 @@ module _ (n : ℕ) (history : List Event) (honest : IsHonest (puts_of n history)
       let there = node_at n history j from in
       let here = node_at n history k to in
       let ask : Asked = record { node = k; versions = digest_of here.0.store } in
-      let asked : World = record w { asks = w.asks ++ ask ∷ [] } in
+      let asked : EventWorld = record w { asks = w.asks ++ ask ∷ [] } in
       let piece : Piece = record { entries = cut there.0.store ask.versions paths; asker = k; had = at_paths paths there.0.took } in
       let after_cut : happens (happens w (Ask k)) (Cut j a paths) ≡ record asked { pieces = w.pieces ++ piece ∷ [] } =
-      ap (λ (v : World). happens v (Cut j a paths)) (asked_is w k here.0 here.1) ∙ cut_is asked j a paths there.0 ask there.1 (slice_get_last w.asks ask) in (
+      ap (λ (v : EventWorld). happens v (Cut j a paths)) (asked_is w k here.0 here.1) ∙ cut_is asked j a paths there.0 ask there.1 (slice_get_last w.asks ask) in (
         piece,
-        ap (λ (v : World). slice_get v.pieces (length w.pieces)) after_cut ∙ slice_get_last w.pieces piece,
+        ap (λ (v : EventWorld). slice_get v.pieces (length w.pieces)) after_cut ∙ slice_get_last w.pieces piece,
         λ i. cut (stores_are_sums n history honest j there.0 there.1 i) (digest_of (stores_are_sums n history honest k here.0 here.1 i)) paths,
       )
 

@@ -1,4 +1,5 @@
 -- Worlds of nodes that put, ask, cut and give.
+-- Source (causal history, and strong eventual consistency): Shapiro, Preguica, Baquero, Zawirski 2011; asks and pieces after Almeida, Shoker, Baquero 2018.
 use Rattle.std.specs.Prelude.{◌≡◌, ◌<◌, ℕ, zero, suc, if◌then◌else◌, ◌==◌, nat_lt, Option, Some, None, IfSome, List, [], ◌∷◌, ◌++◌, slice_get, replicate}
 use Rattle.std.specs.FinMap as finmap
 use Rattle.list_laws.specs.Members.{IsAmong}
@@ -26,7 +27,7 @@ pub record Piece : Type 0 where
   pub had : List Edit
 
 -- every node, every ask and every piece that there ever was
-pub record World : Type 0 where
+pub record EventWorld : Type 0 where
   pub nodes : List Node
   pub asks : List Asked
   pub pieces : List Piece
@@ -41,11 +42,11 @@ changed_at i f [] = []
 changed_at zero f (n ∷ ns) = f n ∷ ns
 changed_at (suc i) f (n ∷ ns) = n ∷ changed_at i f ns
 
-abbrev pub asked_by : World → ℕ → Option Node → World
+abbrev pub asked_by : EventWorld → ℕ → Option Node → EventWorld
 asked_by w i None = w
 asked_by w i (Some n) = record w { asks = w.asks ++ record { node = i; versions = digest_of n.store } ∷ [] }
 
-abbrev pub cut_for : World → Option (List PathParts) → Option Node → Option Asked → World
+abbrev pub cut_for : EventWorld → Option (List PathParts) → Option Node → Option Asked → EventWorld
 cut_for w paths None ask = w
 cut_for w paths (Some n) None = w
 cut_for w paths (Some n) (Some ask) =
@@ -55,24 +56,24 @@ cut_for w paths (Some n) (Some ask) =
 abbrev pub edits_with : Piece → ℕ → List Edit
 edits_with p k = edits_of p.entries ++ (if p.asker == k then p.had else [])
 
-abbrev pub given_to : World → ℕ → Option Piece → World
+abbrev pub given_to : EventWorld → ℕ → Option Piece → EventWorld
 given_to w k None = w
 given_to w k (Some p) = record w { nodes = changed_at k (taken p.entries (edits_with p k)) w.nodes }
 
 -- what an event does. One that names what does not exist does nothing
-abbrev pub happens : World → Event → World
+abbrev pub happens : EventWorld → Event → EventWorld
 happens w (Put i e) = record w { nodes = changed_at i (taken (sum_of (e ∷ [])) (e ∷ [])) w.nodes }
 happens w (Ask i) = asked_by w i (slice_get w.nodes i)
 happens w (Cut j a paths) = cut_for w paths (slice_get w.nodes j) (slice_get w.asks a)
 happens w (Give p k) = given_to w k (slice_get w.pieces p)
 
 -- the world after these events
-abbrev pub after : List Event → World → World
+abbrev pub after : List Event → EventWorld → EventWorld
 after [] w = w
 after (e ∷ es) w = after es (happens w e)
 
 -- so many nodes, with nothing in them
-abbrev pub blank : ℕ → World
+abbrev pub blank : ℕ → EventWorld
 blank n = record { nodes = replicate n (record { store = finmap.empty; took = [] }); asks = []; pieces = [] }
 
 -- the edits that are put in a world of so many nodes
@@ -105,7 +106,7 @@ abbrev pub took_by : Option Node → List Edit
 took_by None = []
 took_by (Some n) = n.took
 
-abbrev pub took : World → ℕ → List Edit
+abbrev pub took : EventWorld → ℕ → List Edit
 took w k = took_by (slice_get w.nodes k)
 
 -- all these events name nodes below n alone
@@ -117,5 +118,5 @@ AreWithin n (Cut j a paths ∷ es) = (j < n) × AreWithin n es
 AreWithin n (Give p k ∷ es) = (k < n) × AreWithin n es
 
 -- the world with one node more, with nothing in it
-abbrev pub with_new_node : World → World
+abbrev pub with_new_node : EventWorld → EventWorld
 with_new_node w = record w { nodes = w.nodes ++ record { store = finmap.empty; took = [] } ∷ [] }

@@ -19,7 +19,8 @@ pub fn converges()
 
 /// Where no version stands for two edits, a whole answer to one's own ask has all that one lacks.
 pub fn whole_answers()
-    ensures whole { (s t : EntryMap) → IsHonest (edits_of s ++ edits_of t) → join s (cut t (digest_of s) None) ≡ join s t }
+    ensures whole { (s t : EntryMap) → IsHonest (edits_of s ++ edits_of t) →
+        join s (cut t (digest_of s) None) ≡ join s t }
 {}
 
 /// What a node took is told in two ways, and both say the same: as a list that grows with each

@@ -35,19 +35,6 @@ impl Read for Slow<'_> {
     }
 }
 
-/// Gives as many letters as there is room for, at each read.
-#[derive(Drop)]
-pub struct Endless;
-
-impl Read for Endless {
-    fn read(&mut self, buf: &mut [u8]) -> io::Result<usize> {
-        for b in buf.iter_mut() {
-            *b = b'x';
-        }
-        Ok(buf.len())
-    }
-}
-
 /// Takes some bytes a write, and from some write on it fails or takes none.
 #[derive(Drop)]
 pub struct Narrow {
@@ -77,11 +64,12 @@ impl Write for Narrow {
     }
 }
 
-/// Keeps the last line of standard error, and refuses what is no line.
+/// Keeps the last line of standard error if it hears, and else refuses it.
 #[derive(Drop)]
 pub struct Noted<'a> {
     pub line: &'a Cell<Option<String>>,
     pub alloc: Global,
+    pub hears: bool,
 }
 
 impl Alloc for Noted<'_> {
@@ -98,21 +86,10 @@ impl Eprint for Noted<'_> {
     }
 
     fn eprintln<D: Display + Drop>(&self, value: D) -> io::Result<()> {
+        if !self.hears {
+            return Err(Error::from(ErrorKind::Other));
+        }
         self.line.set(Some(format!(in self.alloc; "{value}\n")?));
         Ok(())
-    }
-}
-
-/// Refuses what is said on standard error.
-#[derive(Drop)]
-pub struct Deaf;
-
-impl Eprint for Deaf {
-    fn eprint<D: Display + Drop>(&self, _value: D) -> io::Result<()> {
-        Err(Error::from(ErrorKind::Other))
-    }
-
-    fn eprintln<D: Display + Drop>(&self, _value: D) -> io::Result<()> {
-        Err(Error::from(ErrorKind::Other))
     }
 }

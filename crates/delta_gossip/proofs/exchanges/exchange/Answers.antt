@@ -1,38 +1,53 @@
+use Rattle.std.proofs.Common.{◌≡◌, ◌∙◌, ap, refl, sym, subst}
 use Rattle.edit_sums.specs.Sums.{join}
-use Rattle.edit_sums.specs.SumLaws.{store_below_refl, join-left}
+use Rattle.replica_store.specs.Replicas.{Replicated}
+use Rattle.edit_sums.specs.SumLaws.{store_below_refl, join-left, join-right}
+use Rattle.delta_gossip.specs.Exchanges.{AreBeingJoined}
 use Rattle.delta_gossip.proofs.Joins.{on_err, join_again, joined_within, joined_again}
-use Rattle.edit_sums.specs.SumLaws.{join-right}
 use Rattle.delta_gossip.proofs.exchanges.exchange.Goals as goal
 
-pub returns-in_err-first-clause-second_kept : goal.returns-in_err-first-clause-second_kept
-returns-in_err-first-clause-second_kept c = on_err _ (store_below_refl c.args.b.now.store)
+pub returns-in_err-first-clause-err : goal.returns-in_err-first-clause-err
+returns-in_err-first-clause-err c =
+    on_err {P = AreBeingJoined c.args.a.now c.args.b.now c.merge.new.self c.args.b.now} _
+    (record {
+      first = record {
+          writer = c.in_err-first.ensures.writer;
+          kept = c.in_err-first.ensures.kept;
+          within = rw c.store.ensures.store at c.in_err-first.ensures.within;
+      };
+      second = record {
+          writer = refl;
+          kept = store_below_refl c.args.b.now.store;
+          within = join-right c.args.a.now.store c.args.b.now.store;
+      };
+      again = rw c.store.ensures.store at c.in_err-first.ensures.again;
+    })
 
-pub returns-in_err-first-clause-second_within : goal.returns-in_err-first-clause-second_within
-returns-in_err-first-clause-second_within c = on_err _ (join-right c.args.a.now.store c.args.b.now.store)
+pub returns-in_err-second-clause-err : goal.returns-in_err-second-clause-err
+returns-in_err-second-clause-err c =
+    on_err {P = AreBeingJoined c.args.a.now c.args.b.now c.merge.new.self c.merge-2.new.self} _
+    (record {
+      first = record {
+          writer = ap (λ (r : Replicated). r.writer) c.in_ok-first.ensures.ok;
+          kept = rw (c.in_ok-first.ensures.ok, c.store.ensures.store) (join-left c.args.a.now.store c.args.b.now.store);
+          within = rw (c.in_ok-first.ensures.ok, c.store.ensures.store) (store_below_refl (join c.args.a.now.store c.args.b.now.store));
+      };
+      second = record {
+          writer = c.in_err-second.ensures.writer;
+          kept = c.in_err-second.ensures.kept;
+          within =
+              joined_within c.args.a.now c.args.b.now c.merge.new.self c.merge-2.new.self c.store.result.now c.store-2.result.now
+              c.store.ensures.store c.in_ok-first.ensures.ok c.store-2.ensures.store c.in_err-second.ensures.within;
+      };
+      again =
+          joined_again c.args.a.now c.args.b.now c.merge.new.self c.merge-2.new.self c.store.result.now c.store-2.result.now
+          c.store.ensures.store c.in_ok-first.ensures.ok c.store-2.ensures.store c.in_err-second.ensures.kept c.in_err-second.ensures.within;
+    })
 
-pub returns-in_err-second-clause-first_kept : goal.returns-in_err-second-clause-first_kept
-returns-in_err-second-clause-first_kept c =
-    rw (c.in_ok-first.ensures.ok, c.store.ensures.store) (on_err _ (join-left c.args.a.now.store c.args.b.now.store))
-
-pub returns-in_err-second-clause-first_within : goal.returns-in_err-second-clause-first_within
-returns-in_err-second-clause-first_within c =
-    rw (c.in_ok-first.ensures.ok, c.store.ensures.store) (on_err _ (store_below_refl (join c.args.a.now.store c.args.b.now.store)))
-
-pub returns-in_err-second-clause-second_within : goal.returns-in_err-second-clause-second_within
-returns-in_err-second-clause-second_within c =
-    on_err _
-    (joined_within c.args.a.now c.args.b.now c.merge.new.self c.merge-2.new.self c.store.result.now c.store-2.result.now
-    c.store.ensures.store c.in_ok-first.ensures.ok c.store-2.ensures.store c.in_err-second.ensures.within)
-
-pub returns-clause-second : goal.returns-clause-second
-returns-clause-second c =
-    rw (c.in_ok-second.ensures.ok, c.store-2.ensures.store, c.in_ok-first.ensures.ok, c.store.ensures.store, join_again c.args.a.now.store c.args.b.now.store)
-
-pub returns-in_err-first-clause-again : goal.returns-in_err-first-clause-again
-returns-in_err-first-clause-again c = on_err _ (rw c.store.ensures.store at c.in_err-first.ensures.again)
-
-pub returns-in_err-second-clause-again : goal.returns-in_err-second-clause-again
-returns-in_err-second-clause-again c =
-    on_err _
-    (joined_again c.args.a.now c.args.b.now c.merge.new.self c.merge-2.new.self c.store.result.now c.store-2.result.now
-    c.store.ensures.store c.in_ok-first.ensures.ok c.store-2.ensures.store c.in_err-second.ensures.kept c.in_err-second.ensures.within)
+pub returns-clause-ok : goal.returns-clause-ok
+returns-clause-ok c = record {
+  first = rw (c.in_ok-first.ensures.ok, c.store.ensures.store) refl;
+  second = rw (c.in_ok-second.ensures.ok, c.store-2.ensures.store, c.in_ok-first.ensures.ok, c.store.ensures.store, join_again c.args.a.now.store c.args.b.now.store) refl;
+  first_changed = c.in_ok-first.ensures.changed;
+  second_changed = c.in_ok-second.ensures.changed;
+}

@@ -3,8 +3,8 @@ use Rattle.std.specs.List.{Contains}
 use Rattle.std.specs.List.Sorted.{IsStrictlySortedBy}
 use Rattle.std.proofs.lemmas.Result.{IfOk-weaker}
 use Rattle.unit_name.specs.Names.{Name, is_name, name_cmp}
-use Rattle.dropins.specs.declared.takes.Candidate.TheVariants.{At}
-use Rattle.dropins.specs.declared.takes.Search.TheVariants.{Links}
+use Rattle.dropins.specs.declared.precedence.Candidate.TheVariants.{At}
+use Rattle.dropins.specs.declared.precedence.Search.TheVariants.{Links}
 use Rattle.dropins.specs.Taken.{dirs_with, file_name, IsLinked, IsTaken}
 use Rattle.dropins.proofs.Rises.{linked, names_rising}
 use Rattle.dropins.proofs.link_names.links.Goals as goal

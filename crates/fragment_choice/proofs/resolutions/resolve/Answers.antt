@@ -4,7 +4,7 @@ use Rattle.fragment_choice.proofs.Steps.{asked, ended_here, unasked, stands}
 use Rattle.fragment_choice.proofs.resolutions.resolve.Goals as goal
 
 pub loop-step-init : goal.loop-step-init
-loop-step-init c = ap (follow c.args.store.now 9 c.args.name.now) c.in_ok-main.ensures.same
+loop-step-init c = ap (follow c.args.store.now 9 c.args.name.now) c.in_ok-main.ensures.copy
 
 pub returns-in_default : goal.returns-in_default
 returns-in_default c =
@@ -17,5 +17,5 @@ loop-step-preserved c = asked c.args.store.now c.args.name.now c.loop-step.main 
 
 pub returns : goal.returns
 returns c =
-    let found = unasked c.args.store.now c.args.name.now c.loop-step.main _ (9 - c.loop-step.step) _ (omega arith) c.in_ok-try_clone.ensures.same c.loop-step.invariant in
+    let found = unasked c.args.store.now c.args.name.now c.loop-step.main _ (9 - c.loop-step.step) _ (omega arith) c.in_ok-try_clone.ensures.copy c.loop-step.invariant in
     record { resolution = found; chain = (stands c.args.store.now c.args.name.now _ found).chain; no_alias = tt }

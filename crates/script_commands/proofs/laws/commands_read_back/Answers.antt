@@ -16,5 +16,5 @@ returns c = record {
   cat = cat_is_read_back;
   same = same_is_read_back;
   words = just_its_words_are_read;
-  refused = others_are_refused;
+  others = others_are_refused;
 }

@@ -7,14 +7,14 @@ use Rattle.unit_answers.specs.Units.{cat_text}
 use Rattle.unit_answers.specs.Units.{IsCat}
 use Rattle.unit_answers.proofs.files.files_of_unit.Goals as goal
 
-pub cat_of-requires-clause-files : goal.cat_of-requires-clause-files
-cat_of-requires-clause-files c = λ p h. (drop_ins_are_files c.args.store.now c.deref.result.now p ((c.in_ok-dropins.ensures.exact p).0 (subst (λ ps. Contains ps p) c.deref-2.ensures.value h))).1
+pub files_text-requires-clause-files : goal.files_text-requires-clause-files
+files_text-requires-clause-files c = λ p h. (drop_ins_are_files c.args.store.now c.deref.result.now p ((c.in_ok-dropins.ensures.exact p).0 (subst (λ ps. Contains ps p) c.deref-2.ensures.value h))).1
 
 pub returns : goal.returns
 returns c =
     let s = c.args.store.now in
     record {
-      files = IfOk-weaker c.cat_of.result (λ text. text.items ≡ cat_text s (c.args.fragment.now ∷ c.deref-2.result.now)) (λ text. IsCat s c.args.unit.now c.args.fragment.now text.items)
+      files = IfOk-weaker c.files_text.result (λ text. text.items ≡ cat_text s (c.args.fragment.now ∷ c.deref-2.result.now)) (λ text. IsCat s c.args.unit.now c.args.fragment.now text.items)
           (λ text e. record {
             names = c.deref.result.now;
             names_are = subst (AreNames s c.args.unit.now) (sym c.deref.ensures.value) c.in_ok-names.ensures.names;
@@ -23,5 +23,5 @@ returns c =
             exact = c.in_ok-dropins.ensures.exact;
             text_is = e ∙ ap (λ ps. cat_text s (c.args.fragment.now ∷ ps)) c.deref-2.ensures.value;
           })
-          c.cat_of.ensures.lines;
+          c.files_text.ensures.lines;
     }

@@ -21,8 +21,8 @@ from_entries-requires-in-Err c =
     let is : c.split_off.new.self.items ≡ finmap.entries c.self.inside.store = ap (λ v. v.items) c.in-Err.ensures.err ∙ c.into_entries-front.ensures.entries in
     record { sorted = rw is (entries_rise c.self.inside.store) }
 
-pub returns-in-Err-clause-refused : goal.returns-in-Err-clause-refused
-returns-in-Err-clause-refused c =
+pub returns-in-Err-clause-rest : goal.returns-in-Err-clause-rest
+returns-in-Err-clause-rest c =
     let is : c.split_off.new.self.items ≡ finmap.entries c.self.inside.store = ap (λ v. v.items) c.in-Err.ensures.err ∙ c.into_entries-front.ensures.entries in
     c.from_store-in-Err.ensures.store ∙ same_entries_map _ _ (c.from_entries-in-Err.ensures.entries ∙ is) ∙ c.self.view_is
 

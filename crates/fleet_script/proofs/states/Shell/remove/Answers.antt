@@ -13,7 +13,7 @@ returns-in-Err c =
     let at = slice_get_at nodes c.in_ok-at.at c.index_mut.result.now c.in_ok-at.ensures.within c.index_mut.ensures.value in
     record {
       done = subst (λ (ns : List Replicated). Goes shell (record shell { nodes = ns }) (λ old outcome new. Removes old outcome new c.args.node.now c.args.path.now) (Err c.from.result))
-          (sym (set_again nodes c.in_ok-at.at c.index_mut.result.now c.remove.new.self c.index_mut.ensures.value c.in-Err.ensures.refused))
+          (sym (set_again nodes c.in_ok-at.at c.index_mut.result.now c.remove.new.self c.index_mut.ensures.value c.in-Err.ensures.err))
           (with_node shell shell (Err c.from.result) c.args.node.now c.in_ok-at.at _ c.in_ok-at.ensures.found
           (with_path shell shell (Err c.from.result) c.args.path.now c.in_ok-path.path _ c.in_ok-path.ensures.read
           (remove_refused shell c.in_ok-at.at c.index_mut.result.now c.in_ok-path.path at c.in-Err.fault c.from.result (λ e. c.in-Err.ensures.nothing.0 e) (λ e. c.in-Err.ensures.spent.0 e) c.from.ensures)));

@@ -14,7 +14,7 @@ returns-in-Err c =
     let shell = kept_in c.args.self.now in
     record {
       done = subst (λ (ns : List Replicated). Goes shell (record shell { nodes = ns }) (λ old outcome new. Writes old outcome new c.args.at c.args.path c.args.content) (Err c.from.result))
-          (sym (set_again nodes c.args.at c.index_mut.result.now c.put.new.self c.index_mut.ensures.value c.in-Err.ensures.refused))
+          (sym (set_again nodes c.args.at c.index_mut.result.now c.put.new.self c.index_mut.ensures.value c.in-Err.ensures.err))
           (write_refused shell c.args.at c.index_mut.result.now c.args.path c.args.content at c.in-Err.fault c.from.result c.in-Err.ensures.always (λ e. c.in-Err.ensures.spent.0 e) c.from.ensures);
     }
 

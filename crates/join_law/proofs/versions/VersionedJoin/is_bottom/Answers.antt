@@ -1,9 +1,9 @@
 use Rattle.std.proofs.Common.{subst}
 use Rattle.join_law.specs.Order.{IsLeast}
 use Rattle.join_law.specs.VersionOrder.{IsUpTo}
-use Rattle.join_law.specs.VersionOrderLaws.{not_least}
+use Rattle.join_law.specs.VersionedLaws.{not_least}
 use Rattle.join_law.proofs.versions.VersionedJoin.is_bottom.Goals as goal
 
 pub returns-in-At-clause-least : goal.returns-in-At-clause-least
 returns-in-At-clause-least g c =
-    (λ t. cc (t), λ least. absurd (not_least g.C.Ord.cmp _ _ (subst (IsLeast (IsUpTo g.C.Ord.cmp)) c.in-At.is least)))
+    (λ t. cc (t), λ least. absurd (not_least g.C.Ord.cmp _ (subst (IsLeast (IsUpTo g.C.Ord.cmp)) c.in-At.is least)))

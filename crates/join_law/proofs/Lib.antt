@@ -1,0 +1,4 @@
+pub mod MapEdits
+pub mod Ends
+pub mod CopyWalks
+pub mod Outcomes

@@ -1,0 +1,5 @@
+use Rattle.std.proofs.Common.{◌≡◌, take, map}
+use Rattle.join_law.proofs.copies.keys_of.Given as goal
+
+abbrev pub invariant-loop-pair : goal.invariant-loop-pair
+invariant-loop-pair g l = map (λ k. k.now) l.keys.items ≡ map (λ pair. pair.0) (take l.pair-index l.pairs)

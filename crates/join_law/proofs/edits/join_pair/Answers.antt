@@ -1,0 +1,47 @@
+use Rattle.std.proofs.Common.{subst, ap, ◌∙◌, set}
+use Rattle.std.specs.Prelude.{IsSome}
+use Rattle.join_law.specs.Order.{IsLeast, IsJoin, IsPartialJoin}
+use Rattle.join_law.specs.Maps.{IsMap, MapBelow}
+use Rattle.sorted_pairs.specs.PlaceLaws.{find_gap}
+use Rattle.join_law.proofs.MapEdits.{set_same, joined_is_map, joined_is_join, partly_is_map, partly_is_join, refused_is_join, inserted_is_map, inserted_is_join}
+use Rattle.join_law.proofs.edits.join_pair.Goals as goal
+
+pub returns-in-Ok-join_from-clause-map : goal.returns-in-Ok-join_from-clause-map
+returns-in-Ok-join_from-clause-map g c =
+    joined_is_map g.K.Ord.cmp g.met.K.Ord.total g.V.Join.is_valid g.V.Join.below g.met.V.Join.reflexive g.met.V.Join.transitive c.args.key _ _ c.requires _ (rw c.deref.ensures.value at c.in-Ok.ensures.found) c.index_mut-place.ensures.value c.args.value _ c.in-Ok-join_from.ensures.valid c.in-Ok-join_from.ensures.ok
+
+pub returns-in-Ok-join_from-clause-ok : goal.returns-in-Ok-join_from-clause-ok
+returns-in-Ok-join_from-clause-ok g c =
+    joined_is_join g.K.Ord.cmp g.met.K.Ord.total g.V.Join.is_valid g.V.Join.below g.met.V.Join.reflexive g.met.V.Join.transitive c.args.key _ _ c.requires _ (rw c.deref.ensures.value at c.in-Ok.ensures.found) c.index_mut-place.ensures.value c.args.value _ c.in-Ok-join_from.ensures.ok
+
+pub returns-in-Err-join_from-clause-map : goal.returns-in-Err-join_from-clause-map
+returns-in-Err-join_from-clause-map g c =
+    partly_is_map g.K.Ord.cmp g.met.K.Ord.total g.V.Join.is_valid g.V.Join.below g.met.V.Join.reflexive g.met.V.Join.transitive c.args.key _ _ c.requires _ (rw c.deref.ensures.value at c.in-Ok.ensures.found) c.index_mut-place.ensures.value c.args.value _ _ c.in-Err-join_from.ensures.valid c.in-Err-join_from.ensures.refused
+
+pub returns-in-Err-join_from-clause-refused : goal.returns-in-Err-join_from-clause-refused
+returns-in-Err-join_from-clause-refused g c =
+    partly_is_join g.K.Ord.cmp g.met.K.Ord.total g.V.Join.is_valid g.V.Join.below g.met.V.Join.reflexive g.met.V.Join.transitive c.args.key _ _ c.requires _ (rw c.deref.ensures.value at c.in-Ok.ensures.found) c.index_mut-place.ensures.value c.args.value _ _ c.in-Err-join_from.ensures.refused
+
+pub returns-in-Ok-insert-clause-map : goal.returns-in-Ok-insert-clause-map
+returns-in-Ok-insert-clause-map g c = rw c.in-Ok-insert.ensures.items
+    (inserted_is_map g.K.Ord.cmp g.met.K.Ord.total g.V.Join.is_valid g.V.Join.below g.met.V.Join.reflexive g.met.V.Join.transitive c.args.key _ _ c.requires c.args.value (λ least. let t = c.if-is_bottom.ensures.least.1 least in cc (t)) (rw c.deref.ensures.value at c.in-Err.ensures.absent) c.is_bottom.ensures.valid)
+
+pub returns-in-Ok-insert-clause-ok : goal.returns-in-Ok-insert-clause-ok
+returns-in-Ok-insert-clause-ok g c = rw c.in-Ok-insert.ensures.items
+    (inserted_is_join g.K.Ord.cmp g.met.K.Ord.total g.V.Join.is_valid g.V.Join.below g.met.V.Join.reflexive g.met.V.Join.transitive c.args.key _ _ c.requires c.args.value (λ least. let t = c.if-is_bottom.ensures.least.1 least in cc (t)) (rw c.deref.ensures.value at c.in-Err.ensures.absent))
+
+pub returns-in-Err-insert-clause-refused : goal.returns-in-Err-insert-clause-refused
+returns-in-Err-insert-clause-refused g c = rw (c.in-Err-insert.ensures.items, c.in-Err-insert.ensures.value_returned)
+    (refused_is_join g.K.Ord.cmp g.met.K.Ord.total g.V.Join.is_valid g.V.Join.below g.met.V.Join.reflexive g.met.V.Join.transitive c.args.key _ c.in-Err.at c.requires c.args.value (λ least. let t = c.if-is_bottom.ensures.least.1 least in cc (t)))
+
+pub returns-in-Err-join_from-clause-single : goal.returns-in-Err-join_from-clause-single
+returns-in-Err-join_from-clause-single g c = λ single.
+    let items = c.args.pairs.now.items in
+    ap (λ v. set items c.in-Ok.at (c.index_mut-place.result.now.0, v)) (c.in-Err-join_from.ensures.single single) ∙
+    set_same items c.in-Ok.at c.index_mut-place.result.now c.index_mut-place.ensures.value
+
+pub returns-in-Err-insert-clause-in_place : goal.returns-in-Err-insert-clause-in_place
+returns-in-Err-insert-clause-in_place g c = λ in_place some.
+    let none = find_gap g.K.Ord.cmp c.args.key g.met.K.Ord.total _ _ c.requires.sorted (rw c.deref.ensures.value at c.in-Err.ensures.absent) in
+    let t = subst IsSome none some in
+    cc (t)

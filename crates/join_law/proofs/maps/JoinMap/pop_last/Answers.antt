@@ -1,0 +1,8 @@
+use Rattle.join_law.proofs.Ends.{popped_is_map, popped_is_held}
+use Rattle.join_law.proofs.maps.JoinMap.pop_last.Goals as goal
+
+pub invariant_of-self : goal.invariant_of-self
+invariant_of-self g c = popped_is_map g.K.Ord.cmp g.V.Join.below g.V.Join.is_valid _ _ c.pop.result c.pop.ensures.items c.self.invariant
+
+pub returns-clause-held : goal.returns-clause-held
+returns-clause-held g c = popped_is_held g.K.Ord.cmp g.V.Join.below g.V.Join.is_valid _ _ c.pop.result c.pop.ensures.items c.self.invariant

@@ -1,0 +1,9 @@
+use Rattle.std.proofs.Common.{arith, subst, sym, List, ◌↔◌, IsTrue}
+use Rattle.join_law.specs.MapOneLaws.{least_exactly_empty}
+use Rattle.join_law.specs.Order.{IsLeast}
+use Rattle.join_law.specs.Maps.{MapBelow}
+use Rattle.join_law.proofs.maps.JoinMapJoin.is_bottom.Goals as goal
+
+pub returns-clause-least : goal.returns-clause-least
+returns-clause-least g c = rw (c.is_empty.ensures, ← c.self.view_is)
+    (least_exactly_empty g.K.Ord.cmp g.V.Join.below g.met.K.Ord.total g.V.Join.is_valid _ _ (omega arith) c.self.invariant)

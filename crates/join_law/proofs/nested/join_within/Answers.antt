@@ -1,0 +1,69 @@
+use Rattle.std.proofs.Common.{◌≡◌, [], ◌∷◌, Some, ap, sym, ◌∙◌, set, subst}
+use Rattle.std.specs.Prelude.{IsSome}
+use Rattle.std.specs.FinMap.{find}
+use Rattle.sorted_pairs.specs.PlaceLaws.{find_at, find_gap}
+use Rattle.join_law.specs.Maps.{IsMap, MapBelow, or_empty}
+use Rattle.join_law.specs.MapLaws.{map_itself, map_chain}
+use Rattle.join_law.proofs.MapEdits.{set_same, joined_is_map, joined_is_join, between_is_map, between_is_between, unchanged_is_between, inserted_is_map, inserted_is_join, partial_between, pair_held}
+use Rattle.join_law.proofs.Outcomes.{on_err}
+use Rattle.join_law.proofs.nested.join_within.Goals as goal
+
+pub seek-requires : goal.seek-requires
+seek-requires g c = record { sorted = rw c.deref.ensures.value c.requires.map.sorted }
+
+pub returns-in-Ok-join_at-clause-map : goal.returns-in-Ok-join_at-clause-map
+returns-in-Ok-join_at-clause-map g c =
+    joined_is_map g.K.Ord.cmp g.met.K.Ord.total (IsMap g.L.Ord.cmp g.V.Join.below g.V.Join.is_valid) (MapBelow g.L.Ord.cmp g.V.Join.below) (map_itself g.V.Join.below g.met.V.Join.reflexive g.met.V.Join.transitive g.L.Ord.cmp) (map_chain g.V.Join.below g.met.V.Join.reflexive g.met.V.Join.transitive g.L.Ord.cmp) c.args.key _ _ c.requires.map _ (rw c.deref.ensures.value at c.in-Ok.ensures.found) c.index_mut-place.ensures.value ((c.args.inner, c.args.value) ∷ []) _ c.in-Ok-join_at.ensures.map c.in-Ok-join_at.ensures.ok
+
+pub returns-in-Ok-join_at-clause-ok : goal.returns-in-Ok-join_at-clause-ok
+returns-in-Ok-join_at-clause-ok g c =
+    joined_is_join g.K.Ord.cmp g.met.K.Ord.total (IsMap g.L.Ord.cmp g.V.Join.below g.V.Join.is_valid) (MapBelow g.L.Ord.cmp g.V.Join.below) (map_itself g.V.Join.below g.met.V.Join.reflexive g.met.V.Join.transitive g.L.Ord.cmp) (map_chain g.V.Join.below g.met.V.Join.reflexive g.met.V.Join.transitive g.L.Ord.cmp) c.args.key _ _ c.requires.map _ (rw c.deref.ensures.value at c.in-Ok.ensures.found) c.index_mut-place.ensures.value ((c.args.inner, c.args.value) ∷ []) _ c.in-Ok-join_at.ensures.ok
+
+pub returns-in-Ok-clause-map : goal.returns-in-Ok-clause-map
+returns-in-Ok-clause-map g c =
+    between_is_map g.K.Ord.cmp g.met.K.Ord.total (IsMap g.L.Ord.cmp g.V.Join.below g.V.Join.is_valid) (MapBelow g.L.Ord.cmp g.V.Join.below) (map_itself g.V.Join.below g.met.V.Join.reflexive g.met.V.Join.transitive g.L.Ord.cmp) (map_chain g.V.Join.below g.met.V.Join.reflexive g.met.V.Join.transitive g.L.Ord.cmp) c.args.key _ _ c.requires.map _ (rw c.deref.ensures.value at c.in-Ok.ensures.found) c.index_mut-place.ensures.value ((c.args.inner, c.args.value) ∷ []) _ c.in-Err-join_at.ensures.map (partial_between _ _ _ _ _ c.in-Err-join_at.ensures.refused)
+
+pub returns-in-Ok-clause-refused : goal.returns-in-Ok-clause-refused
+returns-in-Ok-clause-refused g c =
+    between_is_between g.K.Ord.cmp g.met.K.Ord.total (IsMap g.L.Ord.cmp g.V.Join.below g.V.Join.is_valid) (MapBelow g.L.Ord.cmp g.V.Join.below) (map_itself g.V.Join.below g.met.V.Join.reflexive g.met.V.Join.transitive g.L.Ord.cmp) (map_chain g.V.Join.below g.met.V.Join.reflexive g.met.V.Join.transitive g.L.Ord.cmp) c.args.key _ _ c.requires.map _ (rw c.deref.ensures.value at c.in-Ok.ensures.found) c.index_mut-place.ensures.value ((c.args.inner, c.args.value) ∷ []) _ (partial_between _ _ _ _ _ c.in-Err-join_at.ensures.refused)
+
+pub returns-in-Ok-clause-single : goal.returns-in-Ok-clause-single
+returns-in-Ok-clause-single g c = λ single.
+    ap (λ v. set c.args.pairs.now.items c.in-Ok.at (c.index_mut-place.result.now.0, v)) (c.in-Err-join_at.ensures.single single) ∙
+    set_same c.args.pairs.now.items c.in-Ok.at c.index_mut-place.result.now c.index_mut-place.ensures.value
+
+pub returns-in-Ok-clause-in_place : goal.returns-in-Ok-clause-in_place
+returns-in-Ok-clause-in_place g c = λ in_place some.
+    let found = find_at g.K.Ord.cmp c.args.key c.args.pairs.now.items c.in-Ok.at c.index_mut-place.result.now (rw c.deref.ensures.value at c.in-Ok.ensures.found) ∙ ap (λ x. Some x.1) (sym c.index_mut-place.ensures.value) in
+    let ok = c.in-Err-join_at.ensures.in_place in_place (subst (λ x. IsSome (find g.L.Ord.cmp c.args.inner (or_empty x))) found some) in
+    cc (ok)
+
+pub returns-in_err-made-in-Err-clause-refused : goal.returns-in_err-made-in-Err-clause-refused
+returns-in_err-made-in-Err-clause-refused g c =
+    on_err _ (unchanged_is_between g.K.Ord.cmp g.met.K.Ord.total (IsMap g.L.Ord.cmp g.V.Join.below g.V.Join.is_valid) (MapBelow g.L.Ord.cmp g.V.Join.below) (map_itself g.V.Join.below g.met.V.Join.reflexive g.met.V.Join.transitive g.L.Ord.cmp) (map_chain g.V.Join.below g.met.V.Join.reflexive g.met.V.Join.transitive g.L.Ord.cmp) c.args.key _ c.in-Err.at c.requires.map ((c.args.inner, c.args.value) ∷ []) (pair_held g.L.Ord.cmp g.met.L.Ord.total g.V.Join.below g.V.Join.is_valid c.args.inner c.args.value c.requires.held).not_least)
+
+pub returns-in_err-made-in-Err-clause-in_place : goal.returns-in_err-made-in-Err-clause-in_place
+returns-in_err-made-in-Err-clause-in_place g c = λ in_place some.
+    let none = find_gap g.K.Ord.cmp c.args.key g.met.K.Ord.total _ _ c.requires.map.sorted (rw c.deref.ensures.value at c.in-Err.ensures.absent) in
+    let absent = subst (λ x. IsSome (find g.L.Ord.cmp c.args.inner (or_empty x))) none some in
+    cc (absent)
+
+pub returns-in_err-insert-in-Err-clause-refused : goal.returns-in_err-insert-in-Err-clause-refused
+returns-in_err-insert-in-Err-clause-refused g c =
+    rw c.in_err-insert-in-Err.ensures.items (on_err _ (unchanged_is_between g.K.Ord.cmp g.met.K.Ord.total (IsMap g.L.Ord.cmp g.V.Join.below g.V.Join.is_valid) (MapBelow g.L.Ord.cmp g.V.Join.below) (map_itself g.V.Join.below g.met.V.Join.reflexive g.met.V.Join.transitive g.L.Ord.cmp) (map_chain g.V.Join.below g.met.V.Join.reflexive g.met.V.Join.transitive g.L.Ord.cmp) c.args.key _ c.in-Err.at c.requires.map ((c.args.inner, c.args.value) ∷ []) (pair_held g.L.Ord.cmp g.met.L.Ord.total g.V.Join.below g.V.Join.is_valid c.args.inner c.args.value c.requires.held).not_least))
+
+pub returns-in_err-insert-in-Err-clause-in_place : goal.returns-in_err-insert-in-Err-clause-in_place
+returns-in_err-insert-in-Err-clause-in_place g c = λ in_place some.
+    let none = find_gap g.K.Ord.cmp c.args.key g.met.K.Ord.total _ _ c.requires.map.sorted (rw c.deref.ensures.value at c.in-Err.ensures.absent) in
+    let absent = subst (λ x. IsSome (find g.L.Ord.cmp c.args.inner (or_empty x))) none some in
+    cc (absent)
+
+pub returns-clause-map : goal.returns-clause-map
+returns-clause-map g c =
+    rw (c.in_ok-insert-in-Err.ensures.items, c.in_ok-made-in-Err.ensures.pair)
+    (inserted_is_map g.K.Ord.cmp g.met.K.Ord.total (IsMap g.L.Ord.cmp g.V.Join.below g.V.Join.is_valid) (MapBelow g.L.Ord.cmp g.V.Join.below) (map_itself g.V.Join.below g.met.V.Join.reflexive g.met.V.Join.transitive g.L.Ord.cmp) (map_chain g.V.Join.below g.met.V.Join.reflexive g.met.V.Join.transitive g.L.Ord.cmp) c.args.key _ _ c.requires.map ((c.args.inner, c.args.value) ∷ []) (pair_held g.L.Ord.cmp g.met.L.Ord.total g.V.Join.below g.V.Join.is_valid c.args.inner c.args.value c.requires.held).not_least (rw c.deref.ensures.value at c.in-Err.ensures.absent) (pair_held g.L.Ord.cmp g.met.L.Ord.total g.V.Join.below g.V.Join.is_valid c.args.inner c.args.value c.requires.held).lawful)
+
+pub returns-clause-ok : goal.returns-clause-ok
+returns-clause-ok g c =
+    rw (c.in_ok-insert-in-Err.ensures.items, c.in_ok-made-in-Err.ensures.pair)
+    (inserted_is_join g.K.Ord.cmp g.met.K.Ord.total (IsMap g.L.Ord.cmp g.V.Join.below g.V.Join.is_valid) (MapBelow g.L.Ord.cmp g.V.Join.below) (map_itself g.V.Join.below g.met.V.Join.reflexive g.met.V.Join.transitive g.L.Ord.cmp) (map_chain g.V.Join.below g.met.V.Join.reflexive g.met.V.Join.transitive g.L.Ord.cmp) c.args.key _ _ c.requires.map ((c.args.inner, c.args.value) ∷ []) (pair_held g.L.Ord.cmp g.met.L.Ord.total g.V.Join.below g.V.Join.is_valid c.args.inner c.args.value c.requires.held).not_least (rw c.deref.ensures.value at c.in-Err.ensures.absent))

@@ -1,0 +1,102 @@
+//! Sorted pairs compared and copied, and copies joined into them.
+ghost use Rattle.std.specs.Prelude.{◌≡◌, ◌↔◌, [], ◌∷◌, map, IsTrue, IsOk, IfOk, OnOk, OnErr};
+ghost use Rattle.std.specs.FinMap.{find};
+ghost use Rattle.join_law.specs.Maps.{IsHeld, IsMap, IsSinglePair, MapBelow};
+ghost use Rattle.join_law.specs.Order.{IsBetween, IsJoin};
+
+use crate::joins::Join;
+use crate::keys::Key;
+use sorted_pairs::seek;
+use std::alloc::{AllocError, Global};
+
+// Joins a copy of one pair.
+fn join_pair_copy<K: Key, V: Join>(
+    pairs: &mut Vec<(K, V)>,
+    key: &K,
+    value: &V,
+) -> Result<(), AllocError>
+    requires map { IsMap K.cmp V.below V.is_valid pairs.old.items }
+    requires held { IsHeld V.below V.is_valid value.now }
+    ensures map { IsMap K.cmp V.below V.is_valid pairs.new.items }
+    ensures ok { OnOk result (IsJoin (MapBelow K.cmp V.below) pairs.old.items ((key.now, value.now) ∷ []) pairs.new.items) }
+    ensures refused { OnErr result (IsBetween (MapBelow K.cmp V.below) pairs.old.items ((key.now, value.now) ∷ []) pairs.new.items) }
+    ensures single { OnErr result (V.is_single value.now → pairs.new.items ≡ pairs.old.items) }
+    ensures known { MapBelow K.cmp V.below ((key.now, value.now) ∷ []) pairs.old.items → IsOk result }
+{
+    match seek(pairs, key) {
+        Ok(at) => {
+            let place = &mut pairs[at];
+            place.1.join_copy(value)?;
+            Ok(())
+        }
+        Err(at) => {
+            let copy = key.try_clone()?;
+            pairs.insert(at, (copy, value.try_clone()?))?;
+            Ok(())
+        }
+    }
+}
+
+// Joins copies of what the others have more.
+pub fn join_copies<K: Key, V: Join>(
+    pairs: &mut Vec<(K, V)>,
+    other: &[(K, V)],
+) -> Result<(), AllocError>
+    requires map { IsMap K.cmp V.below V.is_valid pairs.old.items }
+    requires other_map { IsMap K.cmp V.below V.is_valid other.now }
+    ensures map { IsMap K.cmp V.below V.is_valid pairs.new.items }
+    ensures ok { OnOk result (IsJoin (MapBelow K.cmp V.below) pairs.old.items other.now pairs.new.items) }
+    ensures refused { OnErr result (IsBetween (MapBelow K.cmp V.below) pairs.old.items other.now pairs.new.items) }
+    ensures single { OnErr result (IsSinglePair V.is_single other.now → pairs.new.items ≡ pairs.old.items) }
+    ensures known { MapBelow K.cmp V.below other.now pairs.old.items → IsOk result }
+{
+    for pair in other {
+        join_pair_copy(pairs, &pair.0, &pair.1)?;
+    }
+    Ok(())
+}
+
+// The keys of the pairs.
+pub fn keys_of<K, V>(alloc: Global, pairs: &[(K, V)]) -> Result<Vec<&K>, AllocError>
+    ensures keys { IfOk result (λ keys. map (λ k. k.now) keys.items ≡ map (λ pair. pair.0) pairs.now) }
+{
+    let mut keys = Vec::with_capacity(alloc, pairs.len())?;
+    for pair in pairs {
+        keys.push(&pair.0)?;
+    }
+    Ok(keys)
+}
+
+// A copy of the pairs.
+pub fn copy_pairs<K: Key, V: Join>(
+    alloc: Global,
+    pairs: &[(K, V)],
+) -> Result<Vec<(K, V)>, AllocError>
+    ensures copy { IfOk result (λ copy. copy.items ≡ pairs.now) }
+{
+    let mut copy = Vec::with_capacity(alloc, pairs.len())?;
+    for pair in pairs {
+        copy.push((pair.0.try_clone()?, pair.1.try_clone()?))?;
+    }
+    Ok(copy)
+}
+
+// Whether two lists of pairs are equal.
+pub fn same_pairs<K: Key, V: Join>(left: &[(K, V)], right: &[(K, V)]) -> bool
+    ensures same { IsTrue result ↔ (left.now ≡ right.now) }
+{
+    if left.len() != right.len() {
+        return false;
+    }
+    for i in 0..left.len() {
+        let x = &left[i];
+        let y = &right[i];
+        if !x.0.cmp(&y.0).is_eq() {
+            return false;
+        }
+        if !x.1.same(&y.1) {
+            return false;
+        }
+    }
+    true
+}

@@ -1,0 +1,66 @@
+//! Joins of pairs that are given away into sorted pairs.
+ghost use Rattle.std.specs.Prelude.{◌≡◌, [], ◌∷◌, IsSome, IsOk, OnOk, IfErr};
+ghost use Rattle.std.specs.FinMap.{find};
+ghost use Rattle.std.specs.Bool.{OnTrue, OnFalse};
+ghost use Rattle.join_law.specs.Maps.{IsMap, IsSinglePair, MapBelow};
+ghost use Rattle.join_law.specs.Order.{IsJoin, IsLeast, IsPartialJoin};
+
+use crate::joins::{Join, Rest};
+use crate::keys::Key;
+use sorted_pairs::seek;
+
+// Joins one pair. A bottom value changes nothing.
+pub fn join_pair<K: Key, V: Join>(
+    pairs: &mut Vec<(K, V)>,
+    key: K,
+    value: V,
+) -> Result<(), Rest<(K, V)>>
+    requires { IsMap K.cmp V.below V.is_valid pairs.old.items }
+    ensures map { IsMap K.cmp V.below V.is_valid pairs.new.items }
+    ensures ok { OnOk result (IsJoin (MapBelow K.cmp V.below) pairs.old.items ((key, value) ∷ []) pairs.new.items) }
+    ensures key { IfErr result (λ fault. fault.rest.0 ≡ key) }
+    ensures refused { IfErr result (λ fault. IsPartialJoin (MapBelow K.cmp V.below) pairs.old.items ((key, value) ∷ []) pairs.new.items (fault.rest ∷ [])) }
+    ensures left { IfErr result (λ fault. ¬ IsLeast V.below fault.rest.1) }
+    ensures rest_valid { IfErr result (λ fault. V.is_valid fault.rest.1) }
+    ensures single { IfErr result (λ _. V.is_single value → pairs.new.items ≡ pairs.old.items) }
+    ensures in_place { V.joins_in_place → IsSome (find K.cmp key pairs.old.items) → IsOk result }
+{
+    if value.is_bottom() {
+        return Ok(());
+    }
+    match seek(pairs, &key) {
+        Ok(at) => {
+            let place = &mut pairs[at];
+            match place.1.join_from(value) {
+                Ok(()) => Ok(()),
+                Err(Rest { rest }) => Err(Rest { rest: (key, rest) }),
+            }
+        }
+        Err(at) => match pairs.insert(at, (key, value)) {
+            Ok(()) => Ok(()),
+            Err(fault) => Err(Rest { rest: fault.value }),
+        },
+    }
+}
+
+// Joins all pairs of `other`, from its end, and answers whether all went in.
+pub fn join_pairs<K: Key, V: Join>(pairs: &mut Vec<(K, V)>, other: &mut Vec<(K, V)>) -> bool
+    requires map { IsMap K.cmp V.below V.is_valid pairs.old.items }
+    requires other_map { IsMap K.cmp V.below V.is_valid other.old.items }
+    ensures map { IsMap K.cmp V.below V.is_valid pairs.new.items }
+    ensures other_map { IsMap K.cmp V.below V.is_valid other.new.items }
+    ensures ok { OnTrue result (IsJoin (MapBelow K.cmp V.below) pairs.old.items other.old.items pairs.new.items) }
+    ensures refused { OnFalse result (IsPartialJoin (MapBelow K.cmp V.below) pairs.old.items other.old.items pairs.new.items other.new.items) }
+    ensures single { OnFalse result (IsSinglePair V.is_single other.old.items → pairs.new.items ≡ pairs.old.items) }
+{
+    while let Some((key, value)) = other.pop() {
+        if let Err(Rest { rest }) = join_pair(pairs, key, value) {
+            // It goes back into the room that it left.
+            match other.push(rest) {
+                Ok(()) => return false,
+                Err(_) => unreachable!(),
+            }
+        }
+    }
+    true
+}

@@ -1,0 +1,191 @@
+//! Maps whose values are joined key by key.
+ghost use Rattle.std.specs.Prelude.{◌≡◌, [], ◌∷◌, ◌++◌, length, map, IsSome, IsOk, IfOk, OnOk, IfErr};
+ghost use Rattle.std.specs.Option.{option_copied, option_to_list, IfSome};
+ghost use Rattle.std.specs.FinMap.{find};
+ghost use Rattle.join_law.specs.Maps.{IsHeld, IsMap, MapBelow};
+ghost use Rattle.join_law.specs.Order.{IsJoin, IsLeast, IsPartialJoin};
+
+use crate::copies::{copy_pairs, join_copies, keys_of, same_pairs};
+use crate::edits::{join_pair, join_pairs};
+use crate::joins::{Join, Rest};
+use crate::keys::Key;
+use sorted_pairs::seek;
+use std::alloc::{AllocError, Global};
+use std::marker::Model;
+
+/// A map from keys to values that are joined, itself joined key by key.
+///
+/// An absent key stands for the bottom value, and no bottom value is held: in a map of maps a map
+/// that would be empty is absent.
+#[derive(Debug, Drop)]
+pub struct JoinMap<K: Key, V: Join> {
+    // In the order of the keys.
+    pub(crate) pairs: Vec<(K, V)>,
+}
+
+impl<K: Key, V: Join> Model for JoinMap<K, V> {
+    ghost use Rattle.std.specs.Prelude.{List};
+    ghost use Rattle.std.specs.Coded.{coded_list, coded×};
+    ghost use Rattle.join_law.specs.Maps.{IsMap};
+
+    ghost Value = { List (K × V) };
+
+    ghost coded = { coded_list (coded× K.code V.code) };
+
+    ghost view = { λ m. m.pairs.items };
+
+    ghost invariant = { λ m. IsMap K.cmp V.below V.is_valid m.pairs.items };
+}
+
+impl<K: Key, V: Join> JoinMap<K, V> {
+    /// A map that holds nothing. It takes no memory.
+    pub fn new(alloc: Global) -> Self
+        ensures empty { result ≡ [] }
+    {
+        JoinMap {
+            pairs: Vec::new(alloc),
+        }
+    }
+
+    /// The map of these pairs. O(1), without memory.
+    pub fn from_pairs(pairs: Vec<(K, V)>) -> Self
+        requires map { IsMap K.cmp V.below V.is_valid pairs.items }
+        ensures pairs { result ≡ pairs.items }
+    {
+        JoinMap { pairs }
+    }
+
+    /// The map of one pair. It fails for want of memory alone.
+    pub fn of_pair(alloc: Global, key: K, value: V) -> Result<Self, AllocError>
+        requires held { IsHeld V.below V.is_valid value }
+        ensures pair { IfOk result (λ map. map ≡ (key, value) ∷ []) }
+    {
+        let mut pairs = Vec::with_capacity(alloc, 1)?;
+        pairs.push((key, value))?;
+        Ok(JoinMap { pairs })
+    }
+
+    /// The pairs, given out in the order of their keys. O(1), without memory.
+    pub fn into_pairs(self) -> Vec<(K, V)>
+        ensures pairs { result.items ≡ self }
+        ensures map { IsMap K.cmp V.below V.is_valid self }
+    {
+        let JoinMap { pairs } = self;
+        pairs
+    }
+
+    /// The pairs in the order of their keys, without memory.
+    pub fn pairs(&self) -> &[(K, V)]
+        ensures pairs { result.now ≡ self.now }
+        ensures map { IsMap K.cmp V.below V.is_valid self.now }
+    {
+        &self.pairs
+    }
+
+    /// The allocator that the map takes its memory from.
+    pub fn allocator(&self) -> Global {
+        *self.pairs.allocator()
+    }
+
+    /// How many keys there are. It takes no memory.
+    pub fn len(&self) -> usize
+        ensures len { result ≡ length self.now }
+    {
+        self.pairs.len()
+    }
+
+    /// The value at a key, if there is one. O(log n), without memory.
+    pub fn get(&self, key: &K) -> Option<&V>
+        ensures value { option_copied result ≡ find K.cmp key.now self.now }
+    {
+        match seek(&self.pairs, key) {
+            Ok(at) => Some(&self.pairs[at].1),
+            Err(_) => None,
+        }
+    }
+
+    /// The keys in their order. It fails for want of memory alone.
+    pub fn keys(&self) -> Result<Vec<&K>, AllocError>
+        ensures keys { IfOk result (λ keys. map (λ k. k.now) keys.items ≡ map (λ pair. pair.0) self.now) }
+    {
+        keys_of(*self.pairs.allocator(), &self.pairs)
+    }
+
+    /// Takes out the pair with the greatest key, if there is one. O(1), without memory.
+    pub fn pop_last(&mut self) -> Option<(K, V)>
+        ensures pairs { self.old ≡ self.new ++ option_to_list result }
+        ensures held { IfSome result (λ pair. IsHeld V.below V.is_valid pair.1) }
+    {
+        self.pairs.pop()
+    }
+
+    /// Joins a value into the one at a key. A search and at most one shift of the pairs.
+    ///
+    /// It fails for want of memory alone. The map then lies between what it was and the join, and
+    /// joining the `rest`, which has the same key, gives that join; where the value is single, the
+    /// map is unchanged. Where the key is held, it takes no memory but that of the value's join.
+    pub fn join_at(&mut self, key: K, value: V) -> Result<(), Rest<(K, V)>>
+        ensures ok { OnOk result (IsJoin (MapBelow K.cmp V.below) self.old ((key, value) ∷ []) self.new) }
+        ensures key { IfErr result (λ fault. fault.rest.0 ≡ key) }
+        ensures refused { IfErr result (λ fault. IsPartialJoin (MapBelow K.cmp V.below) self.old ((key, value) ∷ []) self.new (fault.rest ∷ [])) }
+        ensures left { IfErr result (λ fault. ¬ IsLeast V.below fault.rest.1) }
+        ensures rest_valid { IfErr result (λ fault. V.is_valid fault.rest.1) }
+        ensures single { IfErr result (λ _. V.is_single value → self.new ≡ self.old) }
+        ensures in_place { V.joins_in_place → IsSome (find K.cmp key self.old) → IsOk result }
+        ensures map { IsMap K.cmp V.below V.is_valid self.new }
+    {
+        join_pair(&mut self.pairs, key, value)
+    }
+}
+
+impl<K: Key, V: Join> Join for JoinMap<K, V> {
+    ghost use Rattle.join_law.specs.Maps.{IsSinglePair, map_union};
+    ghost use Rattle.join_law.specs.MapLaws.{map_itself, map_chain};
+    ghost use Rattle.join_law.specs.UnionLaws.{union_joins, union_keeps};
+    ghost use Rattle.join_law.specs.MapOneLaws.{maps_one};
+
+    ghost below = { MapBelow K.cmp V.below };
+
+    ghost join = { map_union K.cmp V.join };
+
+    ghost is_single = { IsSinglePair V.is_single };
+
+    ghost is_valid = { IsMap K.cmp V.below V.is_valid };
+
+    ghost joins_in_place = { ⊥ };
+
+    ghost reflexive = { map_itself V.below V.reflexive V.transitive K.cmp };
+
+    ghost transitive = { map_chain V.below V.reflexive V.transitive K.cmp };
+
+    ghost joins = { union_joins K.cmp K.total V.below V.join V.joins };
+
+    ghost keeps = { λ x y a b. union_keeps K.cmp K.total V.below V.is_valid V.join V.joins V.transitive V.reflexive V.keeps x y a b.held };
+
+    ghost one = { maps_one K.cmp V.below K.total V.is_valid K.exact V.one };
+
+    fn is_bottom(&self) -> bool {
+        self.pairs.is_empty()
+    }
+
+    fn join_from(&mut self, mut other: Self) -> Result<(), Rest<Self>> {
+        if join_pairs(&mut self.pairs, &mut other.pairs) {
+            return Ok(());
+        }
+        Err(Rest { rest: other })
+    }
+
+    fn join_copy(&mut self, other: &Self) -> Result<(), AllocError> {
+        join_copies(&mut self.pairs, &other.pairs)
+    }
+
+    fn try_clone(&self) -> Result<Self, AllocError> {
+        Ok(JoinMap {
+            pairs: copy_pairs(*self.pairs.allocator(), &self.pairs)?,
+        })
+    }
+
+    fn same(&self, other: &Self) -> bool {
+        same_pairs(&self.pairs, &other.pairs)
+    }
+}

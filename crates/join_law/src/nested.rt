@@ -1,0 +1,117 @@
+//! Joins of one value into maps of maps.
+ghost use Rattle.std.specs.Prelude.{◌≡◌, [], ◌∷◌, IsSome, IsOk, IfOk, OnOk, OnErr};
+ghost use Rattle.std.specs.FinMap.{find};
+ghost use Rattle.join_law.specs.Maps.{IsHeld, IsMap, MapBelow, or_empty};
+ghost use Rattle.join_law.specs.Order.{IsBetween, IsJoin};
+
+use crate::joins::Join;
+use crate::keys::Key;
+use crate::maps::JoinMap;
+use sorted_pairs::seek;
+use std::alloc::AllocError;
+
+// Joins a value into the one at a key of the map at a key.
+fn join_within<K: Key, L: Key, V: Join>(
+    pairs: &mut Vec<(K, JoinMap<L, V>)>,
+    key: K,
+    inner: L,
+    value: V,
+) -> Result<(), AllocError>
+    requires map { IsMap K.cmp (MapBelow L.cmp V.below) (IsMap L.cmp V.below V.is_valid) pairs.old.items }
+    requires held { IsHeld V.below V.is_valid value }
+    ensures map { IsMap K.cmp (MapBelow L.cmp V.below) (IsMap L.cmp V.below V.is_valid) pairs.new.items }
+    ensures ok { OnOk result (IsJoin (MapBelow K.cmp (MapBelow L.cmp V.below)) pairs.old.items ((key, (inner, value) ∷ []) ∷ []) pairs.new.items) }
+    ensures refused { OnErr result (IsBetween (MapBelow K.cmp (MapBelow L.cmp V.below)) pairs.old.items ((key, (inner, value) ∷ []) ∷ []) pairs.new.items) }
+    ensures single { OnErr result (V.is_single value → pairs.new.items ≡ pairs.old.items) }
+    ensures in_place { V.joins_in_place → IsSome (find L.cmp inner (or_empty (find K.cmp key pairs.old.items))) → IsOk result }
+{
+    match seek(pairs, &key) {
+        Ok(at) => {
+            let place = &mut pairs[at];
+            match place.1.join_at(inner, value) {
+                Ok(()) => Ok(()),
+                Err(_) => Err(AllocError),
+            }
+        }
+        Err(at) => {
+            let made = JoinMap::of_pair(*pairs.allocator(), inner, value)?;
+            pairs.insert(at, (key, made))?;
+            Ok(())
+        }
+    }
+}
+
+// Joins a value into the one at a key of the map at a key of the map at a key.
+fn join_deep<K: Key, L: Key, M: Key, V: Join>(
+    pairs: &mut Vec<(K, JoinMap<L, JoinMap<M, V>>)>,
+    key: K,
+    inner: L,
+    innermost: M,
+    value: V,
+) -> Result<(), AllocError>
+    requires map { IsMap K.cmp (MapBelow L.cmp (MapBelow M.cmp V.below)) (IsMap L.cmp (MapBelow M.cmp V.below) (IsMap M.cmp V.below V.is_valid)) pairs.old.items }
+    requires held { IsHeld V.below V.is_valid value }
+    ensures map { IsMap K.cmp (MapBelow L.cmp (MapBelow M.cmp V.below)) (IsMap L.cmp (MapBelow M.cmp V.below) (IsMap M.cmp V.below V.is_valid)) pairs.new.items }
+    ensures ok { OnOk result (IsJoin (MapBelow K.cmp (MapBelow L.cmp (MapBelow M.cmp V.below))) pairs.old.items ((key, (inner, (innermost, value) ∷ []) ∷ []) ∷ []) pairs.new.items) }
+    ensures refused { OnErr result (IsBetween (MapBelow K.cmp (MapBelow L.cmp (MapBelow M.cmp V.below))) pairs.old.items ((key, (inner, (innermost, value) ∷ []) ∷ []) ∷ []) pairs.new.items) }
+    ensures single { OnErr result (V.is_single value → pairs.new.items ≡ pairs.old.items) }
+    ensures in_place { V.joins_in_place → IsSome (find M.cmp innermost (or_empty (find L.cmp inner (or_empty (find K.cmp key pairs.old.items))))) → IsOk result }
+{
+    match seek(pairs, &key) {
+        Ok(at) => {
+            let place = &mut pairs[at];
+            place.1.join_within(inner, innermost, value)?;
+            Ok(())
+        }
+        Err(at) => {
+            let alloc = *pairs.allocator();
+            let made = JoinMap::of_pair(alloc, innermost, value)?;
+            let outer = JoinMap::of_pair(alloc, inner, made)?;
+            pairs.insert(at, (key, outer))?;
+            Ok(())
+        }
+    }
+}
+
+impl<K: Key, L: Key, V: Join> JoinMap<K, JoinMap<L, V>> {
+    /// Joins a value into the one at a key of the map at a key. A search and at most one shift of
+    /// pairs in each map; no map is made but to hold the value.
+    ///
+    /// It fails for want of memory alone. The map then lies between what it was and the join;
+    /// where the value is single, it is unchanged. Where both keys are held, it takes no memory but
+    /// that of the value's join.
+    pub fn join_within(&mut self, key: K, inner: L, value: V) -> Result<(), AllocError>
+        ensures ok { OnOk result (IsJoin (MapBelow K.cmp (MapBelow L.cmp V.below)) self.old ((key, (inner, value) ∷ []) ∷ []) self.new) }
+        ensures refused { OnErr result (IsBetween (MapBelow K.cmp (MapBelow L.cmp V.below)) self.old ((key, (inner, value) ∷ []) ∷ []) self.new) }
+        ensures single { OnErr result (V.is_single value → self.new ≡ self.old) }
+        ensures in_place { V.joins_in_place → IsSome (find L.cmp inner (or_empty (find K.cmp key self.old))) → IsOk result }
+        ensures map { IsMap K.cmp (MapBelow L.cmp V.below) (IsMap L.cmp V.below V.is_valid) self.new }
+    {
+        let pairs = &mut self.pairs;
+        if value.is_bottom() {
+            return Ok(());
+        }
+        join_within(pairs, key, inner, value)
+    }
+}
+
+impl<K: Key, L: Key, M: Key, V: Join> JoinMap<K, JoinMap<L, JoinMap<M, V>>> {
+    /// Joins a value into the one at a key of the map at a key of the map at a key. A search and at
+    /// most one shift of pairs in each map; no map is made but to hold the value.
+    ///
+    /// It fails for want of memory alone. The map then lies between what it was and the join;
+    /// where the value is single, it is unchanged. Where all three keys are held, it takes no memory
+    /// but that of the value's join.
+    pub fn join_deep(&mut self, key: K, inner: L, innermost: M, value: V) -> Result<(), AllocError>
+        ensures ok { OnOk result (IsJoin (MapBelow K.cmp (MapBelow L.cmp (MapBelow M.cmp V.below))) self.old ((key, (inner, (innermost, value) ∷ []) ∷ []) ∷ []) self.new) }
+        ensures refused { OnErr result (IsBetween (MapBelow K.cmp (MapBelow L.cmp (MapBelow M.cmp V.below))) self.old ((key, (inner, (innermost, value) ∷ []) ∷ []) ∷ []) self.new) }
+        ensures single { OnErr result (V.is_single value → self.new ≡ self.old) }
+        ensures in_place { V.joins_in_place → IsSome (find M.cmp innermost (or_empty (find L.cmp inner (or_empty (find K.cmp key self.old))))) → IsOk result }
+    {
+        let pairs = &mut self.pairs;
+        if value.is_bottom() {
+            return Ok(());
+        }
+        join_deep(pairs, key, inner, innermost, value)
+    }
+}
