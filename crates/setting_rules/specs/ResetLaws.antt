@@ -10,7 +10,7 @@ use Rattle.setting_rules.specs.declared.keys.SettingKey.{SettingKey}
 use Rattle.setting_rules.specs.declared.rules.KeyRule.{KeyRule}
 use Rattle.setting_rules.specs.declared.rules.KeyRule.TheVariants.{Ignored, Dependency, Switch, Condition, Assertion, Plain}
 use Rattle.setting_rules.specs.Rules.{Text, is_empty, rule_of}
-use Rattle.setting_rules.specs.Maps.{same_key, values_at, texts_or_none}
+use Rattle.setting_rules.specs.Maps.{SettingMap, same_key, values_at, texts_or_none}
 use Rattle.setting_rules.specs.KeyLaws.{same_key_is}
 use Rattle.setting_rules.specs.Settings.{behind_last, key_of, counts, counts_by, emptied_by, gives, given, resets, counted, last_alone, rule_at, firsts, values_of, keys_of, settings_of}
 
@@ -253,9 +253,11 @@ passed_over_changes_nothing before after a h =
         (ap (λ b. same_key k (key_of a) && b && not (is_empty a.value)) h ∙ ap (λ b. b && not (is_empty a.value)) (and_false (same_key k (key_of a))))
         (ap (λ b. is_empty a.value && b) (silent (rule_of a.section a.key) h (rule_at k) (same_key k (key_of a))) ∙ and_false (is_empty a.value))
 
-    alike : (ks : List SettingKey) → map (λ k. (k, values_of k (before ++ a ∷ after))) ks ≡ map (λ k. (k, values_of k (before ++ after))) ks
+    alike : (ks : List SettingKey) → map {B = SettingKey × List Text} (λ k. (k, values_of k (before ++ a ∷ after))) ks ≡ map (λ k. (k, values_of k (before ++ after))) ks
     alike [] = refl
-    alike (k ∷ ks) = ap (λ v. (k, v) ∷ map (λ k. (k, values_of k (before ++ a ∷ after))) ks) (stays k) ∙ ap (λ l. (k, values_of k (before ++ after)) ∷ l) (alike ks)
+    alike (k ∷ ks) =
+        let behind : SettingMap = map (λ k. (k, values_of k (before ++ a ∷ after))) ks in
+        ap (λ v. (k, v) ∷ behind) (stays k) ∙ ap (λ l. (k, values_of k (before ++ after)) ∷ l) (alike ks)
 
 -- An empty value of a key that sets dependencies changes nothing.
 abbrev pub EmptyDependenciesChangeNothing : Type 0
