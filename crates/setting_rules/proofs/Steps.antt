@@ -70,9 +70,6 @@ module _ (c a : ℕ) (p : List Assignment) (x : Assignment) where
       → changed_by (effect (rule_of x.section x.key) live x.value) (pairs (kept c a p) (keys_of p)) (key_of x) ≡ pairs (kept c a (p ++ x ∷ [])) (keys_of (p ++ x ∷ []))
   step live l = by (rule_of x.section x.key) refl l
     where
-      was : SettingMap
-      was = pairs (kept c a p) (keys_of p)
-
       by : (r : KeyRule) → rule_of x.section x.key ≡ r → live ≡ nat_le (start_of c a r) (length p) → changed_by (effect r live x.value) (pairs (kept c a p) (keys_of p)) (key_of x) ≡ pairs (kept c a (p ++ x ∷ [])) (keys_of (p ++ x ∷ []))
       by Ignored e l = no_change c a p x (counts_as Ignored e) (never_resets Ignored e (λ b. refl))
       by Dependency e l = at (is_empty x.value) refl

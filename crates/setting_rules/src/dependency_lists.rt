@@ -18,7 +18,7 @@ use unit_name::UnitName;
 pub(crate) const UNIT: &[u8] = b"Unit";
 
 /// The units that a unit depends on in one way.
-#[derive(Debug, Drop)]
+#[derive(Debug, PartialEq, Eq, Drop)]
 pub struct DependencyList {
     /// The way.
     pub kind: DepKind,
@@ -27,7 +27,7 @@ pub struct DependencyList {
 }
 
 /// The units that a unit's settings name.
-#[derive(Drop)]
+#[derive(Debug, PartialEq, Eq, Drop)]
 pub struct Dependencies {
     /// A list for each kind that a unit file may set, in the order of the kinds. It may be empty.
     pub lists: Items<DependencyList>,

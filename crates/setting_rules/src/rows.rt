@@ -22,7 +22,7 @@ pub struct Row {
 }
 
 /// The values of a unit's keys.
-#[derive(Drop)]
+#[derive(Debug, PartialEq, Eq, Drop)]
 pub struct Values {
     /// A row for each value, in the order of the keys and of each key's values.
     pub rows: Items<Row>,

@@ -54,8 +54,10 @@ struct FamilyStarts {
 
 impl FamilyStarts {
     fn of(assignments: &[Assignment]) -> FamilyStarts
-        ensures conditions { drop result.conditions assignments.now ≡ behind_last (resets_family KeyRule.Condition) assignments.now }
-        ensures assertions { drop result.assertions assignments.now ≡ behind_last (resets_family KeyRule.Assertion) assignments.now }
+        ensures conditions { drop result.conditions assignments.now
+            ≡ behind_last (resets_family KeyRule.Condition) assignments.now }
+        ensures assertions { drop result.assertions assignments.now
+            ≡ behind_last (resets_family KeyRule.Assertion) assignments.now }
     {
         FamilyStarts {
             conditions: family_start(assignments, KeyRule::Condition),
@@ -108,11 +110,17 @@ impl Settings {
     }
 
     // Takes one more assignment, whose key has this rule. The value of a family counts where it is live.
-    fn take(&mut self, alloc: Global, assignment: &Assignment, rule: KeyRule, live: bool) -> Result<(), AllocError>
+    fn take(
+        &mut self,
+        alloc: Global,
+        assignment: &Assignment,
+        rule: KeyRule,
+        live: bool,
+    ) -> Result<(), AllocError>
         ensures map { OnOk result (self.new.map
             ≡ changed_by (effect rule live assignment.now.value) self.old.map (key_of assignment.now)) }
-        ensures notes { OnOk result (self.new.notes
-            ≡ self.old.notes ++ (if is_bad_by rule assignment.now.value then note_on (key_of assignment.now) BadBoolean ∷ [] else [])) }
+        ensures notes { OnOk result (self.new.notes ≡ self.old.notes
+            ++ (if is_bad_by rule assignment.now.value then note_on (key_of assignment.now) BadBoolean ∷ [] else [])) }
     {
         let is_empty = assignment.value.as_slice().is_empty();
         match rule {
@@ -148,7 +156,7 @@ impl Settings {
     // Takes an assignment of a family: its value counts where it is live and isn't empty.
     fn take_in_family(&mut self, alloc: Global, assignment: &Assignment, live: bool) -> Result<(), AllocError>
         ensures map { OnOk result (self.new.map
-            ≡ changed (λ values. if live && not (is_empty assignment.now.value) then values ++ assignment.now.value ∷ [] else values) self.old.map (key_of assignment.now)) }
+            ≡ changed_by (effect KeyRule.Condition live assignment.now.value) self.old.map (key_of assignment.now)) }
         ensures notes { OnOk result (self.new.notes ≡ self.old.notes) }
     {
         if live && !assignment.value.as_slice().is_empty() {
@@ -163,8 +171,8 @@ impl Settings {
     fn switch(&mut self, alloc: Global, assignment: &Assignment) -> Result<(), AllocError>
         ensures map { OnOk result (self.new.map
             ≡ changed_by (effect KeyRule.Switch false assignment.now.value) self.old.map (key_of assignment.now)) }
-        ensures notes { OnOk result (self.new.notes
-            ≡ self.old.notes ++ (if is_bad_by KeyRule.Switch assignment.now.value then note_on (key_of assignment.now) BadBoolean ∷ [] else [])) }
+        ensures notes { OnOk result (self.new.notes ≡ self.old.notes
+            ++ (if is_bad_by KeyRule.Switch assignment.now.value then note_on (key_of assignment.now) BadBoolean ∷ [] else [])) }
     {
         let key = SettingKey::of(assignment)?;
         if boolean(assignment.value.as_slice()).is_some() {
