@@ -6,7 +6,7 @@ use Rattle.std.proofs.lemmas.List.Elements.{filter-append}
 use Rattle.setting_rules.specs.declared.keys.SettingKey.{SettingKey}
 use Rattle.setting_rules.specs.Rules.{Text}
 use Rattle.setting_rules.specs.Maps.{SettingMap, same_key, changed}
-use Rattle.setting_rules.specs.KeyLaws.{same_key_is, same_key_itself, same_key_turned}
+use Rattle.setting_rules.specs.KeyLaws.{same_key_is, same_key_turned}
 use Rattle.setting_rules.specs.Settings.{firsts}
 
 -- the keys with one more at the end, unless it is there

@@ -1,23 +1,20 @@
 -- What was kept of the values of each key so far, and what one more assignment makes of it.
-use Rattle.std.proofs.Common.{◌≡◌, ℕ, zero, suc, ◌+◌, ◌<◌, ◌≤◌, ◌-◌, Bool, true, false, cond, ◌&&◌, ◌||◌, not, nat_le, Option, Some, None, is_some, List, [], ◌∷◌, ◌++◌, map, filter, length, drop, refl, ap, sym, ◌∙◌, append-nil, length-append, arith}
+use Rattle.std.proofs.Common.{◌≡◌, ℕ, ◌<◌, ◌≤◌, Bool, true, false, cond, ◌&&◌, ◌||◌, not, nat_le, List, [], ◌∷◌, ◌++◌, map, filter, length, drop, refl, ap, sym, ◌∙◌, append-nil, length-append, arith}
 use Rattle.std.specs.List.{list_any}
 use Rattle.std.proofs.lemmas.Bool.{true≢false}
 use Rattle.std.proofs.lemmas.Bool.Decides.{nat_tests}
 use Rattle.std.proofs.lemmas.List.{map-append, drop-append-le}
-use Rattle.std.proofs.Math.Seq.{drop-append_seam}
 use Rattle.std.proofs.lemmas.List.Elements.{filter-append}
-use Rattle.std.proofs.lemmas.List.Folds.{list_any-append}
 use Rattle.section_reader.specs.declared.assignments.Assignment.{Assignment}
 use Rattle.setting_rules.specs.declared.keys.SettingKey.{SettingKey}
 use Rattle.setting_rules.specs.declared.rules.KeyRule.{KeyRule}
 use Rattle.setting_rules.specs.declared.rules.KeyRule.TheVariants.{Ignored, Dependency, Switch, Condition, Assertion, Plain}
-use Rattle.setting_rules.specs.Rules.{Text, is_empty, boolean, rule_of}
-use Rattle.setting_rules.specs.Maps.{SettingMap, same_key, changed}
-use Rattle.setting_rules.specs.KeyLaws.{same_key_itself, same_key_turned}
-use Rattle.setting_rules.specs.Settings.{key_of, rule_at, counts, counts_by, emptied_by, resets, gives, given, behind_last, last_alone, counted, keys_of, firsts}
+use Rattle.setting_rules.specs.Rules.{Text, is_empty, rule_of}
+use Rattle.setting_rules.specs.Maps.{same_key, changed}
+use Rattle.setting_rules.specs.KeyLaws.{same_key_turned}
+use Rattle.setting_rules.specs.Settings.{key_of, rule_at, counts, emptied_by, resets, gives, given, behind_last, last_alone, counted, keys_of, firsts}
 use Rattle.setting_rules.specs.ResetLaws.{behind_last-push, given-append, filter-none, filter-behind_last-none, filter-drop-none}
-use Rattle.setting_rules.specs.Effects.{effect, changed_by, start_of}
-use Rattle.setting_rules.proofs.Firsts.{pairs, pairs_alike, changed_pairs, firsts-push, any_firsts, apart_firsts, with_last}
+use Rattle.setting_rules.proofs.Firsts.{pairs, pairs_alike, changed_pairs, firsts-push, any_firsts, apart_firsts}
 use Rattle.setting_rules.proofs.Starts.{drop_past}
 
 pub and_false : (b : Bool) → (b && false) ≡ false

@@ -1,20 +1,18 @@
 -- Rows and notes, one value or one key at a time.
-use Rattle.std.proofs.Common.{◌≡◌, ℕ, zero, suc, ◌+◌, ◌<◌, Bool, true, false, cond, Option, Some, None, is_none, List, [], ◌∷◌, ◌++◌, map, filter, length, take, drop, slice_get, get_or, find, refl, ap, sym, ◌∙◌, append-nil, append_assoc, arith, add-one}
+use Rattle.std.proofs.Common.{◌≡◌, ℕ, zero, suc, ◌+◌, ◌<◌, true, false, cond, Some, is_none, List, [], ◌∷◌, ◌++◌, map, filter, length, take, drop, slice_get, get_or, find, ap, sym, ◌∙◌, append-nil, append_assoc, add-one}
 use Rattle.std.specs.List.{flat_map, filter_map}
-use Rattle.std.proofs.lemmas.List.{map-append, take_more, drop_more}
+use Rattle.std.proofs.lemmas.List.{map-append, take_more}
 use Rattle.std.proofs.lemmas.List.Elements.{filter-append, filter_map-append}
 use Rattle.std.proofs.lemmas.Grind.{flat_map-append}
 use Rattle.std.proofs.lemmas.Option.{none-some}
 use Rattle.unit_name.specs.Names.{Name}
 use Rattle.unit_name.specs.Specifiers.{expand}
 use Rattle.setting_rules.specs.declared.keys.SettingKey.{SettingKey}
-use Rattle.setting_rules.specs.declared.notes.SettingNote.{SettingNote}
 use Rattle.setting_rules.specs.declared.notes.SettingNoteKind.TheVariants.{BadEscape}
-use Rattle.setting_rules.specs.declared.rows.Row.{Row}
 use Rattle.setting_rules.specs.Maps.{SettingMap, same_key, values_at, texts_or_none}
 use Rattle.setting_rules.specs.Rules.{Text}
 use Rattle.setting_rules.specs.Settings.{note_on}
-use Rattle.setting_rules.specs.Rows.{row, rows_at, escape_notes_at, is_dependency, rows_of, escape_notes}
+use Rattle.setting_rules.specs.Rows.{row, rows_at, escape_notes_at, is_dependency}
 
 module _ {X : Type 0} where
   -- the elements up to and with the one at a place

@@ -1,5 +1,5 @@
 -- Names that are sorted and freed of repeats.
-use Rattle.std.proofs.Common.{◌≡◌, true, List, subst, sym, ◌∙◌, refl}
+use Rattle.std.proofs.Common.{◌≡◌, List, subst, sym, ◌∙◌, refl}
 use Rattle.std.specs.Prelude.{IsPermutation, IsSorted}
 use Rattle.std.specs.List.{dedup, list_any}
 use Rattle.std.specs.List.Sorted.{IsStrictlySortedBy}

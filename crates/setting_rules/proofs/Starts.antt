@@ -1,7 +1,6 @@
 -- Where a family's values count from.
 use Rattle.std.proofs.Common.{◌≡◌, ℕ, zero, suc, ◌+◌, ◌<◌, ◌≤◌, Bool, true, false, cond, List, [], ◌∷◌, ◌++◌, length, take, drop, get_or, refl, ap, sym, ◌∙◌, ◌⊎◌, inl, inr, arith}
 use Rattle.std.proofs.lemmas.List.{take_more, drop-append-le, length-take-le}
-use Rattle.std.proofs.Math.Seq.{drop-append-add}
 use Rattle.setting_rules.specs.Settings.{behind_last}
 use Rattle.setting_rules.specs.ResetLaws.{behind_last-push}
 

@@ -1,5 +1,5 @@
 -- One more assignment, and all of them.
-use Rattle.std.proofs.Common.{◌≡◌, ℕ, ◌+◌, ◌<◌, ◌≤◌, ◌-◌, Bool, true, false, cond, ◌&&◌, ◌||◌, not, nat_le, is_some, is_none, Option, Some, None, List, [], ◌∷◌, ◌++◌, map, filter, length, take, drop, get_or, refl, ap, sym, ◌∙◌, append-nil, length-append, arith}
+use Rattle.std.proofs.Common.{◌≡◌, ℕ, ◌+◌, ◌<◌, ◌≤◌, ◌-◌, Bool, true, false, cond, ◌&&◌, ◌||◌, not, nat_le, is_some, Some, None, List, [], ◌∷◌, ◌++◌, map, filter, length, take, drop, get_or, refl, ap, sym, ◌∙◌, length-append, arith}
 use Rattle.std.specs.List.{list_any}
 use Rattle.std.proofs.lemmas.Bool.{true≢false, and_from}
 use Rattle.std.proofs.lemmas.Bool.Decides.{nat_tests}
@@ -13,13 +13,13 @@ use Rattle.setting_rules.specs.declared.notes.SettingNoteKind.TheVariants.{BadBo
 use Rattle.setting_rules.specs.declared.rules.KeyRule.{KeyRule}
 use Rattle.setting_rules.specs.declared.rules.KeyRule.TheVariants.{Ignored, Dependency, Switch, Condition, Assertion, Plain}
 use Rattle.setting_rules.specs.Rules.{Text, is_empty, boolean, rule_of, same_rule}
-use Rattle.setting_rules.specs.Maps.{SettingMap, same_key, changed}
+use Rattle.setting_rules.specs.Maps.{SettingMap, same_key}
 use Rattle.setting_rules.specs.KeyLaws.{same_key_itself}
 use Rattle.setting_rules.specs.Settings.{key_of, rule_at, counts, counts_by, emptied_by, resets, gives, given, behind_last, last_alone, counted, keys_of, values_of, settings_of, boolean_notes, is_bad, is_bad_by, note_on}
 use Rattle.setting_rules.specs.ResetLaws.{behind_last-push, behind_last-none}
 use Rattle.setting_rules.specs.Effects.{effect, changed_by, start_of, resets_family}
 use Rattle.setting_rules.proofs.Firsts.{pairs, pairs_alike}
-use Rattle.setting_rules.proofs.Kept.{kept, live_by, no_change, change, given_taken, given_passed, given_drop_passed, drop_later, and_false}
+use Rattle.setting_rules.proofs.Kept.{kept, live_by, no_change, change, given_taken, given_passed, drop_later, and_false}
 
 last_alone-push : (values : List Text) (v : Text) → last_alone (values ++ v ∷ []) ≡ v ∷ []
 last_alone-push values v =

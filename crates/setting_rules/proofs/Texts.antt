@@ -1,5 +1,5 @@
 -- Texts without bytes.
-use Rattle.std.proofs.Common.{◌≡◌, ◌==◌, false, [], ◌∷◌, length, refl, arith, ne_eqb}
+use Rattle.std.proofs.Common.{◌≡◌, ◌==◌, [], ◌∷◌, length, refl, arith, ne_eqb}
 use Rattle.setting_rules.specs.Rules.{Text, is_empty}
 
 pub none_left : (text : Text) → (length text == 0) ≡ is_empty text

@@ -1,5 +1,5 @@
 -- The units that a unit's settings name.
-use Rattle.std.specs.Prelude.{ℕ, Bool, true, false, if◌then◌else◌, Option, Some, None, Result, Ok, Err, List, [], ◌∷◌, codes, map}
+use Rattle.std.specs.Prelude.{if◌then◌else◌, Option, Some, None, Result, Ok, Err, List, codes, map}
 use Rattle.std.specs.List.{flat_map, filter_map}
 use Rattle.std.specs.Result.{result_ok}
 use Rattle.std.specs.FinMap as finmap

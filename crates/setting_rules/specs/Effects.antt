@@ -1,12 +1,11 @@
 -- What one assignment does to the values of its key, and what was kept of the values before an assignment.
-use Rattle.std.specs.Prelude.{◌≡◌, ℕ, Bool, false, ◌&&◌, not, if◌then◌else◌, Option, Some, None, is_some, List, [], ◌∷◌, ◌++◌, map, filter, drop}
+use Rattle.std.specs.Prelude.{ℕ, Bool, ◌&&◌, not, if◌then◌else◌, Option, Some, None, is_some, List, [], ◌∷◌, ◌++◌}
 use Rattle.section_reader.specs.declared.assignments.Assignment.{Assignment}
 use Rattle.setting_rules.specs.declared.keys.SettingKey.{SettingKey}
 use Rattle.setting_rules.specs.declared.rules.KeyRule.{KeyRule}
 use Rattle.setting_rules.specs.declared.rules.KeyRule.TheVariants.{Ignored, Dependency, Switch, Condition, Assertion, Plain}
 use Rattle.setting_rules.specs.Maps.{SettingMap, changed}
 use Rattle.setting_rules.specs.Rules.{Text, is_empty, boolean, rule_of, same_rule}
-use Rattle.setting_rules.specs.Settings.{key_of}
 
 -- what a value does to those before it of its key; nothing, where it doesn't count. A value of a family counts where it is
 -- live: where no later one empties the family.

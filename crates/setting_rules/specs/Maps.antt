@@ -1,5 +1,5 @@
 -- The values of keys, as a list of pairs in which each key stands once.
-use Rattle.std.specs.Prelude.{ℕ, suc, Bool, ◌&&◌, if◌then◌else◌, Option, Some, None, List, [], ◌∷◌, ◌++◌, map, find}
+use Rattle.std.specs.Prelude.{ℕ, suc, Bool, ◌&&◌, if◌then◌else◌, Option, Some, None, List, [], ◌∷◌, map, find}
 use Rattle.std.specs.Str.{bytes_eq}
 use Rattle.setting_rules.specs.declared.keys.SettingKey.{SettingKey}
 use Rattle.setting_rules.specs.Rules.{Text}

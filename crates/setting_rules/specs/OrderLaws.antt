@@ -1,10 +1,10 @@
 -- Names in byte order, each once.
-use Rattle.std.proofs.Common.{◌≡◌, Bool, true, false, ◌||◌, Option, is_some, List, [], ◌∷◌, map, IsTrue, T, refl, ap, sym, subst, ◌∙◌, inl, inr}
+use Rattle.std.proofs.Common.{◌≡◌, Bool, true, false, ◌||◌, is_some, List, [], ◌∷◌, map, IsTrue, T, refl, ap, sym, ◌∙◌, inl, inr}
 use Rattle.std.specs.Prelude.{◌↔◌, ◌⊎◌}
 use Rattle.std.specs.List.{list_any, Contains, AllByRecursion}
 use Rattle.std.specs.List.Sorted.{IsStrictlySortedBy}
 use Rattle.std.specs.FinMap as finmap
-use Rattle.std.specs.FinMap.{find, is_sorted, contains_key-keys, get-from_entries, entries_sorted}
+use Rattle.std.specs.FinMap.{is_sorted, contains_key-keys, get-from_entries, entries_sorted}
 use Rattle.std.specs.FinMap.Entries.{is_some-find, below_all}
 use Rattle.std.specs.Cmp.Lexicographic.{nat_list_cmp_total}
 use Rattle.std.specs.Ordering.{eq_by_cmp, is_eq}
@@ -72,6 +72,7 @@ pub names_rise : NamesRise
 names_rise names = rising _ (is_true _ (entries_sorted (finmap.from_entries {X = Unit {0}} {R = name_cmp} (map (λ name. (name, tt)) names))))
 
 pub names_stay : NamesStay
-names_stay names z =
-    (λ c. contains_from_among z names (IsAmong-from_any z names (sym (any-in_byte_order z names) ∙ any-from_IsAmong z (in_byte_order names) (among_from_contains z (in_byte_order names) c))),
-    λ c. contains_from_among z (in_byte_order names) (IsAmong-from_any z (in_byte_order names) (any-in_byte_order z names ∙ any-from_IsAmong z names (among_from_contains z names c))))
+names_stay names z = (
+  λ c. contains_from_among z names (IsAmong-from_any z names (sym (any-in_byte_order z names) ∙ any-from_IsAmong z (in_byte_order names) (among_from_contains z (in_byte_order names) c))),
+  λ c. contains_from_among z (in_byte_order names) (IsAmong-from_any z (in_byte_order names) (any-in_byte_order z names ∙ any-from_IsAmong z names (among_from_contains z names c))),
+)

@@ -1,8 +1,8 @@
 -- What resets leave.
-use Rattle.std.proofs.Common.{◌≡◌, ℕ, zero, suc, ◌-◌, ◌<◌, ◌≤◌, Bool, true, false, cond, ◌&&◌, ◌||◌, not, List, [], ◌∷◌, ◌++◌, map, filter, find, Some, length, drop, refl, ap, sym, ◌∙◌, append_assoc, arith, add-one}
+use Rattle.std.proofs.Common.{◌≡◌, ℕ, zero, suc, Bool, true, false, cond, ◌&&◌, ◌||◌, not, List, [], ◌∷◌, ◌++◌, map, filter, find, Some, drop, refl, ap, sym, ◌∙◌}
 use Rattle.std.specs.List.{list_any}
 use Rattle.std.proofs.lemmas.Bool.{true≢false}
-use Rattle.std.proofs.lemmas.List.{map-append, drop-append-le}
+use Rattle.std.proofs.lemmas.List.{map-append}
 use Rattle.std.proofs.lemmas.List.Elements.{filter-append}
 use Rattle.std.proofs.lemmas.List.Folds.{list_any-append}
 use Rattle.section_reader.specs.declared.assignments.Assignment.{Assignment}
@@ -12,7 +12,7 @@ use Rattle.setting_rules.specs.declared.rules.KeyRule.TheVariants.{Ignored, Depe
 use Rattle.setting_rules.specs.Rules.{Text, is_empty, rule_of}
 use Rattle.setting_rules.specs.Maps.{SettingMap, same_key, values_at, texts_or_none}
 use Rattle.setting_rules.specs.KeyLaws.{same_key_is}
-use Rattle.setting_rules.specs.Settings.{behind_last, key_of, counts, counts_by, emptied_by, gives, given, resets, counted, last_alone, rule_at, firsts, values_of, keys_of, settings_of}
+use Rattle.setting_rules.specs.Settings.{behind_last, key_of, counts, counts_by, emptied_by, gives, given, resets, counted, rule_at, firsts, values_of, keys_of, settings_of}
 
 module _ {X : Type 0} (p : X → Bool) where
   -- where none passes all stands behind

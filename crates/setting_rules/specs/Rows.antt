@@ -1,5 +1,5 @@
 -- The rows of a unit's settings: the values with the specifiers of its name expanded.
-use Rattle.std.specs.Prelude.{ℕ, Bool, true, false, if◌then◌else◌, Option, Some, None, is_none, List, [], ◌∷◌, map, filter}
+use Rattle.std.specs.Prelude.{Bool, if◌then◌else◌, is_none, List, [], map, filter}
 use Rattle.std.specs.List.{flat_map, filter_map}
 use Rattle.unit_name.specs.Names.{Name}
 use Rattle.unit_name.specs.Specifiers.{expand}

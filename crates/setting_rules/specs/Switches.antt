@@ -1,5 +1,5 @@
 -- Whether a unit refuses a manual start.
-use Rattle.std.specs.Prelude.{ℕ, ◌-◌, Bool, false, Option, Some, None, unwrap_or, List, codes, length, slice_get}
+use Rattle.std.specs.Prelude.{◌-◌, Bool, false, Option, Some, None, unwrap_or, List, codes, length, slice_get}
 use Rattle.setting_rules.specs.declared.keys.SettingKey.{SettingKey}
 use Rattle.setting_rules.specs.Maps.{SettingMap, values_at}
 use Rattle.setting_rules.specs.Rules.{Text, boolean}

@@ -1,8 +1,7 @@
 -- What words and kinds are.
-use Rattle.std.proofs.Common.{◌≡◌, ℕ, Bool, true, false, cond, Option, Some, None, List, [], ◌∷◌, refl, ap, ◌∙◌, if◌then◌else◌}
-use Rattle.std.specs.List.{list_any, Contains}
+use Rattle.std.proofs.Common.{◌≡◌, false, Some, None, refl, ap, if◌then◌else◌}
+use Rattle.std.specs.List.{list_any}
 use Rattle.unit_name.specs.Names.{Name}
-use Rattle.unit_name.specs.Specifiers.{expand}
 use Rattle.unit_name.specs.SpecifierLaws.{is_percent, plain_texts_stay}
 use Rattle.setting_rules.specs.declared.kinds.DepKind.{DepKind}
 use Rattle.setting_rules.specs.declared.kinds.DepKind.TheVariants.{Before, After, Wants, WantedBy, Requires, RequiredBy, Requisite, RequisiteOf, BindsTo, BoundBy, PartOf, ConsistsOf, Conflicts, ConflictedBy, OnFailure, OnFailureOf, PropagatesReloadTo, ReloadPropagatedFrom}

@@ -1,9 +1,9 @@
 -- What the words of a dependency's values name.
-use Rattle.std.specs.Prelude.{ℕ, Option, Some, None, Result, Ok, Err, if◌then◌else◌, List, filter}
+use Rattle.std.specs.Prelude.{ℕ, Option, Some, if◌then◌else◌, List, filter}
 use Rattle.std.specs.List.{slice_split}
 use Rattle.unit_name.specs.declared.names.Shape.{Shape}
 use Rattle.unit_name.specs.declared.names.Shape.TheVariants.{Plain, Template, Instance}
-use Rattle.unit_name.specs.Names.{Name, is_name, is_empty, shape, prefix, instance}
+use Rattle.unit_name.specs.Names.{Name, is_empty, shape, prefix, instance}
 use Rattle.unit_name.specs.Forms.{with_instance}
 use Rattle.section_reader.specs.Parts.{is_white, has_bytes}
 

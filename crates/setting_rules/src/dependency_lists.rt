@@ -48,7 +48,13 @@ impl Dependencies {
     }
 
     /// Adds the list of a kind, whose key has these values. It fails for want of memory alone.
-    pub(crate) fn add_kind(&mut self, alloc: Global, kind: DepKind, values: &[Bytes], unit: &UnitName) -> Result<(), AllocError>
+    pub(crate) fn add_kind(
+        &mut self,
+        alloc: Global,
+        kind: DepKind,
+        values: &[Bytes],
+        unit: &UnitName,
+    ) -> Result<(), AllocError>
         ensures lists { OnOk result (self.new.lists ≡ self.old.lists
             ++ record { kind = kind; names = in_byte_order (names_by unit.now (flat_map words_of values.now)) } ∷ []) }
         ensures notes { OnOk result (self.new.notes ≡ self.old.notes
@@ -56,7 +62,13 @@ impl Dependencies {
     {
         let mut names = Vec::new(alloc);
         for value in values {
-            self.add_words(alloc, &mut names, kind, &words(alloc, value.as_slice())?, unit)?;
+            self.add_words(
+                alloc,
+                &mut names,
+                kind,
+                &words(alloc, value.as_slice())?,
+                unit,
+            )?;
         }
         self.lists.push(DependencyList {
             kind,
@@ -106,7 +118,12 @@ impl Dependencies {
     }
 
     // Adds a note on a word of a kind's key.
-    fn add_note(&mut self, alloc: Global, kind: DepKind, fault: SettingNoteKind) -> Result<(), AllocError>
+    fn add_note(
+        &mut self,
+        alloc: Global,
+        kind: DepKind,
+        fault: SettingNoteKind,
+    ) -> Result<(), AllocError>
         ensures notes { OnOk result (self.new.notes ≡ self.old.notes ++ note_on (key_for kind) fault ∷ []) }
         ensures lists { OnOk result (self.new.lists ≡ self.old.lists) }
     {

@@ -27,7 +27,11 @@ pub fn values(alloc: Global, settings: &Settings, unit: &UnitName) -> Result<Val
 }
 
 /// A text with the specifiers of a unit's name expanded. None where it can't be. A text without a percent sign is not copied.
-pub(crate) fn expanded(alloc: Global, text: &Bytes, unit: &UnitName) -> Result<Option<Bytes>, AllocError>
+pub(crate) fn expanded(
+    alloc: Global,
+    text: &Bytes,
+    unit: &UnitName,
+) -> Result<Option<Bytes>, AllocError>
     ensures expanded { IfOk result (λ value. value ≡ expand text.now unit.now) }
 {
     if !text.as_slice().contains(&b'%') {

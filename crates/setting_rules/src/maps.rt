@@ -94,7 +94,12 @@ impl SettingMap {
     }
 
     /// Puts a value behind those of a key, which is entered unless it is there. It fails for want of memory alone.
-    pub(crate) fn add(&mut self, alloc: Global, key: SettingKey, value: Bytes) -> Result<(), AllocError>
+    pub(crate) fn add(
+        &mut self,
+        alloc: Global,
+        key: SettingKey,
+        value: Bytes,
+    ) -> Result<(), AllocError>
         ensures map { OnOk result (self.new ≡ changed (λ values. values ++ value ∷ []) self.old key) }
     {
         let place = self.place(alloc, key)?;
@@ -112,7 +117,12 @@ impl SettingMap {
     }
 
     /// Gives a key this value alone; it is entered unless it is there. It fails for want of memory alone.
-    pub(crate) fn replace(&mut self, alloc: Global, key: SettingKey, value: Bytes) -> Result<(), AllocError>
+    pub(crate) fn replace(
+        &mut self,
+        alloc: Global,
+        key: SettingKey,
+        value: Bytes,
+    ) -> Result<(), AllocError>
         ensures map { OnOk result (self.new ≡ changed (λ _. value ∷ []) self.old key) }
     {
         let place = self.place(alloc, key)?;

@@ -16,7 +16,11 @@ use unit_name::UnitName;
 ///
 /// For each kind a walk over the keys; then the time grows as the bytes of the values and of what they expand to, and as
 /// O(n log n) in the names of a kind.
-pub fn dependencies(alloc: Global, settings: &Settings, unit: &UnitName) -> Result<Dependencies, AllocError>
+pub fn dependencies(
+    alloc: Global,
+    settings: &Settings,
+    unit: &UnitName,
+) -> Result<Dependencies, AllocError>
     ensures lists { IfOk result (λ all. all.lists ≡ lists_of settings.now.map unit.now) }
     ensures notes { IfOk result (λ all. all.notes ≡ word_notes settings.now.map unit.now) }
 {

@@ -43,7 +43,13 @@ impl Values {
     }
 
     /// Adds the values of a key, unless it sets dependencies. It fails for want of memory alone.
-    pub(crate) fn add_key(&mut self, alloc: Global, key: &SettingKey, texts: &[Bytes], unit: &UnitName) -> Result<(), AllocError>
+    pub(crate) fn add_key(
+        &mut self,
+        alloc: Global,
+        key: &SettingKey,
+        texts: &[Bytes],
+        unit: &UnitName,
+    ) -> Result<(), AllocError>
         ensures rows { OnOk result (self.new.rows
             ≡ self.old.rows ++ (if is_dependency key.now then [] else rows_at unit.now key.now texts.now)) }
         ensures notes { OnOk result (self.new.notes
@@ -57,7 +63,13 @@ impl Values {
     }
 
     // Adds values of a key.
-    fn add_values(&mut self, alloc: Global, key: &SettingKey, texts: &[Bytes], unit: &UnitName) -> Result<(), AllocError>
+    fn add_values(
+        &mut self,
+        alloc: Global,
+        key: &SettingKey,
+        texts: &[Bytes],
+        unit: &UnitName,
+    ) -> Result<(), AllocError>
         ensures rows { OnOk result (self.new.rows ≡ self.old.rows ++ rows_at unit.now key.now texts.now) }
         ensures notes { OnOk result (self.new.notes ≡ self.old.notes ++ escape_notes_at unit.now key.now texts.now) }
     {
@@ -68,7 +80,13 @@ impl Values {
     }
 
     // Adds a value of a key, or a note on it.
-    fn add_value(&mut self, alloc: Global, key: &SettingKey, text: &Bytes, unit: &UnitName) -> Result<(), AllocError>
+    fn add_value(
+        &mut self,
+        alloc: Global,
+        key: &SettingKey,
+        text: &Bytes,
+        unit: &UnitName,
+    ) -> Result<(), AllocError>
         ensures rows { OnOk result (self.new.rows ≡ self.old.rows ++ rows_at unit.now key.now (text.now ∷ [])) }
         ensures notes { OnOk result (self.new.notes ≡ self.old.notes ++ escape_notes_at unit.now key.now (text.now ∷ [])) }
     {

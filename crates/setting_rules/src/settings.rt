@@ -131,7 +131,9 @@ impl Settings {
                 }
             }
             KeyRule::Switch => self.switch(alloc, assignment)?,
-            KeyRule::Condition | KeyRule::Assertion => self.take_in_family(alloc, assignment, live)?,
+            KeyRule::Condition | KeyRule::Assertion => self.take_in_family(
+                alloc, assignment, live,
+            )?,
             KeyRule::Plain => {
                 if is_empty {
                     self.map.clear(alloc, SettingKey::of(assignment)?)?;
@@ -154,7 +156,12 @@ impl Settings {
     }
 
     // Takes an assignment of a family: its value counts where it is live and isn't empty.
-    fn take_in_family(&mut self, alloc: Global, assignment: &Assignment, live: bool) -> Result<(), AllocError>
+    fn take_in_family(
+        &mut self,
+        alloc: Global,
+        assignment: &Assignment,
+        live: bool,
+    ) -> Result<(), AllocError>
         ensures map { OnOk result (self.new.map
             ≡ changed_by (effect KeyRule.Condition live assignment.now.value) self.old.map (key_of assignment.now)) }
         ensures notes { OnOk result (self.new.notes ≡ self.old.notes) }
@@ -178,7 +185,8 @@ impl Settings {
         if boolean(assignment.value.as_slice()).is_some() {
             self.map.replace(alloc, key, assignment.value.try_clone()?)
         } else {
-            self.notes.push(SettingNote::on(key, SettingNoteKind::BadBoolean))
+            self.notes
+                .push(SettingNote::on(key, SettingNoteKind::BadBoolean))
         }
     }
 }

@@ -9,7 +9,11 @@ use unit_name::{ExpandFault, NameFault, UnitName, expand};
 
 /// What a word of a unit's dependencies names, or what is wrong with it. It refuses for want of memory alone.
 #[tactic(auto, unfolding(crate::specs::Dependencies::named_by))]
-pub(crate) fn named_by(alloc: Global, word: &[u8], unit: &UnitName) -> Result<Result<UnitName, SettingNoteKind>, AllocError>
+pub(crate) fn named_by(
+    alloc: Global,
+    word: &[u8],
+    unit: &UnitName,
+) -> Result<Result<UnitName, SettingNoteKind>, AllocError>
     ensures named { IfOk result (λ named. named ≡ named_by unit.now word.now) }
 {
     let text = match expand(alloc, word, unit) {

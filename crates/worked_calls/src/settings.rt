@@ -6,7 +6,8 @@ use crate::calls::{CallFault, Words, append_text};
 use byte_strings::Bytes;
 use section_reader::{Assignment, Items, read};
 use setting_rules::{
-    DepKind, DependencyList, Row, SettingNote, Settings, apply, dependencies, for_unit, refuses_manual_start, values,
+    DepKind, DependencyList, Row, SettingNote, Settings, apply, dependencies, for_unit,
+    refuses_manual_start, values,
 };
 use std::alloc::{AllocError, Global};
 use unit_name::UnitName;
@@ -70,7 +71,12 @@ fn append_notes(alloc: Global, out: &mut Vec<u8>, notes: &[SettingNote]) -> Resu
 }
 
 // Writes a key with its values.
-fn append_entry(out: &mut Vec<u8>, section: &Bytes, key: &Bytes, texts: &[Bytes]) -> Result<(), AllocError> {
+fn append_entry(
+    out: &mut Vec<u8>,
+    section: &Bytes,
+    key: &Bytes,
+    texts: &[Bytes],
+) -> Result<(), AllocError> {
     append_key(out, section, key)?;
     out.push(b'=')?;
     for text in texts {

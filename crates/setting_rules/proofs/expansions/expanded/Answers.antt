@@ -1,4 +1,4 @@
-use Rattle.std.proofs.Common.{◌≡◌, ◌∙◌, ap, sym, Some}
+use Rattle.std.proofs.Common.{◌∙◌, ap, sym, Some}
 use Rattle.std.specs.List.{list_any}
 use Rattle.unit_name.specs.SpecifierLaws.{is_percent, plain_texts_stay}
 use Rattle.setting_rules.proofs.expansions.expanded.Goals as goal

@@ -1,4 +1,3 @@
-use Rattle.std.proofs.Common.{◌≡◌}
 use Rattle.setting_rules.specs.Rows.{rows_at, escape_notes_at, rows_of, escape_notes}
 use Rattle.setting_rules.proofs.RowLemmas.{keys_more}
 use Rattle.setting_rules.proofs.expansions.values.Goals as goal

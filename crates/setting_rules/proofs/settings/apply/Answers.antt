@@ -1,4 +1,4 @@
-use Rattle.std.proofs.Common.{◌≡◌, ◌∙◌, sym, ap, take}
+use Rattle.std.proofs.Common.{◌∙◌, ap}
 use Rattle.std.proofs.lemmas.List.{take_all}
 use Rattle.setting_rules.specs.Rules.{rule_of}
 use Rattle.setting_rules.specs.Settings.{keys_of, boolean_notes}

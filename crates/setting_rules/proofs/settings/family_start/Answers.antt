@@ -1,4 +1,4 @@
-use Rattle.std.proofs.Common.{◌≡◌, sym, ◌∙◌, inl, inr}
+use Rattle.std.proofs.Common.{sym, ◌∙◌, inl, inr}
 use Rattle.setting_rules.specs.Effects.{resets_family}
 use Rattle.setting_rules.proofs.Starts.{start_more, start_whole}
 use Rattle.setting_rules.proofs.settings.family_start.Goals as goal

@@ -1,6 +1,5 @@
-use Rattle.std.proofs.Common.{◌≡◌, ◌∙◌, ap, sym, false, unwrap_or}
+use Rattle.std.proofs.Common.{◌∙◌, ap, false, unwrap_or}
 use Rattle.setting_rules.specs.Rules.{boolean}
-use Rattle.setting_rules.specs.Maps.{values_at}
 use Rattle.setting_rules.specs.Switches.{refuses, says_yes, last_value}
 use Rattle.setting_rules.proofs.switches.refuses_manual_start.Goals as goal
 

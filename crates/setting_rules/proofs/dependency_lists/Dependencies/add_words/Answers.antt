@@ -1,4 +1,4 @@
-use Rattle.std.proofs.Common.{◌≡◌, ◌∙◌, ℕ, List, [], Bor, get_or, map, refl}
+use Rattle.std.proofs.Common.{◌∙◌, ℕ, List, [], Bor, get_or, map, refl}
 use Rattle.setting_rules.specs.Dependencies.{names_by}
 use Rattle.setting_rules.proofs.Named.{noted_by, names_by-append, noted_by-append, by_elements}
 use Rattle.setting_rules.proofs.RowLemmas.{texts_more}

@@ -1,4 +1,4 @@
-use Rattle.std.proofs.Common.{◌≡◌, ◌∙◌, ap, sym, [], ◌∷◌, ◌++◌}
+use Rattle.std.proofs.Common.{◌∙◌, [], ◌∷◌, ◌++◌}
 use Rattle.setting_rules.proofs.MapLemmas.{written_at, within_at}
 use Rattle.setting_rules.proofs.maps.SettingMap.add.Goals as goal
 

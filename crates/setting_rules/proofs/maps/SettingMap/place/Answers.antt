@@ -1,4 +1,4 @@
-use Rattle.std.proofs.Common.{◌≡◌, ◌∙◌, ap, sym}
+use Rattle.std.proofs.Common.{◌∙◌, ap, sym}
 use Rattle.indexmap.specs.IndexMap.{insert_entry}
 use Rattle.setting_rules.specs.Maps.{with_key, place_of}
 use Rattle.setting_rules.specs.contracts.keys.SettingKeyPartialEq.TheImpl.{eq-value}

@@ -1,4 +1,4 @@
-use Rattle.std.proofs.Common.{◌≡◌, ◌∙◌, ◌++◌, ◌∷◌, [], sym, ap, cond, not, ◌&&◌, true, false, Bool}
+use Rattle.std.proofs.Common.{◌≡◌, ◌∙◌, ◌++◌, ◌∷◌, [], sym, ap, cond, not, ◌&&◌, false}
 use Rattle.setting_rules.specs.Maps.{changed}
 use Rattle.setting_rules.specs.Rules.{is_empty}
 use Rattle.setting_rules.specs.Settings.{key_of}
