@@ -21,7 +21,7 @@ impl<T: Drop> Model for Items<T> {
 
 impl<T: Drop> Items<T> {
     /// No elements. It takes no memory.
-    pub(crate) fn new(alloc: Global) -> Self
+    pub fn new(alloc: Global) -> Self
         ensures empty { result ≡ [] }
     {
         Items {
@@ -29,13 +29,37 @@ impl<T: Drop> Items<T> {
         }
     }
 
+    /// These elements, without a copy of them. It takes no memory.
+    pub fn from_vec(elements: Vec<T>) -> Self
+        ensures elements { result ≡ elements.items }
+    {
+        Items { elements }
+    }
+
     /// Puts an element behind the others. It fails for want of memory alone, and then changes nothing.
-    pub(crate) fn push(&mut self, element: T) -> Result<(), AllocError>
+    pub fn push(&mut self, element: T) -> Result<(), AllocError>
         ensures ok { OnOk result (self.new ≡ self.old ++ element ∷ []) }
         ensures err { OnErr result (self.new ≡ self.old) }
     {
         self.elements.push(element)?;
         Ok(())
+    }
+
+    /// Puts the elements of another list behind these, without a copy of them. It fails for want of memory alone, and then
+    /// changes nothing.
+    pub fn append(&mut self, other: Items<T>) -> Result<(), AllocError>
+        ensures ok { OnOk result (self.new ≡ self.old ++ other) }
+        ensures err { OnErr result (self.new ≡ self.old) }
+    {
+        let mut elements = other.elements;
+        self.elements.append(&mut elements)
+    }
+
+    /// Takes all elements away. It takes no memory, and keeps the room.
+    pub fn clear(&mut self)
+        ensures empty { self.new ≡ [] }
+    {
+        self.elements.clear();
     }
 
     /// The elements. It takes no memory.

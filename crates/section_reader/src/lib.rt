@@ -14,8 +14,8 @@ mod places;
 mod reader;
 mod sections;
 
-pub use byte_strings::Bytes;
 pub use assignments::{Assignment, Note, NoteKind};
+pub use byte_strings::Bytes;
 pub use items::Items;
 pub use laws::{reading_laws, writing_laws};
 pub use reader::read;

@@ -18,6 +18,7 @@ mod pieces;
 mod replicas;
 mod script_lines;
 mod sections;
+mod settings;
 mod stores;
 mod worlds;
 
@@ -36,6 +37,7 @@ fn answer(alloc: Global, line: &[u8]) -> Result<Vec<u8>, CallFault> {
         b"path" => paths::answer(alloc, &mut words),
         b"name" => names::answer(alloc, &mut words),
         b"section" => sections::answer(alloc, &mut words),
+        b"setting" => settings::answer(alloc, &mut words),
         b"script" => script_lines::answer(alloc, &mut words),
         b"version" => joins::answer(alloc, &mut words),
         b"content" => contents::answer(alloc, &mut words),

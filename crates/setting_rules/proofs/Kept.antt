@@ -1,0 +1,129 @@
+-- What was kept of the values of each key so far, and what one more assignment makes of it.
+use Rattle.std.proofs.Common.{◌≡◌, ℕ, ◌<◌, ◌≤◌, Bool, true, false, cond, ◌&&◌, ◌||◌, not, nat_le, List, [], ◌∷◌, ◌++◌, map, filter, length, drop, refl, ap, sym, ◌∙◌, append-nil, length-append, arith}
+use Rattle.std.specs.List.{list_any}
+use Rattle.std.proofs.lemmas.Bool.{true≢false}
+use Rattle.std.proofs.lemmas.Bool.Decides.{nat_tests}
+use Rattle.std.proofs.lemmas.List.{map-append, drop-append-le}
+use Rattle.std.proofs.lemmas.List.Elements.{filter-append}
+use Rattle.section_reader.specs.declared.assignments.Assignment.{Assignment}
+use Rattle.setting_rules.specs.declared.keys.SettingKey.{SettingKey}
+use Rattle.setting_rules.specs.declared.rules.KeyRule.{KeyRule}
+use Rattle.setting_rules.specs.declared.rules.KeyRule.TheVariants.{Ignored, Dependency, Switch, Condition, Assertion, Plain}
+use Rattle.setting_rules.specs.Rules.{Text, is_empty, rule_of}
+use Rattle.setting_rules.specs.Maps.{same_key, changed}
+use Rattle.setting_rules.specs.KeyLaws.{same_key_turned}
+use Rattle.setting_rules.specs.Settings.{key_of, rule_at, counts, emptied_by, resets, gives, given, behind_last, last_alone, counted, keys_of, firsts}
+use Rattle.setting_rules.specs.ResetLaws.{behind_last-push, given-append, filter-none, filter-behind_last-none, filter-drop-none}
+use Rattle.setting_rules.proofs.Firsts.{pairs, pairs_alike, changed_pairs, firsts-push, any_firsts, apart_firsts}
+use Rattle.setting_rules.proofs.Starts.{drop_past}
+
+pub and_false : (b : Bool) → (b && false) ≡ false
+and_false true = refl
+and_false false = refl
+
+pub given_passed : (k : SettingKey) (x : Assignment) (l : List Assignment) → gives k x ≡ false → given k (l ++ x ∷ []) ≡ given k l
+given_passed k x l h =
+    given-append k l (x ∷ []) ∙ ap (λ b. given k l ++ map (λ a. a.value) (cond b (x ∷ []) [])) h ∙ append-nil (given k l)
+
+pub given_taken : (k : SettingKey) (x : Assignment) (l : List Assignment) → gives k x ≡ true → given k (l ++ x ∷ []) ≡ given k l ++ x.value ∷ []
+given_taken k x l h = given-append k l (x ∷ []) ∙ ap (λ b. given k l ++ map (λ a. a.value) (cond b (x ∷ []) [])) h
+
+-- a place that lies behind the list lies behind it with one more, or at its end
+pub drop_later : (n : ℕ) (x : Assignment) (l : List Assignment) → length l < n → drop n (l ++ x ∷ []) ≡ drop n l
+drop_later n x l h = drop_past n (l ++ x ∷ []) (omega (arith, h, length-append l (x ∷ []))) ∙ sym (drop_past n l (omega arith))
+
+pub given_drop_passed : (k : SettingKey) (x : Assignment) (n : ℕ) (l : List Assignment) → gives k x ≡ false → given k (drop n (l ++ x ∷ [])) ≡ given k (drop n l)
+given_drop_passed k x n l h = by (nat_le n (length l)) refl
+  where
+    by : (b : Bool) → nat_le n (length l) ≡ b → given k (drop n (l ++ x ∷ [])) ≡ given k (drop n l)
+    by true e = let le : n ≤ length l = grind (arith, nat_tests, e) in ap (given k) (drop-append-le n l (x ∷ []) le) ∙ given_passed k x (drop n l) h
+    by false e = let lt : length l < n = grind (arith, nat_tests, e) in ap (given k) (drop_later n x l lt)
+
+module _ (c a : ℕ) where
+  -- the assignments so far whose values may still count
+  abbrev pub live_by : KeyRule → SettingKey → List Assignment → List Assignment
+  live_by Ignored k items = items
+  live_by Dependency k items = items
+  live_by Switch k items = items
+  live_by Condition k items = drop c items
+  live_by Assertion k items = drop a items
+  live_by Plain k items = behind_last (resets k) items
+
+  -- the values of a key that were kept so far
+  abbrev pub kept : List Assignment → SettingKey → List Text
+  kept items k = counted (rule_at k) (given k (live_by (rule_at k) k items))
+
+  unaffected : (k : SettingKey) (x : Assignment) (p : List Assignment) → gives k x ≡ false → (rule_at k ≡ Plain → resets k x ≡ false) → kept (p ++ x ∷ []) k ≡ kept p k
+  unaffected k x p none reset = by (rule_at k) refl
+    where
+      by : (r : KeyRule) → rule_at k ≡ r → counted r (given k (live_by r k (p ++ x ∷ []))) ≡ counted r (given k (live_by r k p))
+      by Ignored e = given_passed k x p none
+      by Dependency e = given_passed k x p none
+      by Switch e = ap last_alone (given_passed k x p none)
+      by Condition e = given_drop_passed k x c p none
+      by Assertion e = given_drop_passed k x a p none
+      by Plain e =
+          ap (given k) (behind_last-push (resets k) p x ∙ ap (λ b. cond b [] (behind_last (resets k) p ++ x ∷ [])) (reset e))
+          ∙ given_passed k x (behind_last (resets k) p) none
+
+  module _ (p : List Assignment) (x : Assignment) where
+    -- an assignment that doesn't count changes nothing
+    pub no_change : counts x ≡ false → ((k : SettingKey) → rule_at k ≡ Plain → resets k x ≡ false) → pairs (kept p) (keys_of p) ≡ pairs (kept (p ++ x ∷ [])) (keys_of (p ++ x ∷ []))
+    unfolding keys_of
+    no_change h reset =
+        pairs_alike (kept p) (kept (p ++ x ∷ [])) (keys_of p) (λ k. unaffected k x p (ap (λ b. same_key k (key_of x) && b && not (is_empty x.value)) h ∙ ap (λ b. b && not (is_empty x.value)) (and_false (same_key k (key_of x)))) (reset k))
+        ∙ ap (λ l. pairs (kept (p ++ x ∷ [])) (firsts (map key_of l))) (sym (filter-append counts p (x ∷ []) ∙ ap (λ b. filter counts p ++ cond b (x ∷ []) []) h ∙ append-nil (filter counts p)))
+
+    plain_stays : (r : KeyRule) (b : Bool) → b ≡ false → emptied_by r Plain b ≡ false
+    plain_stays Ignored b h = refl
+    plain_stays Dependency b h = refl
+    plain_stays Switch b h = refl
+    plain_stays Condition b h = refl
+    plain_stays Assertion b h = refl
+    plain_stays Plain b h = h
+
+    other_gives : (k : SettingKey) → same_key (key_of x) k ≡ false → gives k x ≡ false
+    other_gives k h = ap (λ b. b && counts x && not (is_empty x.value)) (same_key_turned k (key_of x) ∙ h)
+
+    other_resets : (k : SettingKey) → same_key (key_of x) k ≡ false → rule_at k ≡ Plain → resets k x ≡ false
+    other_resets k h e =
+        ap (λ r. is_empty x.value && emptied_by (rule_of x.section x.key) r (same_key k (key_of x))) e
+        ∙ ap (λ b. is_empty x.value && b) (plain_stays (rule_of x.section x.key) (same_key k (key_of x)) (same_key_turned k (key_of x) ∙ h)) ∙ and_false (is_empty x.value)
+
+    -- of a key without an assignment that counts nothing is kept
+    none_kept : (q : SettingKey) → list_any (same_key q) (keys_of p) ≡ false → kept p q ≡ []
+    unfolding keys_of
+    none_kept q h = by (rule_at q)
+      where
+        none : (l : List Assignment) → list_any (same_key q) (map key_of (filter counts l)) ≡ false → list_any (gives q) l ≡ false
+        none [] h = refl
+        none (y ∷ l) h = at (counts y) refl h (none l)
+          where
+            at : (b : Bool) → counts y ≡ b → list_any (same_key q) (map key_of (cond b (y ∷ filter counts l) (filter counts l))) ≡ false → (list_any (same_key q) (map key_of (filter counts l)) ≡ false → list_any (gives q) l ≡ false) → (gives q y || list_any (gives q) l) ≡ false
+            at false e h more = ap (λ b. (same_key q (key_of y) && b && not (is_empty y.value)) || list_any (gives q) l) e ∙ ap (λ b. (b && not (is_empty y.value)) || list_any (gives q) l) (and_false (same_key q (key_of y))) ∙ more h
+            at true e h more = here (same_key q (key_of y)) refl h more
+              where
+                here : (b : Bool) → same_key q (key_of y) ≡ b → (b || list_any (same_key q) (map key_of (filter counts l))) ≡ false → (list_any (same_key q) (map key_of (filter counts l)) ≡ false → list_any (gives q) l ≡ false) → (gives q y || list_any (gives q) l) ≡ false
+                here true d h more = absurd (true≢false h)
+                here false d h more = ap (λ b. (b && counts y && not (is_empty y.value)) || list_any (gives q) l) d ∙ more h
+
+        nothing : list_any (gives q) p ≡ false
+        nothing = none p (sym (any_firsts q (map key_of (filter counts p))) ∙ h)
+
+        by : (r : KeyRule) → counted r (given q (live_by r q p)) ≡ []
+        by Ignored = ap (map (λ v. v.value)) (filter-none (gives q) p nothing)
+        by Dependency = ap (map (λ v. v.value)) (filter-none (gives q) p nothing)
+        by Switch = ap (λ l. last_alone (map (λ v. v.value) l)) (filter-none (gives q) p nothing)
+        by Condition = ap (map (λ v. v.value)) (filter-drop-none (gives q) c p nothing)
+        by Assertion = ap (map (λ v. v.value)) (filter-drop-none (gives q) a p nothing)
+        by Plain = ap (map (λ v. v.value)) (filter-behind_last-none (gives q) (resets q) p nothing)
+
+    -- an assignment that counts changes the values of its key
+    pub change : counts x ≡ true → (f : List Text → List Text) → kept (p ++ x ∷ []) (key_of x) ≡ f (kept p (key_of x)) → changed f (pairs (kept p) (keys_of p)) (key_of x) ≡ pairs (kept (p ++ x ∷ [])) (keys_of (p ++ x ∷ []))
+    unfolding keys_of
+    change h f new =
+        changed_pairs (kept p) (kept (p ++ x ∷ [])) (key_of x) (λ k e. unaffected k x p (other_gives k e) (other_resets k e)) f new (keys_of p) (apart_firsts (map key_of (filter counts p))) (none_kept (key_of x))
+        ∙ ap (pairs (kept (p ++ x ∷ [])))
+        (sym (ap (λ l. firsts (map key_of l)) (filter-append counts p (x ∷ []) ∙ ap (λ b. filter counts p ++ cond b (x ∷ []) []) h)
+        ∙ ap firsts (map-append key_of (filter counts p) (x ∷ []))
+        ∙ firsts-push (map key_of (filter counts p)) (key_of x)))

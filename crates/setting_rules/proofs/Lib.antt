@@ -1,0 +1,10 @@
+mod Firsts
+mod Kept
+mod MapLemmas
+mod Named
+mod RowLemmas
+mod SameKeys
+mod Sorted
+mod Starts
+mod Steps
+mod Texts

@@ -1,0 +1,223 @@
+-- One more assignment, and all of them.
+use Rattle.std.proofs.Common.{◌≡◌, ℕ, ◌+◌, ◌<◌, ◌≤◌, ◌-◌, Bool, true, false, cond, ◌&&◌, ◌||◌, not, nat_le, is_some, Some, None, List, [], ◌∷◌, ◌++◌, map, filter, length, take, drop, get_or, refl, ap, sym, ◌∙◌, length-append, arith}
+use Rattle.std.specs.List.{list_any}
+use Rattle.std.proofs.lemmas.Bool.{true≢false, and_from}
+use Rattle.std.proofs.lemmas.Bool.Decides.{nat_tests}
+use Rattle.std.proofs.lemmas.List.{map-append, drop-append-le, take_more, length-take-le}
+use Rattle.std.proofs.Math.Seq.{drop-append_seam}
+use Rattle.std.proofs.lemmas.List.Elements.{filter-append}
+use Rattle.section_reader.specs.declared.assignments.Assignment.{Assignment}
+use Rattle.setting_rules.specs.declared.keys.SettingKey.{SettingKey}
+use Rattle.setting_rules.specs.declared.notes.SettingNote.{SettingNote}
+use Rattle.setting_rules.specs.declared.notes.SettingNoteKind.TheVariants.{BadBoolean}
+use Rattle.setting_rules.specs.declared.rules.KeyRule.{KeyRule}
+use Rattle.setting_rules.specs.declared.rules.KeyRule.TheVariants.{Ignored, Dependency, Switch, Condition, Assertion, Plain}
+use Rattle.setting_rules.specs.Rules.{Text, is_empty, boolean, rule_of, same_rule}
+use Rattle.setting_rules.specs.Maps.{SettingMap, same_key}
+use Rattle.setting_rules.specs.KeyLaws.{same_key_itself}
+use Rattle.setting_rules.specs.Settings.{key_of, rule_at, counts, counts_by, emptied_by, resets, gives, given, behind_last, last_alone, counted, keys_of, values_of, settings_of, boolean_notes, is_bad, is_bad_by, note_on}
+use Rattle.setting_rules.specs.ResetLaws.{behind_last-push, behind_last-none}
+use Rattle.setting_rules.specs.Effects.{effect, changed_by, start_of, resets_family}
+use Rattle.setting_rules.proofs.Firsts.{pairs, pairs_alike}
+use Rattle.setting_rules.proofs.Kept.{kept, live_by, no_change, change, given_taken, given_passed, drop_later, and_false}
+
+last_alone-push : (values : List Text) (v : Text) → last_alone (values ++ v ∷ []) ≡ v ∷ []
+last_alone-push values v =
+    let n : length (values ++ v ∷ []) - 1 ≡ length values = omega (arith, length-append values (v ∷ [])) in
+    ap (λ k. drop k (values ++ v ∷ [])) n ∙ drop-append_seam values (v ∷ [])
+
+good_some : (v : Text) → is_some (boolean v) ≡ true → is_empty v ≡ false
+unfolding boolean
+good_some [] h = absurd (true≢false (sym h))
+good_some (b ∷ v) h = refl
+
+module _ (c a : ℕ) (p : List Assignment) (x : Assignment) where
+  rule : KeyRule
+  rule = rule_of x.section x.key
+
+  taken : counts x ≡ true → is_empty x.value ≡ false → gives (key_of x) x ≡ true
+  taken h e = and_from (same_key (key_of x) (key_of x) && counts x) (not (is_empty x.value)) (and_from (same_key (key_of x) (key_of x)) (counts x) (same_key_itself (key_of x)) h) (ap not e)
+
+  passed : is_empty x.value ≡ true → gives (key_of x) x ≡ false
+  passed e = ap (λ b. same_key (key_of x) (key_of x) && counts x && not b) e ∙ and_false (same_key (key_of x) (key_of x) && counts x)
+
+  kept_as : (r : KeyRule) (l : List Assignment) → rule_of x.section x.key ≡ r → kept c a l (key_of x) ≡ counted r (given (key_of x) (live_by c a r (key_of x) l))
+  kept_as r l e = ap (λ r. counted r (given (key_of x) (live_by c a r (key_of x) l))) e
+
+  never_resets : (r : KeyRule) → rule_of x.section x.key ≡ r → ((b : Bool) → emptied_by r Plain b ≡ false) → (k : SettingKey) → rule_at k ≡ Plain → resets k x ≡ false
+  never_resets r e never k d =
+      ap (λ r. is_empty x.value && emptied_by r (rule_at k) (same_key k (key_of x))) e
+      ∙ ap (λ q. is_empty x.value && emptied_by r q (same_key k (key_of x))) d
+      ∙ ap (λ b. is_empty x.value && b) (never (same_key k (key_of x))) ∙ and_false (is_empty x.value)
+
+  counts_as : (r : KeyRule) → rule_of x.section x.key ≡ r → counts x ≡ counts_by r x.value
+  counts_as r e = ap (λ r. counts_by r x.value) e
+
+  family_kept : (n : ℕ) (live : Bool) → counts x ≡ true → live ≡ nat_le n (length p)
+      → given (key_of x) (drop n (p ++ x ∷ [])) ≡ cond (live && not (is_empty x.value)) (given (key_of x) (drop n p) ++ x.value ∷ []) (given (key_of x) (drop n p))
+  family_kept n true h e =
+      let le : n ≤ length p = grind (arith, nat_tests, e) in
+      ap (given (key_of x)) (drop-append-le n p (x ∷ []) le) ∙ by (is_empty x.value) refl
+    where
+      by : (b : Bool) → is_empty x.value ≡ b → given (key_of x) (drop n p ++ x ∷ []) ≡ cond (not b) (given (key_of x) (drop n p) ++ x.value ∷ []) (given (key_of x) (drop n p))
+      by true d = given_passed (key_of x) x (drop n p) (passed d)
+      by false d = given_taken (key_of x) x (drop n p) (taken h d)
+  family_kept n false h e =
+      let lt : length p < n = grind (arith, nat_tests, e) in ap (given (key_of x)) (drop_later n x p lt)
+
+  -- what one more assignment makes of the map is the map with it
+  pub step : (live : Bool) → live ≡ nat_le (start_of c a (rule_of x.section x.key)) (length p)
+      → changed_by (effect (rule_of x.section x.key) live x.value) (pairs (kept c a p) (keys_of p)) (key_of x) ≡ pairs (kept c a (p ++ x ∷ [])) (keys_of (p ++ x ∷ []))
+  step live l = by (rule_of x.section x.key) refl l
+    where
+      by : (r : KeyRule) → rule_of x.section x.key ≡ r → live ≡ nat_le (start_of c a r) (length p) → changed_by (effect r live x.value) (pairs (kept c a p) (keys_of p)) (key_of x) ≡ pairs (kept c a (p ++ x ∷ [])) (keys_of (p ++ x ∷ []))
+      by Ignored e l = no_change c a p x (counts_as Ignored e) (never_resets Ignored e (λ b. refl))
+      by Dependency e l = at (is_empty x.value) refl
+        where
+          at : (b : Bool) → is_empty x.value ≡ b → changed_by (cond b None (Some (λ values. values ++ x.value ∷ []))) (pairs (kept c a p) (keys_of p)) (key_of x) ≡ pairs (kept c a (p ++ x ∷ [])) (keys_of (p ++ x ∷ []))
+          at true d = no_change c a p x (counts_as Dependency e ∙ ap not d) (never_resets Dependency e (λ b. refl))
+          at false d =
+              let h = counts_as Dependency e ∙ ap not d in
+              change c a p x h (λ values. values ++ x.value ∷ [])
+              (kept_as Dependency (p ++ x ∷ []) e ∙ given_taken (key_of x) x p (taken h d) ∙ sym (ap (λ values. values ++ x.value ∷ []) (kept_as Dependency p e)))
+      by Switch e l = at (is_some (boolean x.value)) refl
+        where
+          at : (b : Bool) → is_some (boolean x.value) ≡ b → changed_by (cond b (Some (λ _. x.value ∷ [])) None) (pairs (kept c a p) (keys_of p)) (key_of x) ≡ pairs (kept c a (p ++ x ∷ [])) (keys_of (p ++ x ∷ []))
+          at true d =
+              let h = counts_as Switch e ∙ d in
+              change c a p x h (λ _. x.value ∷ [])
+              (kept_as Switch (p ++ x ∷ []) e ∙ ap last_alone (given_taken (key_of x) x p (taken h (good_some x.value d))) ∙ last_alone-push (given (key_of x) p) x.value)
+          at false d = no_change c a p x (counts_as Switch e ∙ d) (never_resets Switch e (λ b. refl))
+      by Condition e l =
+          let h = counts_as Condition e in
+          change c a p x h (λ values. cond (live && not (is_empty x.value)) (values ++ x.value ∷ []) values)
+          (kept_as Condition (p ++ x ∷ []) e ∙ family_kept c live h l ∙ sym (ap (λ values. cond (live && not (is_empty x.value)) (values ++ x.value ∷ []) values) (kept_as Condition p e)))
+      by Assertion e l =
+          let h = counts_as Assertion e in
+          change c a p x h (λ values. cond (live && not (is_empty x.value)) (values ++ x.value ∷ []) values)
+          (kept_as Assertion (p ++ x ∷ []) e ∙ family_kept a live h l ∙ sym (ap (λ values. cond (live && not (is_empty x.value)) (values ++ x.value ∷ []) values) (kept_as Assertion p e)))
+      by Plain e l =
+          let h = counts_as Plain e in
+          change c a p x h (λ values. cond (is_empty x.value) [] (values ++ x.value ∷ []))
+          (kept_as Plain (p ++ x ∷ []) e ∙ at h (is_empty x.value) refl ∙ sym (ap (λ values. cond (is_empty x.value) [] (values ++ x.value ∷ [])) (kept_as Plain p e)))
+        where
+          itself : is_empty x.value ≡ true → resets (key_of x) x ≡ true
+          itself d =
+              ap (λ b. b && emptied_by (rule_of x.section x.key) (rule_of x.section x.key) (same_key (key_of x) (key_of x))) d
+              ∙ ap (λ r. emptied_by r r (same_key (key_of x) (key_of x))) e ∙ same_key_itself (key_of x)
+
+          pushed : (b : Bool) → resets (key_of x) x ≡ b → behind_last (resets (key_of x)) (p ++ x ∷ []) ≡ cond b [] (behind_last (resets (key_of x)) p ++ x ∷ [])
+          pushed b h = behind_last-push (resets (key_of x)) p x ∙ ap (λ b. cond b [] (behind_last (resets (key_of x)) p ++ x ∷ [])) h
+
+          at : counts x ≡ true → (b : Bool) → is_empty x.value ≡ b → given (key_of x) (behind_last (resets (key_of x)) (p ++ x ∷ [])) ≡ cond b [] (given (key_of x) (behind_last (resets (key_of x)) p) ++ x.value ∷ [])
+          at h true d = ap (given (key_of x)) (pushed true (itself d))
+          at h false d =
+              ap (given (key_of x)) (pushed false (ap (λ b. b && emptied_by (rule_of x.section x.key) (rule_of x.section x.key) (same_key (key_of x) (key_of x))) d))
+              ∙ given_taken (key_of x) x (behind_last (resets (key_of x)) p) (taken h d)
+
+none_any : {X : Type 0} (t : X → Bool) (l : List X) → ((y : X) → t y ≡ false) → list_any t l ≡ false
+none_any t [] h = refl
+none_any t (y ∷ l) h = ap (λ b. b || list_any t l) (h y) ∙ none_any t l h
+
+-- what was kept of all assignments is the values that count
+pub kept_whole : (c a : ℕ) (l : List Assignment) → drop c l ≡ behind_last (resets_family Condition) l → drop a l ≡ behind_last (resets_family Assertion) l → (k : SettingKey) → values_of k l ≡ kept c a l k
+unfolding values_of
+kept_whole c a l conditions assertions k = by (rule_at k) refl
+  where
+    -- the resets of a key with this rule, as the test is for each assignment
+    tests : (r : KeyRule) → rule_at k ≡ r → (t : Assignment → Bool) → ((y : Assignment) → (is_empty y.value && emptied_by (rule_of y.section y.key) r (same_key k (key_of y))) ≡ t y) → (y : Assignment) → resets k y ≡ t y
+    tests r e t h y = ap (λ q. is_empty y.value && emptied_by (rule_of y.section y.key) q (same_key k (key_of y))) e ∙ h y
+
+    never : (r : KeyRule) → rule_at k ≡ r → ((q : KeyRule) (b : Bool) → emptied_by q r b ≡ false) → behind_last (resets k) l ≡ l
+    never r e h = behind_last-none (resets k) l (none_any (resets k) l (tests r e (λ _. false) (λ y. ap (λ b. is_empty y.value && b) (h (rule_of y.section y.key) (same_key k (key_of y))) ∙ and_false (is_empty y.value))))
+
+    family : (r : KeyRule) (n : ℕ) → rule_at k ≡ r → ((q : KeyRule) (b : Bool) → emptied_by q r b ≡ same_rule q r) → drop n l ≡ behind_last (resets_family r) l → behind_last (resets k) l ≡ drop n l
+    family r n e h start =
+        let alike = tests r e (resets_family r) (λ y. ap (λ b. is_empty y.value && b) (h (rule_of y.section y.key) (same_key k (key_of y)))) in
+        ap (λ t. behind_last t l) (λ i y. alike y i) ∙ sym start
+
+    ignored : (q : KeyRule) (b : Bool) → emptied_by q Ignored b ≡ false
+    ignored Ignored b = refl
+    ignored Dependency b = refl
+    ignored Switch b = refl
+    ignored Condition b = refl
+    ignored Assertion b = refl
+    ignored Plain b = refl
+
+    dependency : (q : KeyRule) (b : Bool) → emptied_by q Dependency b ≡ false
+    dependency Ignored b = refl
+    dependency Dependency b = refl
+    dependency Switch b = refl
+    dependency Condition b = refl
+    dependency Assertion b = refl
+    dependency Plain b = refl
+
+    switch : (q : KeyRule) (b : Bool) → emptied_by q Switch b ≡ false
+    switch Ignored b = refl
+    switch Dependency b = refl
+    switch Switch b = refl
+    switch Condition b = refl
+    switch Assertion b = refl
+    switch Plain b = refl
+
+    condition : (q : KeyRule) (b : Bool) → emptied_by q Condition b ≡ same_rule q Condition
+    condition Ignored b = refl
+    condition Dependency b = refl
+    condition Switch b = refl
+    condition Condition b = refl
+    condition Assertion b = refl
+    condition Plain b = refl
+
+    assertion : (q : KeyRule) (b : Bool) → emptied_by q Assertion b ≡ same_rule q Assertion
+    assertion Ignored b = refl
+    assertion Dependency b = refl
+    assertion Switch b = refl
+    assertion Condition b = refl
+    assertion Assertion b = refl
+    assertion Plain b = refl
+
+    by : (r : KeyRule) → rule_at k ≡ r → counted r (given k (behind_last (resets k) l)) ≡ counted r (given k (live_by c a r k l))
+    by Ignored e = ap (given k) (never Ignored e ignored)
+    by Dependency e = ap (given k) (never Dependency e dependency)
+    by Switch e = ap (λ m. last_alone (given k m)) (never Switch e switch)
+    by Condition e = ap (given k) (family Condition c e condition conditions)
+    by Assertion e = ap (given k) (family Assertion a e assertion assertions)
+    by Plain e = refl
+
+-- the map of all assignments
+pub settings_whole : (c a : ℕ) (l : List Assignment) → drop c l ≡ behind_last (resets_family Condition) l → drop a l ≡ behind_last (resets_family Assertion) l → pairs (kept c a l) (keys_of l) ≡ settings_of l
+unfolding settings_of
+settings_whole c a l conditions assertions = pairs_alike (kept c a l) (λ k. values_of k l) (keys_of l) (kept_whole c a l conditions assertions)
+
+-- one more note, if the assignment is bad
+pub notes_more : (p : List Assignment) (x : Assignment) → boolean_notes (p ++ x ∷ []) ≡ boolean_notes p ++ cond (is_bad_by (rule_of x.section x.key) x.value) (note_on (key_of x) BadBoolean ∷ []) []
+unfolding boolean_notes
+notes_more p x =
+    ap (map (λ y. note_on (key_of y) BadBoolean)) (filter-append is_bad p (x ∷ []))
+    ∙ map-append (λ y. note_on (key_of y) BadBoolean) (filter is_bad p) (cond (is_bad x) (x ∷ []) [])
+    ∙ ap (λ n. map (λ y. note_on (key_of y) BadBoolean) (filter is_bad p) ++ n) (by (is_bad x))
+  where
+    by : (b : Bool) → map (λ y. note_on (key_of y) BadBoolean) (cond b (x ∷ []) []) ≡ cond b (note_on (key_of x) BadBoolean ∷ []) []
+    by true = refl
+    by false = refl
+
+-- the assignments up to and with the one at a place
+grown : {X : Type 0} (l : List X) (i : ℕ) (x : X) → i < length l → x ≡ get_or l i x → take i l ++ x ∷ [] ≡ take (i + 1) l
+grown l i x h is = ap (λ y. take i l ++ y ∷ []) is ∙ sym (take_more l i x h)
+
+module _ (c a : ℕ) (l : List Assignment) (i : ℕ) (x : Assignment) (rule : KeyRule) (within : i < length l) (is : x ≡ get_or l i x) (rule_is : rule ≡ rule_of x.section x.key) where
+  -- the map that the loop has after the assignment at a place
+  pub map_more : (start : ℕ) (was new : SettingMap) → start ≡ start_of c a rule → was ≡ pairs (kept c a (take i l)) (keys_of (take i l)) → new ≡ changed_by (effect rule (nat_le start i) x.value) was (key_of x)
+      → new ≡ pairs (kept c a (take (i + 1) l)) (keys_of (take (i + 1) l))
+  map_more start was new s w n =
+      n ∙ ap (λ m. changed_by (effect rule (nat_le start i) x.value) m (key_of x)) w
+      ∙ ap (λ r. changed_by (effect r (nat_le start i) x.value) (pairs (kept c a (take i l)) (keys_of (take i l))) (key_of x)) rule_is
+      ∙ step c a (take i l) x (nat_le start i) (ap (λ k. nat_le k i) (s ∙ ap (start_of c a) rule_is) ∙ ap (nat_le (start_of c a (rule_of x.section x.key))) (sym (length-take-le i l (omega (arith, within)))))
+      ∙ ap (λ m. pairs (kept c a m) (keys_of m)) (grown l i x within is)
+
+  -- and the notes
+  pub notes_then : (was new : List SettingNote) → was ≡ boolean_notes (take i l) → new ≡ was ++ cond (is_bad_by rule x.value) (note_on (key_of x) BadBoolean ∷ []) [] → new ≡ boolean_notes (take (i + 1) l)
+  notes_then was new w n =
+      n ∙ ap (λ m. m ++ cond (is_bad_by rule x.value) (note_on (key_of x) BadBoolean ∷ []) []) w
+      ∙ ap (λ r. boolean_notes (take i l) ++ cond (is_bad_by r x.value) (note_on (key_of x) BadBoolean ∷ []) []) rule_is
+      ∙ sym (notes_more (take i l) x) ∙ ap boolean_notes (grown l i x within is)

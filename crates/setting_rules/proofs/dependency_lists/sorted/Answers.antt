@@ -1,0 +1,11 @@
+use Rattle.std.proofs.Common.{◌∙◌}
+use Rattle.std.specs.Ordering.{eq_by_cmp}
+use Rattle.std.proofs.lemmas.List.Filters.{dedup_is}
+use Rattle.unit_name.specs.Names.{name_cmp}
+use Rattle.setting_rules.proofs.Sorted.{sorted_is}
+use Rattle.setting_rules.proofs.dependency_lists.sorted.Goals as goal
+
+pub returns : goal.returns
+returns c = record {
+  names = c.from_vec.ensures.elements ∙ sorted_is c.args.names.items c.sort_unstable.new.self.items c.dedup.new.self.items c.sort_unstable.ensures.permutation c.sort_unstable.ensures.sorted (dedup_is (eq_by_cmp name_cmp) _ _ c.dedup.ensures.filtered);
+}

@@ -1,0 +1,7 @@
+use Rattle.std.proofs.Common.{◌≡◌, take}
+use Rattle.setting_rules.specs.Rows.{rows_of, escape_notes}
+use Rattle.setting_rules.proofs.expansions.values.Given as goal
+
+abbrev pub invariant-loop-place : goal.invariant-loop-place
+invariant-loop-place l =
+    (l.values.rows ≡ rows_of (take l.place l.settings.map) l.unit) × (l.values.notes ≡ escape_notes (take l.place l.settings.map) l.unit)

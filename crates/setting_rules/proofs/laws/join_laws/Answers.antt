@@ -1,0 +1,5 @@
+use Rattle.setting_rules.specs.JoinLaws.{lists_join}
+use Rattle.setting_rules.proofs.laws.join_laws.Goals as goal
+
+pub returns : goal.returns
+returns c = record { joined = lists_join }

@@ -1,0 +1,9 @@
+use Rattle.std.proofs.Common.{◌≡◌, take, map}
+use Rattle.std.specs.List.{flat_map}
+use Rattle.setting_rules.specs.Dependencies.{list_for, notes_for}
+use Rattle.setting_rules.specs.Kinds.{settable}
+use Rattle.setting_rules.proofs.named_units.dependencies.Given as goal
+
+abbrev pub invariant-loop-kind : goal.invariant-loop-kind
+invariant-loop-kind l =
+    (l.all.lists ≡ map (list_for l.settings.map l.unit) (take l.kind-index l.kind-items)) × (l.all.notes ≡ flat_map (notes_for l.settings.map l.unit) (take l.kind-index l.kind-items)) × (l.kind-items ≡ settable)

@@ -1,0 +1,7 @@
+use Rattle.std.proofs.Common.{◌≡◌, ◌++◌, take}
+use Rattle.setting_rules.specs.Rows.{rows_at, escape_notes_at}
+use Rattle.setting_rules.proofs.rows.Values.add_values.Given as goal
+
+abbrev pub invariant-loop-text : goal.invariant-loop-text
+invariant-loop-text l =
+    (l.self.rows ≡ l.initial.self.rows ++ rows_at l.unit l.key (take l.text-index l.texts)) × (l.self.notes ≡ l.initial.self.notes ++ escape_notes_at l.unit l.key (take l.text-index l.texts))

@@ -1,0 +1,15 @@
+use Rattle.std.proofs.Common.{rules, tests}
+use Rattle.std.proofs.lemmas.Iterator.Consumers.{map_from_collect, YieldsList-at, YieldsList-from_filter}
+use Rattle.std.proofs.lemmas.Iterator.Splits.{YieldsList-from_slice_split}
+use Rattle.section_reader.specs.Parts.{is_white, has_bytes}
+use Rattle.setting_rules.specs.Words.{words_of}
+use Rattle.setting_rules.proofs.words.words.Goals as goal
+
+pub returns : goal.returns
+unfolding words_of
+returns c = record {
+  words = map_from_collect _ c.collect.ensures.ran
+      (YieldsList-from_filter _ has_bytes
+      (YieldsList-at c.filter.ensures.source (YieldsList-from_slice_split _ is_white c.args.value.now c.split.ensures.rest c.split.ensures.done c.split.ensures.closure (λ x r q k. search (rules, tests))))
+      c.filter.ensures.closure (λ x r q k. search (rules, tests)));
+}

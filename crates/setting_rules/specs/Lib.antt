@@ -1,0 +1,15 @@
+pub mod Dependencies
+pub mod Effects
+pub mod JoinLaws
+pub mod KeyLaws
+pub mod Kinds
+pub mod Maps
+pub mod Notes
+pub mod OrderLaws
+pub mod ResetLaws
+pub mod Rows
+pub mod Rules
+pub mod Settings
+pub mod Switches
+pub mod WordLaws
+pub mod Words

@@ -1,0 +1,267 @@
+-- What resets leave.
+use Rattle.std.proofs.Common.{◌≡◌, ℕ, zero, suc, Bool, true, false, cond, ◌&&◌, ◌||◌, not, List, [], ◌∷◌, ◌++◌, map, filter, find, Some, drop, refl, ap, sym, ◌∙◌}
+use Rattle.std.specs.List.{list_any}
+use Rattle.std.proofs.lemmas.Bool.{true≢false}
+use Rattle.std.proofs.lemmas.List.{map-append}
+use Rattle.std.proofs.lemmas.List.Elements.{filter-append}
+use Rattle.std.proofs.lemmas.List.Folds.{list_any-append}
+use Rattle.section_reader.specs.declared.assignments.Assignment.{Assignment}
+use Rattle.setting_rules.specs.declared.keys.SettingKey.{SettingKey}
+use Rattle.setting_rules.specs.declared.rules.KeyRule.{KeyRule}
+use Rattle.setting_rules.specs.declared.rules.KeyRule.TheVariants.{Ignored, Dependency, Switch, Condition, Assertion, Plain}
+use Rattle.setting_rules.specs.Rules.{Text, is_empty, rule_of}
+use Rattle.setting_rules.specs.Maps.{SettingMap, same_key, values_at, texts_or_none}
+use Rattle.setting_rules.specs.KeyLaws.{same_key_is}
+use Rattle.setting_rules.specs.Settings.{behind_last, key_of, counts, counts_by, emptied_by, gives, given, resets, counted, rule_at, firsts, values_of, keys_of, settings_of}
+
+module _ {X : Type 0} (p : X → Bool) where
+  -- where none passes all stands behind
+  pub behind_last-none : (xs : List X) → list_any p xs ≡ false → behind_last p xs ≡ xs
+  behind_last-none [] h = refl
+  behind_last-none (x ∷ xs) h = by (p x) (list_any p xs) h
+    where
+      by : (a b : Bool) → (a || b) ≡ false → cond b (behind_last p xs) (cond a xs (x ∷ xs)) ≡ x ∷ xs
+      by true b e = absurd (true≢false e)
+      by false true e = absurd (true≢false e)
+      by false false e = refl
+
+  -- of two lists the last of the second counts, if one of these passes
+  pub behind_last-append : (xs ys : List X) → behind_last p (xs ++ ys) ≡ cond (list_any p ys) (behind_last p ys) (behind_last p xs ++ ys)
+  behind_last-append [] ys = by (list_any p ys) refl
+    where
+      by : (b : Bool) → list_any p ys ≡ b → behind_last p ys ≡ cond b (behind_last p ys) ys
+      by true e = refl
+      by false e = behind_last-none ys e
+  behind_last-append (x ∷ xs) ys =
+      ap (λ b. cond b (behind_last p (xs ++ ys)) (cond (p x) (xs ++ ys) (x ∷ (xs ++ ys)))) (list_any-append p xs ys)
+      ∙ by (p x) (list_any p xs) (list_any p ys) (behind_last-append xs ys)
+    where
+      by : (a b c : Bool) → behind_last p (xs ++ ys) ≡ cond c (behind_last p ys) (behind_last p xs ++ ys)
+          → cond (b || c) (behind_last p (xs ++ ys)) (cond a (xs ++ ys) (x ∷ (xs ++ ys)))
+          ≡ cond c (behind_last p ys) (cond b (behind_last p xs) (cond a xs (x ∷ xs)) ++ ys)
+      by a true true h = h
+      by a true false h = h
+      by a false true h = h
+      by true false false h = refl
+      by false false false h = refl
+
+  -- one more at the end
+  pub behind_last-push : (xs : List X) (x : X) → behind_last p (xs ++ x ∷ []) ≡ cond (p x) [] (behind_last p xs ++ x ∷ [])
+  behind_last-push xs x = behind_last-append xs (x ∷ []) ∙ by (p x)
+    where
+      by : (b : Bool) → cond (b || false) (cond b [] (x ∷ [])) (behind_last p xs ++ x ∷ []) ≡ cond b [] (behind_last p xs ++ x ∷ [])
+      by true = refl
+      by false = refl
+
+  -- where no element of a list passes a test nothing is left of it
+  pub filter-none : (xs : List X) → list_any p xs ≡ false → filter p xs ≡ []
+  filter-none [] h = refl
+  filter-none (x ∷ xs) h = by (p x) h (filter-none xs)
+    where
+      by : (b : Bool) → (b || list_any p xs) ≡ false → (list_any p xs ≡ false → filter p xs ≡ []) → cond b (x ∷ filter p xs) (filter p xs) ≡ []
+      by true e more = absurd (true≢false e)
+      by false e more = more e
+
+  -- the same of what stands behind the last that passes another test
+  pub filter-behind_last-none : (q : X → Bool) (xs : List X) → list_any p xs ≡ false → filter p (behind_last q xs) ≡ []
+  filter-behind_last-none q [] h = refl
+  filter-behind_last-none q (x ∷ xs) h = by (list_any q xs) (q x) (filter-behind_last-none q xs)
+    where
+      rest : (b : Bool) → (b || list_any p xs) ≡ false → list_any p xs ≡ false
+      rest true e = absurd (true≢false e)
+      rest false e = e
+
+      by : (b a : Bool) → (list_any p xs ≡ false → filter p (behind_last q xs) ≡ []) → filter p (cond b (behind_last q xs) (cond a xs (x ∷ xs))) ≡ []
+      by true a more = more (rest (p x) h)
+      by false true more = filter-none xs (rest (p x) h)
+      by false false more = filter-none (x ∷ xs) h
+
+  -- and of what stands behind a place
+  pub filter-drop-none : (n : ℕ) (xs : List X) → list_any p xs ≡ false → filter p (drop n xs) ≡ []
+  filter-drop-none zero xs h = filter-none xs h
+  filter-drop-none (suc n) [] h = refl
+  filter-drop-none (suc n) (x ∷ xs) h = filter-drop-none n xs (rest (p x) h)
+    where
+      rest : (b : Bool) → (b || list_any p xs) ≡ false → list_any p xs ≡ false
+      rest true e = absurd (true≢false e)
+      rest false e = e
+
+pub given-append : (k : SettingKey) (xs ys : List Assignment) → given k (xs ++ ys) ≡ given k xs ++ given k ys
+given-append k xs ys = ap (map (λ a. a.value)) (filter-append (gives k) xs ys) ∙ map-append (λ a. a.value) (filter (gives k) xs) (filter (gives k) ys)
+
+-- A key that no assignment empties keeps all its values.
+abbrev pub KeepsAllValues : Type 0
+KeepsAllValues = (k : SettingKey) (items : List Assignment) → list_any (resets k) items ≡ false → values_of k items ≡ counted (rule_at k) (given k items)
+
+pub keeps_all_values : KeepsAllValues
+unfolding values_of
+keeps_all_values k items h = ap (λ l. counted (rule_at k) (given k l)) (behind_last-none (resets k) items h)
+
+-- What stands before a reset of a key changes nothing of its values.
+abbrev pub ResetsForget : Type 0
+ResetsForget = (k : SettingKey) (before after : List Assignment) (a : Assignment) → resets k a ≡ true → values_of k (before ++ a ∷ after) ≡ values_of k after
+
+pub resets_forget : ResetsForget
+unfolding values_of
+resets_forget k before after a h =
+    ap (λ l. counted (rule_at k) (given k l))
+    (behind_last-append (resets k) before (a ∷ after)
+    ∙ ap (λ b. cond (b || list_any (resets k) after) (cond (list_any (resets k) after) (behind_last (resets k) after) (cond b after (a ∷ after))) (behind_last (resets k) before ++ a ∷ after)) h
+    ∙ by (list_any (resets k) after) refl)
+  where
+    by : (b : Bool) → list_any (resets k) after ≡ b → cond b (behind_last (resets k) after) after ≡ behind_last (resets k) after
+    by true e = refl
+    by false e = sym (behind_last-none (resets k) after e)
+
+-- An assignment that gives a key no value and doesn't empty it changes nothing of its values.
+abbrev pub OthersChangeNothing : Type 0
+OthersChangeNothing = (k : SettingKey) (before after : List Assignment) (a : Assignment) → gives k a ≡ false → resets k a ≡ false → values_of k (before ++ a ∷ after) ≡ values_of k (before ++ after)
+
+pub others_change_nothing : OthersChangeNothing
+unfolding values_of
+others_change_nothing k before after a none stays =
+    ap (counted (rule_at k))
+    (ap (given k) (behind_last-append (resets k) before (a ∷ after))
+    ∙ ap (λ b. given k (cond (b || list_any (resets k) after) (cond (list_any (resets k) after) (behind_last (resets k) after) (cond b after (a ∷ after))) (behind_last (resets k) before ++ a ∷ after))) stays
+    ∙ by (list_any (resets k) after)
+    ∙ ap (given k) (sym (behind_last-append (resets k) before after)))
+  where
+    passed : given k (a ∷ after) ≡ given k after
+    passed = ap (λ b. map (λ y. y.value) (cond b (a ∷ filter (gives k) after) (filter (gives k) after))) none
+
+    by : (b : Bool) → given k (cond b (cond b (behind_last (resets k) after) (a ∷ after)) (behind_last (resets k) before ++ a ∷ after)) ≡ given k (cond b (behind_last (resets k) after) (behind_last (resets k) before ++ after))
+    by true = refl
+    by false = given-append k (behind_last (resets k) before) (a ∷ after) ∙ ap (λ l. given k (behind_last (resets k) before) ++ l) passed ∙ sym (given-append k (behind_last (resets k) before) after)
+
+-- An assignment to another key changes nothing of a key's values, unless both keys are of one family.
+abbrev pub OtherKeysChangeNothing : Type 0
+OtherKeysChangeNothing = (k : SettingKey) (before after : List Assignment) (a : Assignment) → same_key k (key_of a) ≡ false → emptied_by (rule_of a.section a.key) (rule_at k) false ≡ false → values_of k (before ++ a ∷ after) ≡ values_of k (before ++ after)
+
+pub other_keys_change_nothing : OtherKeysChangeNothing
+other_keys_change_nothing k before after a other apart =
+    others_change_nothing k before after a
+    (ap (λ b. b && counts a && not (is_empty a.value)) other)
+    (ap (λ b. is_empty a.value && emptied_by (rule_of a.section a.key) (rule_at k) b) other ∙ ap (λ b. is_empty a.value && b) apart ∙ and_false (is_empty a.value))
+  where
+    and_false : (b : Bool) → (b && false) ≡ false
+    and_false true = refl
+    and_false false = refl
+
+-- no assignment to a key that isn't entered gives it a value
+none_given : (k : SettingKey) (l : List Assignment) → list_any (same_key k) (map key_of (filter counts l)) ≡ false → list_any (gives k) l ≡ false
+none_given k [] h = refl
+none_given k (y ∷ l) h = by (counts y) (same_key k (key_of y)) refl refl h (none_given k l)
+  where
+    by : (b s : Bool) → counts y ≡ b → same_key k (key_of y) ≡ s → list_any (same_key k) (map key_of (cond b (y ∷ filter counts l) (filter counts l))) ≡ false → (list_any (same_key k) (map key_of (filter counts l)) ≡ false → list_any (gives k) l ≡ false) → (gives k y || list_any (gives k) l) ≡ false
+    by b false e d h more = ap (λ s. (s && counts y && not (is_empty y.value)) || list_any (gives k) l) d ∙ more (rest b h)
+      where
+        rest : (b : Bool) → list_any (same_key k) (map key_of (cond b (y ∷ filter counts l) (filter counts l))) ≡ false → list_any (same_key k) (map key_of (filter counts l)) ≡ false
+        rest false h = h
+        rest true h = sym (ap (λ s. s || list_any (same_key k) (map key_of (filter counts l))) d) ∙ h
+    by true true e d h more = absurd (true≢false (sym (ap (λ s. s || list_any (same_key k) (map key_of (filter counts l))) d) ∙ h))
+    by false true e d h more = ap (λ b. (same_key k (key_of y) && b && not (is_empty y.value)) || list_any (gives k) l) e ∙ ap (λ s. (s && false && not (is_empty y.value)) || list_any (gives k) l) d ∙ more h
+
+any_firsts : (k : SettingKey) (ks : List SettingKey) → list_any (same_key k) ks ≡ true → list_any (same_key k) (firsts ks) ≡ true
+any_firsts k [] h = h
+any_firsts k (x ∷ ks) h = by (same_key k x) refl h (any_firsts k ks)
+  where
+    left : (q : List SettingKey) → same_key k x ≡ false → list_any (same_key k) q ≡ true → list_any (same_key k) (filter (λ y. not (same_key y x)) q) ≡ true
+    left [] e h = h
+    left (y ∷ q) e h = at (same_key y x) (same_key k y) refl refl h (left q e)
+      where
+        at : (b s : Bool) → same_key y x ≡ b → same_key k y ≡ s → (s || list_any (same_key k) q) ≡ true → (list_any (same_key k) q ≡ true → list_any (same_key k) (filter (λ y. not (same_key y x)) q) ≡ true) → list_any (same_key k) (cond (not b) (y ∷ filter (λ y. not (same_key y x)) q) (filter (λ y. not (same_key y x)) q)) ≡ true
+        at true true d f h more = absurd (true≢false (sym f ∙ ap (same_key k) (same_key_is y x d) ∙ e))
+        at true false d f h more = more h
+        at false true d f h more = ap (λ b. b || list_any (same_key k) (filter (λ y. not (same_key y x)) q)) f
+        at false false d f h more = ap (λ b. b || list_any (same_key k) (filter (λ y. not (same_key y x)) q)) f ∙ more h
+
+    by : (b : Bool) → same_key k x ≡ b → (b || list_any (same_key k) ks) ≡ true → (list_any (same_key k) ks ≡ true → list_any (same_key k) (firsts ks) ≡ true) → (same_key k x || list_any (same_key k) (filter (λ y. not (same_key y x)) (firsts ks))) ≡ true
+    by true e h more = ap (λ b. b || list_any (same_key k) (filter (λ y. not (same_key y x)) (firsts ks))) e
+    by false e h more = ap (λ b. b || list_any (same_key k) (filter (λ y. not (same_key y x)) (firsts ks))) e ∙ left (firsts ks) e (more h)
+
+-- The settings have at each key its values that count: none, where the key isn't entered.
+abbrev pub SettingsShowValues : Type 0
+SettingsShowValues = (k : SettingKey) (items : List Assignment) → values_at (settings_of items) k ≡ values_of k items
+
+pub settings_show_values : SettingsShowValues
+unfolding settings_of keys_of values_of
+settings_show_values k items = by (list_any (same_key k) (keys_of items)) refl
+  where
+    found : (ks : List SettingKey) → list_any (same_key k) ks ≡ true → values_at (map (λ q. (q, values_of q items)) ks) k ≡ values_of k items
+    found [] h = absurd (true≢false (sym h))
+    found (q ∷ ks) h = at (same_key k q) refl h (found ks)
+      where
+        at : (b : Bool) → same_key k q ≡ b → (b || list_any (same_key k) ks) ≡ true → (list_any (same_key k) ks ≡ true → values_at (map (λ q. (q, values_of q items)) ks) k ≡ values_of k items) → texts_or_none (cond (same_key k q) (Some (q, values_of q items)) (find (λ e. same_key k e.0) (map (λ q. (q, values_of q items)) ks))) ≡ values_of k items
+        at true e h more = ap (λ b. texts_or_none (cond b (Some (q, values_of q items)) (find (λ e. same_key k e.0) (map (λ q. (q, values_of q items)) ks)))) e ∙ sym (ap (λ q. values_of q items) (same_key_is k q e))
+        at false e h more = ap (λ b. texts_or_none (cond b (Some (q, values_of q items)) (find (λ e. same_key k e.0) (map (λ q. (q, values_of q items)) ks)))) e ∙ more h
+
+    absent : (ks : List SettingKey) → list_any (same_key k) ks ≡ false → values_at (map (λ q. (q, values_of q items)) ks) k ≡ []
+    absent [] h = refl
+    absent (q ∷ ks) h = at (same_key k q) refl h (absent ks)
+      where
+        at : (b : Bool) → same_key k q ≡ b → (b || list_any (same_key k) ks) ≡ false → (list_any (same_key k) ks ≡ false → values_at (map (λ q. (q, values_of q items)) ks) k ≡ []) → texts_or_none (cond (same_key k q) (Some (q, values_of q items)) (find (λ e. same_key k e.0) (map (λ q. (q, values_of q items)) ks))) ≡ []
+        at true e h more = absurd (true≢false h)
+        at false e h more = ap (λ b. texts_or_none (cond b (Some (q, values_of q items)) (find (λ e. same_key k e.0) (map (λ q. (q, values_of q items)) ks)))) e ∙ more h
+
+    counted_none : (r : KeyRule) → counted r [] ≡ []
+    counted_none Ignored = refl
+    counted_none Dependency = refl
+    counted_none Switch = refl
+    counted_none Condition = refl
+    counted_none Assertion = refl
+    counted_none Plain = refl
+
+    nothing : list_any (same_key k) (keys_of items) ≡ false → values_of k items ≡ []
+    nothing h =
+        ap (λ l. counted (rule_at k) (map (λ y. y.value) l)) (filter-behind_last-none (gives k) (resets k) items (none_given k items (not_first (list_any (same_key k) (map key_of (filter counts items))) refl)))
+        ∙ counted_none (rule_at k)
+      where
+        not_first : (b : Bool) → list_any (same_key k) (map key_of (filter counts items)) ≡ b → list_any (same_key k) (map key_of (filter counts items)) ≡ false
+        not_first true e = absurd (true≢false (sym (any_firsts k (map key_of (filter counts items)) e) ∙ h))
+        not_first false e = e
+
+    by : (b : Bool) → list_any (same_key k) (keys_of items) ≡ b → values_at (map (λ q. (q, values_of q items)) (keys_of items)) k ≡ values_of k items
+    by true h = found (keys_of items) h
+    by false h = absent (keys_of items) h ∙ sym (nothing h)
+
+-- An assignment that doesn't count changes nothing at all, as an empty one of a key that sets dependencies.
+abbrev pub PassedOverChangesNothing : Type 0
+PassedOverChangesNothing = (before after : List Assignment) (a : Assignment) → counts a ≡ false → settings_of (before ++ a ∷ after) ≡ settings_of (before ++ after)
+
+pub passed_over_changes_nothing : PassedOverChangesNothing
+unfolding settings_of keys_of
+passed_over_changes_nothing before after a h =
+    ap (λ l. map {B = SettingKey × List Text} (λ k. (k, values_of k (before ++ a ∷ after))) (firsts (map key_of l)))
+    (filter-append counts before (a ∷ after) ∙ ap (λ b. filter counts before ++ cond b (a ∷ filter counts after) (filter counts after)) h ∙ sym (filter-append counts before after))
+    ∙ alike (firsts (map key_of (filter counts (before ++ after))))
+  where
+    and_false : (b : Bool) → (b && false) ≡ false
+    and_false true = refl
+    and_false false = refl
+
+    silent : (r : KeyRule) → counts_by r a.value ≡ false → (q : KeyRule) (b : Bool) → emptied_by r q b ≡ false
+    silent Ignored h q b = refl
+    silent Dependency h q b = refl
+    silent Switch h q b = refl
+    silent Condition h q b = absurd (true≢false h)
+    silent Assertion h q b = absurd (true≢false h)
+    silent Plain h q b = absurd (true≢false h)
+
+    stays : (k : SettingKey) → values_of k (before ++ a ∷ after) ≡ values_of k (before ++ after)
+    stays k =
+        others_change_nothing k before after a
+        (ap (λ b. same_key k (key_of a) && b && not (is_empty a.value)) h ∙ ap (λ b. b && not (is_empty a.value)) (and_false (same_key k (key_of a))))
+        (ap (λ b. is_empty a.value && b) (silent (rule_of a.section a.key) h (rule_at k) (same_key k (key_of a))) ∙ and_false (is_empty a.value))
+
+    alike : (ks : List SettingKey) → map {B = SettingKey × List Text} (λ k. (k, values_of k (before ++ a ∷ after))) ks ≡ map (λ k. (k, values_of k (before ++ after))) ks
+    alike [] = refl
+    alike (k ∷ ks) =
+        let behind : SettingMap = map (λ k. (k, values_of k (before ++ a ∷ after))) ks in
+        ap (λ v. (k, v) ∷ behind) (stays k) ∙ ap (λ l. (k, values_of k (before ++ after)) ∷ l) (alike ks)
+
+-- An empty value of a key that sets dependencies changes nothing.
+abbrev pub EmptyDependenciesChangeNothing : Type 0
+EmptyDependenciesChangeNothing = (before after : List Assignment) (a : Assignment) → rule_of a.section a.key ≡ Dependency → is_empty a.value ≡ true → settings_of (before ++ a ∷ after) ≡ settings_of (before ++ after)
+
+pub empty_dependencies_change_nothing : EmptyDependenciesChangeNothing
+empty_dependencies_change_nothing before after a r h = passed_over_changes_nothing before after a (ap (λ r. counts_by r a.value) r ∙ ap not h)

@@ -1,0 +1,37 @@
+-- The rows of a unit's settings: the values with the specifiers of its name expanded.
+use Rattle.std.specs.Prelude.{Bool, if◌then◌else◌, is_none, List, [], map, filter}
+use Rattle.std.specs.List.{flat_map, filter_map}
+use Rattle.unit_name.specs.Names.{Name}
+use Rattle.unit_name.specs.Specifiers.{expand}
+use Rattle.setting_rules.specs.declared.keys.SettingKey.{SettingKey}
+use Rattle.setting_rules.specs.declared.notes.SettingNote.{SettingNote}
+use Rattle.setting_rules.specs.declared.notes.SettingNoteKind.TheVariants.{BadEscape}
+use Rattle.setting_rules.specs.declared.rows.Row.{Row}
+use Rattle.setting_rules.specs.declared.rules.KeyRule.TheVariants.{Dependency}
+use Rattle.setting_rules.specs.Maps.{SettingMap}
+use Rattle.setting_rules.specs.Rules.{Text, same_rule}
+use Rattle.setting_rules.specs.Settings.{rule_at, note_on}
+
+-- a key sets dependencies
+abbrev pub is_dependency : SettingKey → Bool
+is_dependency k = same_rule (rule_at k) Dependency
+
+-- a value of a key as a row
+abbrev pub row : SettingKey → Text → Row
+row k value = record { section = k.section; key = k.key; value = value }
+
+-- the rows of values of a key, without those that can't be expanded
+abbrev pub rows_at : Name → SettingKey → List Text → List Row
+rows_at unit k values = map (row k) (filter_map (λ value. expand value unit) values)
+
+-- a note for each value of a key that can't be expanded
+abbrev pub escape_notes_at : Name → SettingKey → List Text → List SettingNote
+escape_notes_at unit k values = map (λ _. note_on k BadEscape) (filter (λ value. is_none (expand value unit)) values)
+
+-- The rows, key by key, without the keys that set dependencies.
+unfoldable pub rows_of : SettingMap → Name → List Row
+rows_of entries unit = flat_map (λ e. if is_dependency e.0 then [] else rows_at unit e.0 e.1) entries
+
+-- The notes on values that can't be expanded, in the same order.
+unfoldable pub escape_notes : SettingMap → Name → List SettingNote
+escape_notes entries unit = flat_map (λ e. if is_dependency e.0 then [] else escape_notes_at unit e.0 e.1) entries

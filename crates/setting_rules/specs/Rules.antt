@@ -1,0 +1,50 @@
+-- How the values of a key count, and what booleans say.
+use Rattle.std.specs.Prelude.{ℕ, Bool, true, false, ◌||◌, if◌then◌else◌, Option, Some, None, is_some, List, [], ◌∷◌, nat_eq, codes}
+use Rattle.std.specs.List.{starts_with}
+use Rattle.std.specs.Str.{bytes_eq, str_eq_ignore_ascii_case}
+use Rattle.setting_rules.specs.declared.rules.KeyRule.{KeyRule}
+use Rattle.setting_rules.specs.declared.rules.KeyRule.TheVariants.{Ignored, Dependency, Switch, Condition, Assertion, Plain}
+use Rattle.setting_rules.specs.Kinds.{settable_kind}
+
+abbrev pub Text : Type 0
+Text = List ℕ
+
+abbrev pub is_empty : Text → Bool
+is_empty [] = true
+is_empty (b ∷ bs) = false
+
+abbrev pub spells_yes : Text → Bool
+spells_yes text = str_eq_ignore_ascii_case text (codes "1") || str_eq_ignore_ascii_case text (codes "yes") || str_eq_ignore_ascii_case text (codes "true") || str_eq_ignore_ascii_case text (codes "on")
+
+abbrev pub spells_no : Text → Bool
+spells_no text = str_eq_ignore_ascii_case text (codes "0") || str_eq_ignore_ascii_case text (codes "no") || str_eq_ignore_ascii_case text (codes "false") || str_eq_ignore_ascii_case text (codes "off")
+
+-- What a text says as a boolean, in any case of letters. None of other texts, also of the empty one.
+unfoldable pub boolean : Text → Option Bool
+boolean text = if spells_yes text then Some true else if spells_no text then Some false else None
+
+-- how the values of a key of `[Unit]` count
+abbrev pub unit_rule : Text → KeyRule
+unit_rule key =
+    if is_some (settable_kind key) then Dependency
+    else if bytes_eq key (codes "RefuseManualStart") then Switch
+    else if starts_with nat_eq key (codes "Condition") then Condition
+    else if starts_with nat_eq key (codes "Assert") then Assertion
+    else Plain
+
+-- How the values of a key count, by its section and its name.
+unfoldable pub rule_of : Text → Text → KeyRule
+rule_of section key =
+    if starts_with nat_eq section (codes "X-") || starts_with nat_eq key (codes "X-") then Ignored
+    else if bytes_eq section (codes "Unit") then unit_rule key
+    else Plain
+
+-- the two rules are one
+abbrev pub same_rule : KeyRule → KeyRule → Bool
+same_rule Ignored Ignored = true
+same_rule Dependency Dependency = true
+same_rule Switch Switch = true
+same_rule Condition Condition = true
+same_rule Assertion Assertion = true
+same_rule Plain Plain = true
+same_rule rule other = false

@@ -1,0 +1,107 @@
+-- The values that count, said of the whole list of a unit's assignments and of the last reset in it.
+use Rattle.std.specs.Prelude.{◌-◌, Bool, true, false, ◌&&◌, not, if◌then◌else◌, is_some, is_none, List, [], ◌∷◌, map, filter, length, drop}
+use Rattle.std.specs.List.{list_any}
+use Rattle.section_reader.specs.declared.assignments.Assignment.{Assignment}
+use Rattle.setting_rules.specs.declared.keys.SettingKey.{SettingKey}
+use Rattle.setting_rules.specs.declared.notes.SettingNote.{SettingNote}
+use Rattle.setting_rules.specs.declared.notes.SettingNoteKind.{SettingNoteKind}
+use Rattle.setting_rules.specs.declared.notes.SettingNoteKind.TheVariants.{BadBoolean}
+use Rattle.setting_rules.specs.declared.rules.KeyRule.{KeyRule}
+use Rattle.setting_rules.specs.declared.rules.KeyRule.TheVariants.{Ignored, Dependency, Switch, Condition, Assertion, Plain}
+use Rattle.setting_rules.specs.Maps.{SettingMap, same_key}
+use Rattle.setting_rules.specs.Rules.{Text, is_empty, boolean, rule_of}
+
+-- the key that an assignment sets
+abbrev pub key_of : Assignment → SettingKey
+key_of a = record { section = a.section; key = a.key }
+
+-- how the values of a key count
+abbrev pub rule_at : SettingKey → KeyRule
+rule_at k = rule_of k.section k.key
+
+-- a value of a key with this rule counts: it isn't passed over, and isn't bad
+abbrev pub counts_by : KeyRule → Text → Bool
+counts_by Ignored value = false
+counts_by Dependency value = not (is_empty value)
+counts_by Switch value = is_some (boolean value)
+counts_by Condition value = true
+counts_by Assertion value = true
+counts_by Plain value = true
+
+-- an assignment counts
+abbrev pub counts : Assignment → Bool
+counts a = counts_by (rule_of a.section a.key) a.value
+
+-- an empty value of a key with the first rule empties a key with the second: any of the same family, or the key itself
+abbrev pub emptied_by : KeyRule → KeyRule → Bool → Bool
+emptied_by Condition Condition itself = true
+emptied_by Assertion Assertion itself = true
+emptied_by Plain Plain itself = itself
+emptied_by rule other itself = false
+
+-- an assignment empties a key: its value is empty, and such a value empties the key
+abbrev pub resets : SettingKey → Assignment → Bool
+resets k a = is_empty a.value && emptied_by (rule_of a.section a.key) (rule_at k) (same_key k (key_of a))
+
+-- an assignment gives a key a value
+abbrev pub gives : SettingKey → Assignment → Bool
+gives k a = same_key k (key_of a) && counts a && not (is_empty a.value)
+
+-- the values that assignments give a key
+abbrev pub given : SettingKey → List Assignment → List Text
+given k items = map (λ a. a.value) (filter (gives k) items)
+
+-- what stands behind the last of a list that passes a test, or all where none does
+abbrev pub behind_last : {X : Type 0} → (X → Bool) → List X → List X
+behind_last p [] = []
+behind_last p (x ∷ xs) = if list_any p xs then behind_last p xs else if p x then xs else x ∷ xs
+
+-- the last of some values alone
+abbrev pub last_alone : List Text → List Text
+last_alone values = drop (length values - 1) values
+
+-- of a switch's values the last counts, of any other key's each
+abbrev pub counted : KeyRule → List Text → List Text
+counted Ignored values = values
+counted Dependency values = values
+counted Switch values = last_alone values
+counted Condition values = values
+counted Assertion values = values
+counted Plain values = values
+
+-- The values of a key that count: those that are given behind the last assignment that empties it, of a switch the last.
+unfoldable pub values_of : SettingKey → List Assignment → List Text
+values_of k items = counted (rule_at k) (given k (behind_last (resets k) items))
+
+-- each key of a list at its first place
+abbrev pub firsts : List SettingKey → List SettingKey
+firsts [] = []
+firsts (k ∷ ks) = k ∷ filter (λ q. not (same_key q k)) (firsts ks)
+
+-- The keys that are entered, in the order of their first assignments that count.
+unfoldable pub keys_of : List Assignment → List SettingKey
+keys_of items = firsts (map key_of (filter counts items))
+
+-- What the assignments of a unit come to: each key that is entered, with its values that count.
+unfoldable pub settings_of : List Assignment → SettingMap
+settings_of items = map (λ k. (k, values_of k items)) (keys_of items)
+
+-- a value of a key with this rule is to be a boolean and is none
+abbrev pub is_bad_by : KeyRule → Text → Bool
+is_bad_by Ignored value = false
+is_bad_by Dependency value = false
+is_bad_by Switch value = is_none (boolean value)
+is_bad_by Condition value = false
+is_bad_by Assertion value = false
+is_bad_by Plain value = false
+
+abbrev pub is_bad : Assignment → Bool
+is_bad a = is_bad_by (rule_of a.section a.key) a.value
+
+-- a note on a value of a key
+abbrev pub note_on : SettingKey → SettingNoteKind → SettingNote
+note_on k kind = record { section = k.section; key = k.key; kind = kind }
+
+-- The notes on values that are to be booleans and are none, in the order of the assignments.
+unfoldable pub boolean_notes : List Assignment → List SettingNote
+boolean_notes items = map (λ a. note_on (key_of a) BadBoolean) (filter is_bad items)

@@ -1,0 +1,145 @@
+//! The dependencies of a unit, kind by kind.
+ghost use Rattle.std.specs.Prelude.{◌≡◌, ◌++◌, ◌∷◌, [], OnOk, map};
+ghost use Rattle.std.specs.List.{flat_map};
+ghost use Rattle.setting_rules.specs.Dependencies.{key_for, in_byte_order, names_by, faults_by};
+ghost use Rattle.setting_rules.specs.Settings.{note_on};
+ghost use Rattle.setting_rules.specs.Words.{words_of};
+
+use crate::kinds::DepKind;
+use crate::notes::{SettingNote, SettingNoteKind};
+use crate::word_names::named_by;
+use crate::words::words;
+use byte_strings::Bytes;
+use section_reader::Items;
+use std::alloc::{AllocError, Global};
+use unit_name::UnitName;
+
+/// The section whose keys set dependencies.
+pub(crate) const UNIT: &[u8] = b"Unit";
+
+/// The units that a unit depends on in one way.
+#[derive(Debug, PartialEq, Eq, Drop)]
+pub struct DependencyList {
+    /// The way.
+    pub kind: DepKind,
+    /// The units' names in byte order, each once.
+    pub names: Items<UnitName>,
+}
+
+/// The units that a unit's settings name.
+#[derive(Debug, PartialEq, Eq, Drop)]
+pub struct Dependencies {
+    /// A list for each kind that a unit file may set, in the order of the kinds. It may be empty.
+    pub lists: Items<DependencyList>,
+    /// What is wrong with words, in the order of the kinds and then of the words.
+    pub notes: Items<SettingNote>,
+}
+
+impl Dependencies {
+    /// No lists. It takes no memory.
+    pub(crate) fn new(alloc: Global) -> Dependencies
+        ensures lists { result.lists ≡ [] }
+        ensures notes { result.notes ≡ [] }
+    {
+        Dependencies {
+            lists: Items::new(alloc),
+            notes: Items::new(alloc),
+        }
+    }
+
+    /// Adds the list of a kind, whose key has these values. It fails for want of memory alone.
+    pub(crate) fn add_kind(
+        &mut self,
+        alloc: Global,
+        kind: DepKind,
+        values: &[Bytes],
+        unit: &UnitName,
+    ) -> Result<(), AllocError>
+        ensures lists { OnOk result (self.new.lists ≡ self.old.lists
+            ++ record { kind = kind; names = in_byte_order (names_by unit.now (flat_map words_of values.now)) } ∷ []) }
+        ensures notes { OnOk result (self.new.notes ≡ self.old.notes
+            ++ map (note_on (key_for kind)) (faults_by unit.now (flat_map words_of values.now))) }
+    {
+        let mut names = Vec::new(alloc);
+        for value in values {
+            self.add_words(
+                alloc,
+                &mut names,
+                kind,
+                &words(alloc, value.as_slice())?,
+                unit,
+            )?;
+        }
+        self.lists.push(DependencyList {
+            kind,
+            names: sorted(names),
+        })
+    }
+
+    // Adds the names that words name, and notes on those that name none.
+    fn add_words(
+        &mut self,
+        alloc: Global,
+        names: &mut Vec<UnitName>,
+        kind: DepKind,
+        words: &[&[u8]],
+        unit: &UnitName,
+    ) -> Result<(), AllocError>
+        ensures names { OnOk result (names.new.items ≡ names.old.items ++ names_by unit.now (map (λ word. word.now) words.now)) }
+        ensures notes { OnOk result (self.new.notes ≡ self.old.notes
+            ++ map (note_on (key_for kind)) (faults_by unit.now (map (λ word. word.now) words.now))) }
+        ensures lists { OnOk result (self.new.lists ≡ self.old.lists) }
+    {
+        for word in words {
+            self.add_word(alloc, names, kind, word, unit)?;
+        }
+        Ok(())
+    }
+
+    // Adds the name that a word names, or a note on it.
+    fn add_word(
+        &mut self,
+        alloc: Global,
+        names: &mut Vec<UnitName>,
+        kind: DepKind,
+        word: &[u8],
+        unit: &UnitName,
+    ) -> Result<(), AllocError>
+        ensures names { OnOk result (names.new.items ≡ names.old.items ++ names_by unit.now (word.now ∷ [])) }
+        ensures notes { OnOk result (self.new.notes ≡ self.old.notes
+            ++ map (note_on (key_for kind)) (faults_by unit.now (word.now ∷ []))) }
+        ensures lists { OnOk result (self.new.lists ≡ self.old.lists) }
+    {
+        match named_by(alloc, word, unit)? {
+            Ok(name) => names.push(name)?,
+            Err(fault) => self.add_note(alloc, kind, fault)?,
+        }
+        Ok(())
+    }
+
+    // Adds a note on a word of a kind's key.
+    fn add_note(
+        &mut self,
+        alloc: Global,
+        kind: DepKind,
+        fault: SettingNoteKind,
+    ) -> Result<(), AllocError>
+        ensures notes { OnOk result (self.new.notes ≡ self.old.notes ++ note_on (key_for kind) fault ∷ []) }
+        ensures lists { OnOk result (self.new.lists ≡ self.old.lists) }
+    {
+        self.notes.push(SettingNote {
+            section: Bytes::from_slice(alloc, UNIT)?,
+            key: Bytes::from_slice(alloc, kind.word().as_bytes())?,
+            kind: fault,
+        })
+    }
+}
+
+// Names in byte order, each once.
+fn sorted(mut names: Vec<UnitName>) -> Items<UnitName>
+    ensures names { result ≡ in_byte_order names.items }
+{
+    names.sort_unstable();
+    names.dedup();
+    Items::from_vec(names)
+}

@@ -1,0 +1,45 @@
+//! The values that count, with specifiers expanded.
+ghost use Rattle.std.specs.Prelude.{◌≡◌, IfOk};
+ghost use Rattle.unit_name.specs.Specifiers.{expand};
+ghost use Rattle.setting_rules.specs.Rows.{rows_of, escape_notes};
+
+use crate::rows::Values;
+use crate::settings::Settings;
+use byte_strings::Bytes;
+use std::alloc::{AllocError, Global};
+use unit_name::{ExpandFault, UnitName, expand as expand_bytes};
+
+/// The values that count of the keys that set no dependencies, with the specifiers of the unit's name expanded
+/// (systemd.unit(5), "Specifiers"). A value whose specifiers can't be expanded is left out and noted. It refuses for want of
+/// memory alone.
+///
+/// The time grows as the bytes of the values and of what they expand to. A value without a percent sign is not copied.
+pub fn values(alloc: Global, settings: &Settings, unit: &UnitName) -> Result<Values, AllocError>
+    ensures rows { IfOk result (λ values. values.rows ≡ rows_of settings.now.map unit.now) }
+    ensures notes { IfOk result (λ values. values.notes ≡ escape_notes settings.now.map unit.now) }
+{
+    let mut values = Values::new(alloc);
+    for place in 0..settings.map.len() {
+        let (key, texts) = settings.map.entry(place);
+        values.add_key(alloc, key, texts, unit)?;
+    }
+    Ok(values)
+}
+
+/// A text with the specifiers of a unit's name expanded. None where it can't be. A text without a percent sign is not copied.
+pub(crate) fn expanded(
+    alloc: Global,
+    text: &Bytes,
+    unit: &UnitName,
+) -> Result<Option<Bytes>, AllocError>
+    ensures expanded { IfOk result (λ value. value ≡ expand text.now unit.now) }
+{
+    if !text.as_slice().contains(&b'%') {
+        return Ok(Some(text.try_clone()?));
+    }
+    match expand_bytes(alloc, text.as_slice(), unit) {
+        Ok(bytes) => Ok(Some(Bytes::from_vec(bytes)?)),
+        Err(ExpandFault::BadEscape) => Ok(None),
+        Err(ExpandFault::Memory) => Err(AllocError),
+    }
+}

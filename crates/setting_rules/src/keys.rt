@@ -1,0 +1,56 @@
+//! Sections and their keys.
+ghost use Rattle.std.specs.Prelude.{◌≡◌, IfOk};
+
+use crate::rules::KeyRule;
+use byte_strings::Bytes;
+use section_reader::Assignment;
+use std::alloc::AllocError;
+
+/// A key of a section, whose values are kept together. The case of letters matters (systemd.syntax(7), "Introduction").
+#[derive(Debug, PartialEq, Eq, Hash, Drop)]
+pub struct SettingKey {
+    /// The name in the section's header.
+    pub section: Bytes,
+    /// The name of the key in the section.
+    pub key: Bytes,
+}
+
+impl SettingKey {
+    ghost use Rattle.setting_rules.specs.Settings.{key_of};
+    ghost use Rattle.setting_rules.specs.Rows.{is_dependency};
+    ghost use Rattle.setting_rules.specs.Maps.{same_key};
+
+    /// The key that an assignment sets, with the same bytes. It fails for want of memory alone.
+    pub(crate) fn of(assignment: &Assignment) -> Result<SettingKey, AllocError>
+        ensures key { IfOk result (λ key. key ≡ key_of assignment.now) }
+    {
+        Ok(SettingKey {
+            section: assignment.section.try_clone()?,
+            key: assignment.key.try_clone()?,
+        })
+    }
+
+    /// Whether the key sets dependencies. It takes no memory.
+    pub(crate) fn sets_dependencies(&self) -> bool
+        ensures test { result ≡ is_dependency self.now }
+    {
+        KeyRule::of(self.section.as_slice(), self.key.as_slice()) == KeyRule::Dependency
+    }
+
+    /// Whether this is the key with this name of this section. It takes no memory.
+    pub(crate) fn is(&self, section: &[u8], key: &[u8]) -> bool
+        ensures test { result ≡ same_key (record { section = section.now; key = key.now }) self.now }
+    {
+        section == self.section.as_slice() && key == self.key.as_slice()
+    }
+
+    /// The same key again, with the same bytes. It fails for want of memory alone.
+    pub fn try_clone(&self) -> Result<SettingKey, AllocError>
+        ensures copy { IfOk result (λ copy. copy ≡ self.now) }
+    {
+        Ok(SettingKey {
+            section: self.section.try_clone()?,
+            key: self.key.try_clone()?,
+        })
+    }
+}

@@ -1,0 +1,143 @@
+//! The kinds of dependencies.
+ghost use Rattle.std.specs.Prelude.{◌≡◌};
+ghost use Rattle.setting_rules.specs.Kinds.{kinds, settable, inverse, word, settable_kind};
+
+/// How one unit depends on another (systemd.unit(5), "Mapping of unit properties to their inverses"). Each kind stands
+/// before its inverse, which says the same of the two units the other way round.
+#[derive(Clone, Copy, Debug, PartialEq, Eq, PartialOrd, Ord)]
+pub enum DepKind {
+    Before,
+    After,
+    Wants,
+    WantedBy,
+    Requires,
+    RequiredBy,
+    Requisite,
+    RequisiteOf,
+    BindsTo,
+    BoundBy,
+    PartOf,
+    ConsistsOf,
+    Conflicts,
+    ConflictedBy,
+    OnFailure,
+    OnFailureOf,
+    PropagatesReloadTo,
+    ReloadPropagatedFrom,
+}
+
+/// All kinds, in order.
+const KINDS: [DepKind; 18] = [
+    DepKind::Before,
+    DepKind::After,
+    DepKind::Wants,
+    DepKind::WantedBy,
+    DepKind::Requires,
+    DepKind::RequiredBy,
+    DepKind::Requisite,
+    DepKind::RequisiteOf,
+    DepKind::BindsTo,
+    DepKind::BoundBy,
+    DepKind::PartOf,
+    DepKind::ConsistsOf,
+    DepKind::Conflicts,
+    DepKind::ConflictedBy,
+    DepKind::OnFailure,
+    DepKind::OnFailureOf,
+    DepKind::PropagatesReloadTo,
+    DepKind::ReloadPropagatedFrom,
+];
+
+/// The kinds that a unit file may set, in order.
+const SETTABLE: [DepKind; 11] = [
+    DepKind::Before,
+    DepKind::After,
+    DepKind::Wants,
+    DepKind::Requires,
+    DepKind::Requisite,
+    DepKind::BindsTo,
+    DepKind::PartOf,
+    DepKind::Conflicts,
+    DepKind::OnFailure,
+    DepKind::PropagatesReloadTo,
+    DepKind::ReloadPropagatedFrom,
+];
+
+impl DepKind {
+    /// All kinds, each before its inverse. It takes no memory.
+    pub fn all() -> &'static [DepKind]
+        ensures kinds { result.now ≡ kinds }
+    {
+        &KINDS
+    }
+
+    /// The kinds that a key of `[Unit]` sets, in the order of all. It takes no memory.
+    pub fn settable() -> &'static [DepKind]
+        ensures kinds { result.now ≡ settable }
+    {
+        &SETTABLE
+    }
+
+    /// The kind that says the same from the other unit.
+    pub fn inverse(self) -> DepKind
+        ensures inverse { result ≡ inverse self }
+    {
+        match self {
+            DepKind::Before => DepKind::After,
+            DepKind::After => DepKind::Before,
+            DepKind::Wants => DepKind::WantedBy,
+            DepKind::WantedBy => DepKind::Wants,
+            DepKind::Requires => DepKind::RequiredBy,
+            DepKind::RequiredBy => DepKind::Requires,
+            DepKind::Requisite => DepKind::RequisiteOf,
+            DepKind::RequisiteOf => DepKind::Requisite,
+            DepKind::BindsTo => DepKind::BoundBy,
+            DepKind::BoundBy => DepKind::BindsTo,
+            DepKind::PartOf => DepKind::ConsistsOf,
+            DepKind::ConsistsOf => DepKind::PartOf,
+            DepKind::Conflicts => DepKind::ConflictedBy,
+            DepKind::ConflictedBy => DepKind::Conflicts,
+            DepKind::OnFailure => DepKind::OnFailureOf,
+            DepKind::OnFailureOf => DepKind::OnFailure,
+            DepKind::PropagatesReloadTo => DepKind::ReloadPropagatedFrom,
+            DepKind::ReloadPropagatedFrom => DepKind::PropagatesReloadTo,
+        }
+    }
+
+    /// The word of the kind, as files and answers have it: `Before`, `After` and so on.
+    pub fn word(self) -> &'static str
+        ensures word { result.now ≡ word self }
+    {
+        match self {
+            DepKind::Before => "Before",
+            DepKind::After => "After",
+            DepKind::Wants => "Wants",
+            DepKind::WantedBy => "WantedBy",
+            DepKind::Requires => "Requires",
+            DepKind::RequiredBy => "RequiredBy",
+            DepKind::Requisite => "Requisite",
+            DepKind::RequisiteOf => "RequisiteOf",
+            DepKind::BindsTo => "BindsTo",
+            DepKind::BoundBy => "BoundBy",
+            DepKind::PartOf => "PartOf",
+            DepKind::ConsistsOf => "ConsistsOf",
+            DepKind::Conflicts => "Conflicts",
+            DepKind::ConflictedBy => "ConflictedBy",
+            DepKind::OnFailure => "OnFailure",
+            DepKind::OnFailureOf => "OnFailureOf",
+            DepKind::PropagatesReloadTo => "PropagatesReloadTo",
+            DepKind::ReloadPropagatedFrom => "ReloadPropagatedFrom",
+        }
+    }
+
+    /// The kind that a key of `[Unit]` with this name sets. It takes no memory.
+    #[tactic(auto, unfolding(crate::specs::Kinds::settable_kind))]
+    pub fn of_key(key: &[u8]) -> Option<DepKind>
+        ensures kind { result ≡ settable_kind key.now }
+    {
+        SETTABLE
+            .iter()
+            .copied()
+            .find(|kind| kind.word().as_bytes() == key)
+    }
+}

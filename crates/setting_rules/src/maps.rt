@@ -1,0 +1,134 @@
+//! The values of each key, in the order of the keys.
+ghost use Rattle.std.specs.Prelude.{◌≡◌, ◌↔◌, ◌<◌, ◌++◌, [], ◌∷◌, IsTrue, IfOk, OnOk, Some, length, slice_get};
+ghost use Rattle.setting_rules.specs.Maps.{place_of, with_key, changed, values_at};
+
+use crate::keys::SettingKey;
+use byte_strings::Bytes;
+use indexmap::IndexMap;
+use section_reader::Items;
+use std::alloc::{AllocError, Global};
+use std::marker::Model;
+
+/// The values of each key, in the order in which the keys were entered: contracts see a list of pairs.
+#[derive(Drop)]
+pub struct SettingMap {
+    entries: IndexMap<SettingKey, Items<Bytes>>,
+}
+
+impl Model for SettingMap {
+    ghost use Rattle.std.specs.Prelude.{List, ℕ};
+    ghost use Rattle.setting_rules.specs.declared.keys.SettingKey.{SettingKey};
+
+    ghost Value = { List (SettingKey × List (List ℕ)) };
+
+    ghost view = { λ m. m.entries.entries };
+}
+
+impl SettingMap {
+    /// No keys. It takes no memory.
+    pub(crate) fn new(alloc: Global) -> SettingMap
+        ensures empty { result ≡ [] }
+    {
+        SettingMap {
+            entries: IndexMap::new(alloc),
+        }
+    }
+
+    /// How many keys there are. It takes no memory.
+    pub fn len(&self) -> usize
+        ensures len { result ≡ length self.now }
+    {
+        self.entries.len()
+    }
+
+    /// Whether there are no keys. It takes no memory.
+    pub fn is_empty(&self) -> bool
+        ensures test { IsTrue result ↔ (self.now ≡ []) }
+    {
+        self.entries.is_empty()
+    }
+
+    /// The key at a place and its values. It takes no memory.
+    pub fn entry(&self, place: usize) -> (&SettingKey, &[Bytes])
+        requires within { place < length self.now }
+        ensures entry { slice_get self.now place ≡ Some (result.0.now, result.1.now) }
+    {
+        let (key, values) = self.entries.get_index(place).unwrap();
+        (key, values.as_slice())
+    }
+
+    /// The values of a key, none where it isn't there. It takes no memory, and walks over the keys.
+    pub fn values_of(&self, section: &[u8], key: &[u8]) -> &[Bytes]
+        ensures values { result.now ≡ values_at self.now (record { section = section.now; key = key.now }) }
+    {
+        for place in 0..self.len() {
+            let (entered, values) = self.entry(place);
+            if entered.is(section, key) {
+                return values;
+            }
+        }
+        &[]
+    }
+
+    // Where a key stands, which is entered with no values unless it is there.
+    fn place(&mut self, alloc: Global, key: SettingKey) -> Result<usize, AllocError>
+        ensures entered { OnOk result (self.new ≡ with_key self.old key) }
+        ensures place { IfOk result (λ place. place ≡ place_of self.old key) }
+    {
+        match self.entries.get_index_of(&key) {
+            Some(place) => Ok(place),
+            None => {
+                let place = self.entries.len();
+                self.entries.insert(key, Items::new(alloc))?;
+                Ok(place)
+            }
+        }
+    }
+
+    /// Enters a key, unless it is there. It fails for want of memory alone.
+    pub(crate) fn enter(&mut self, alloc: Global, key: SettingKey) -> Result<(), AllocError>
+        ensures map { OnOk result (self.new ≡ changed (λ values. values) self.old key) }
+    {
+        self.place(alloc, key)?;
+        Ok(())
+    }
+
+    /// Puts a value behind those of a key, which is entered unless it is there. It fails for want of memory alone.
+    pub(crate) fn add(
+        &mut self,
+        alloc: Global,
+        key: SettingKey,
+        value: Bytes,
+    ) -> Result<(), AllocError>
+        ensures map { OnOk result (self.new ≡ changed (λ values. values ++ value ∷ []) self.old key) }
+    {
+        let place = self.place(alloc, key)?;
+        self.entries[place].push(value)?;
+        Ok(())
+    }
+
+    /// Takes the values of a key away, which is entered unless it is there. It fails for want of memory alone.
+    pub(crate) fn clear(&mut self, alloc: Global, key: SettingKey) -> Result<(), AllocError>
+        ensures map { OnOk result (self.new ≡ changed (λ _. []) self.old key) }
+    {
+        let place = self.place(alloc, key)?;
+        self.entries[place].clear();
+        Ok(())
+    }
+
+    /// Gives a key this value alone; it is entered unless it is there. It fails for want of memory alone.
+    pub(crate) fn replace(
+        &mut self,
+        alloc: Global,
+        key: SettingKey,
+        value: Bytes,
+    ) -> Result<(), AllocError>
+        ensures map { OnOk result (self.new ≡ changed (λ _. value ∷ []) self.old key) }
+    {
+        let place = self.place(alloc, key)?;
+        let values = &mut self.entries[place];
+        values.clear();
+        values.push(value)?;
+        Ok(())
+    }
+}

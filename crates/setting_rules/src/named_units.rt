@@ -1,0 +1,33 @@
+//! The units that a unit's settings name.
+ghost use Rattle.std.specs.Prelude.{◌≡◌, IfOk};
+ghost use Rattle.setting_rules.specs.Dependencies.{lists_of, word_notes};
+
+use crate::dependency_lists::{Dependencies, UNIT};
+use crate::kinds::DepKind;
+use crate::settings::Settings;
+use std::alloc::{AllocError, Global};
+use unit_name::UnitName;
+
+/// The units that a unit's settings name (systemd.unit(5), "[Unit] Section Options").
+///
+/// The values of each key that sets dependencies are split at whitespace, and each word is expanded and then read as a name;
+/// a template takes the unit's instance, or else its prefix. A word that can't be expanded, or is no name then, is noted. It
+/// refuses for want of memory alone.
+///
+/// For each kind a walk over the keys; then the time grows as the bytes of the values and of what they expand to, and as
+/// O(n log n) in the names of a kind.
+pub fn dependencies(
+    alloc: Global,
+    settings: &Settings,
+    unit: &UnitName,
+) -> Result<Dependencies, AllocError>
+    ensures lists { IfOk result (λ all. all.lists ≡ lists_of settings.now.map unit.now) }
+    ensures notes { IfOk result (λ all. all.notes ≡ word_notes settings.now.map unit.now) }
+{
+    let mut all = Dependencies::new(alloc);
+    for kind in DepKind::settable() {
+        let values = settings.map.values_of(UNIT, kind.word().as_bytes());
+        all.add_kind(alloc, *kind, values, unit)?;
+    }
+    Ok(all)
+}

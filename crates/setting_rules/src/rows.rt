@@ -1,0 +1,108 @@
+//! The values that count, as rows.
+ghost use Rattle.std.specs.Prelude.{◌≡◌, ◌++◌, ◌∷◌, [], OnOk, if◌then◌else◌};
+ghost use Rattle.setting_rules.specs.Rows.{is_dependency, rows_at, escape_notes_at};
+
+use crate::expansions::expanded;
+use crate::keys::SettingKey;
+use crate::notes::{SettingNote, SettingNoteKind};
+use byte_strings::Bytes;
+use section_reader::Items;
+use std::alloc::{AllocError, Global};
+use unit_name::UnitName;
+
+/// A value of a key, with the specifiers of its unit's name expanded.
+#[derive(Debug, PartialEq, Eq, Drop)]
+pub struct Row {
+    /// The section of the key.
+    pub section: Bytes,
+    /// The key that has the value.
+    pub key: Bytes,
+    /// The value.
+    pub value: Bytes,
+}
+
+/// The values of a unit's keys.
+#[derive(Debug, PartialEq, Eq, Drop)]
+pub struct Values {
+    /// A row for each value, in the order of the keys and of each key's values.
+    pub rows: Items<Row>,
+    /// What is wrong with other values, in the same order.
+    pub notes: Items<SettingNote>,
+}
+
+impl Values {
+    /// No rows. It takes no memory.
+    pub(crate) fn new(alloc: Global) -> Values
+        ensures rows { result.rows ≡ [] }
+        ensures notes { result.notes ≡ [] }
+    {
+        Values {
+            rows: Items::new(alloc),
+            notes: Items::new(alloc),
+        }
+    }
+
+    /// Adds the values of a key, unless it sets dependencies. It fails for want of memory alone.
+    pub(crate) fn add_key(
+        &mut self,
+        alloc: Global,
+        key: &SettingKey,
+        texts: &[Bytes],
+        unit: &UnitName,
+    ) -> Result<(), AllocError>
+        ensures rows { OnOk result (self.new.rows
+            ≡ self.old.rows ++ (if is_dependency key.now then [] else rows_at unit.now key.now texts.now)) }
+        ensures notes { OnOk result (self.new.notes
+            ≡ self.old.notes ++ (if is_dependency key.now then [] else escape_notes_at unit.now key.now texts.now)) }
+    {
+        if key.sets_dependencies() {
+            Ok(())
+        } else {
+            self.add_values(alloc, key, texts, unit)
+        }
+    }
+
+    // Adds values of a key.
+    fn add_values(
+        &mut self,
+        alloc: Global,
+        key: &SettingKey,
+        texts: &[Bytes],
+        unit: &UnitName,
+    ) -> Result<(), AllocError>
+        ensures rows { OnOk result (self.new.rows ≡ self.old.rows ++ rows_at unit.now key.now texts.now) }
+        ensures notes { OnOk result (self.new.notes ≡ self.old.notes ++ escape_notes_at unit.now key.now texts.now) }
+    {
+        for text in texts {
+            self.add_value(alloc, key, text, unit)?;
+        }
+        Ok(())
+    }
+
+    // Adds a value of a key, or a note on it.
+    fn add_value(
+        &mut self,
+        alloc: Global,
+        key: &SettingKey,
+        text: &Bytes,
+        unit: &UnitName,
+    ) -> Result<(), AllocError>
+        ensures rows { OnOk result (self.new.rows ≡ self.old.rows ++ rows_at unit.now key.now (text.now ∷ [])) }
+        ensures notes { OnOk result (self.new.notes ≡ self.old.notes ++ escape_notes_at unit.now key.now (text.now ∷ [])) }
+    {
+        let SettingKey { section, key } = key.try_clone()?;
+        match expanded(alloc, text, unit)? {
+            Some(value) => self.rows.push(Row {
+                section,
+                key,
+                value,
+            })?,
+            None => self.notes.push(SettingNote {
+                section,
+                key,
+                kind: SettingNoteKind::BadEscape,
+            })?,
+        }
+        Ok(())
+    }
+}

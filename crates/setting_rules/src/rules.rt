@@ -1,0 +1,55 @@
+//! How the values of a key count.
+ghost use Rattle.std.specs.Prelude.{◌≡◌};
+ghost use Rattle.setting_rules.specs.Rules.{rule_of, unit_rule};
+
+use crate::kinds::DepKind;
+
+/// How the values of a key count (systemd.unit(5); systemd.syntax(7), "Introduction").
+#[derive(Clone, Copy, Debug, PartialEq, Eq)]
+pub enum KeyRule {
+    /// The section or the key begins with `X-`: they don't.
+    Ignored,
+    /// It sets dependencies: all values that aren't empty count.
+    Dependency,
+    /// It is `RefuseManualStart`: the last good boolean counts.
+    Switch,
+    /// Its name begins with `Condition`: an empty value of any such key empties it.
+    Condition,
+    /// Its name begins with `Assert`: an empty value of any such key empties it.
+    Assertion,
+    /// Any other: an empty value empties it.
+    Plain,
+}
+
+impl KeyRule {
+    /// How the values of this key of this section count. It takes no memory.
+    #[tactic(auto, unfolding(crate::specs::Rules::rule_of))]
+    pub(crate) fn of(section: &[u8], key: &[u8]) -> KeyRule
+        ensures rule { result ≡ rule_of section.now key.now }
+    {
+        if section.starts_with(b"X-") || key.starts_with(b"X-") {
+            KeyRule::Ignored
+        } else if section == b"Unit".as_slice() {
+            KeyRule::in_unit(key)
+        } else {
+            KeyRule::Plain
+        }
+    }
+
+    // The same for a key of `[Unit]`.
+    fn in_unit(key: &[u8]) -> KeyRule
+        ensures rule { result ≡ unit_rule key.now }
+    {
+        if DepKind::of_key(key).is_some() {
+            KeyRule::Dependency
+        } else if key == b"RefuseManualStart".as_slice() {
+            KeyRule::Switch
+        } else if key.starts_with(b"Condition") {
+            KeyRule::Condition
+        } else if key.starts_with(b"Assert") {
+            KeyRule::Assertion
+        } else {
+            KeyRule::Plain
+        }
+    }
+}

@@ -1,0 +1,192 @@
+//! What the assignments of a unit come to.
+ghost use Rattle.std.specs.Prelude.{◌≡◌, ◌∷◌, [], ◌++◌, IfOk, OnOk, drop, false, not, ◌&&◌, if◌then◌else◌};
+ghost use Rattle.setting_rules.specs.Effects.{effect, changed_by, resets_family, start_of};
+ghost use Rattle.setting_rules.specs.Maps.{changed};
+ghost use Rattle.setting_rules.specs.Rules.{is_empty};
+ghost use Rattle.setting_rules.specs.Settings.{key_of, is_bad_by, note_on, behind_last, settings_of, boolean_notes};
+ghost use Rattle.setting_rules.specs.declared.notes.SettingNoteKind.TheVariants.{BadBoolean};
+
+use crate::booleans::boolean;
+use crate::keys::SettingKey;
+use crate::maps::SettingMap;
+use crate::notes::{SettingNote, SettingNoteKind};
+use crate::rules::KeyRule;
+use section_reader::{Assignment, Items};
+use std::alloc::{AllocError, Global};
+
+/// What the assignments of a unit come to.
+#[derive(Drop)]
+pub struct Settings {
+    /// The values of each key that count, in the order of the keys' first assignments that count.
+    pub map: SettingMap,
+    /// What is wrong with values, in the order of the assignments.
+    pub notes: Items<SettingNote>,
+}
+
+/// What the assignments of a unit come to: those of its fragment, then those of its drop-ins, in one list. It refuses for
+/// want of memory alone.
+///
+/// An empty value empties its key (systemd.syntax(7), "Introduction"), and one of a key of `[Unit]` that begins with
+/// `Condition` or with `Assert` empties all keys that begin so (systemd.unit(5), "Conditions and Asserts"). Keys of `[Unit]`
+/// that set dependencies are never emptied, and of `RefuseManualStart` the last good boolean counts; a bad one is noted and
+/// otherwise passed over. Sections and keys that begin with `X-` are passed over (systemd.unit(5), "Unit File Format").
+///
+/// Two passes over the assignments with one look-up by hash for each; keys and values share their bytes with them.
+pub fn apply(alloc: Global, assignments: &[Assignment]) -> Result<Settings, AllocError>
+    ensures map { IfOk result (λ settings. settings.map ≡ settings_of assignments.now) }
+    ensures notes { IfOk result (λ settings. settings.notes ≡ boolean_notes assignments.now) }
+{
+    let starts = FamilyStarts::of(assignments);
+    let mut settings = Settings::new(alloc);
+    for (index, assignment) in assignments.iter().enumerate() {
+        let rule = KeyRule::of(assignment.section.as_slice(), assignment.key.as_slice());
+        settings.take(alloc, assignment, rule, starts.of_rule(rule) <= index)?;
+    }
+    Ok(settings)
+}
+
+// Where the values of a family count from: behind the last assignment that empties it.
+#[derive(Drop)]
+struct FamilyStarts {
+    conditions: usize,
+    assertions: usize,
+}
+
+impl FamilyStarts {
+    fn of(assignments: &[Assignment]) -> FamilyStarts
+        ensures conditions { drop result.conditions assignments.now
+            ≡ behind_last (resets_family KeyRule.Condition) assignments.now }
+        ensures assertions { drop result.assertions assignments.now
+            ≡ behind_last (resets_family KeyRule.Assertion) assignments.now }
+    {
+        FamilyStarts {
+            conditions: family_start(assignments, KeyRule::Condition),
+            assertions: family_start(assignments, KeyRule::Assertion),
+        }
+    }
+
+    // Where the values of keys with a rule count from.
+    fn of_rule(&self, rule: KeyRule) -> usize
+        ensures start { result ≡ start_of self.now.conditions self.now.assertions rule }
+    {
+        match rule {
+            KeyRule::Condition => self.conditions,
+            KeyRule::Assertion => self.assertions,
+            _ => 0,
+        }
+    }
+}
+
+// Where the values of a family count from.
+fn family_start(assignments: &[Assignment], family: KeyRule) -> usize
+    ensures start { drop result assignments.now ≡ behind_last (resets_family family) assignments.now }
+{
+    let mut start = 0;
+    for (index, assignment) in assignments.iter().enumerate() {
+        if resets_family(assignment, family) {
+            start = index + 1;
+        }
+    }
+    start
+}
+
+// Whether an assignment empties a family.
+fn resets_family(assignment: &Assignment, family: KeyRule) -> bool
+    ensures test { result ≡ resets_family family assignment.now }
+{
+    assignment.value.as_slice().is_empty()
+        && KeyRule::of(assignment.section.as_slice(), assignment.key.as_slice()) == family
+}
+
+impl Settings {
+    fn new(alloc: Global) -> Settings
+        ensures map { result.map ≡ [] }
+        ensures notes { result.notes ≡ [] }
+    {
+        Settings {
+            map: SettingMap::new(alloc),
+            notes: Items::new(alloc),
+        }
+    }
+
+    // Takes one more assignment, whose key has this rule. The value of a family counts where it is live.
+    fn take(
+        &mut self,
+        alloc: Global,
+        assignment: &Assignment,
+        rule: KeyRule,
+        live: bool,
+    ) -> Result<(), AllocError>
+        ensures map { OnOk result (self.new.map
+            ≡ changed_by (effect rule live assignment.now.value) self.old.map (key_of assignment.now)) }
+        ensures notes { OnOk result (self.new.notes ≡ self.old.notes
+            ++ (if is_bad_by rule assignment.now.value then note_on (key_of assignment.now) BadBoolean ∷ [] else [])) }
+    {
+        let is_empty = assignment.value.as_slice().is_empty();
+        match rule {
+            KeyRule::Ignored => {}
+            KeyRule::Dependency => {
+                if !is_empty {
+                    self.add(alloc, assignment)?;
+                }
+            }
+            KeyRule::Switch => self.switch(alloc, assignment)?,
+            KeyRule::Condition | KeyRule::Assertion => self.take_in_family(
+                alloc, assignment, live,
+            )?,
+            KeyRule::Plain => {
+                if is_empty {
+                    self.map.clear(alloc, SettingKey::of(assignment)?)?;
+                } else {
+                    self.add(alloc, assignment)?;
+                }
+            }
+        }
+        Ok(())
+    }
+
+    // Puts the value of an assignment behind those of its key.
+    fn add(&mut self, alloc: Global, assignment: &Assignment) -> Result<(), AllocError>
+        ensures map { OnOk result (self.new.map
+            ≡ changed (λ values. values ++ assignment.now.value ∷ []) self.old.map (key_of assignment.now)) }
+        ensures notes { OnOk result (self.new.notes ≡ self.old.notes) }
+    {
+        let key = SettingKey::of(assignment)?;
+        self.map.add(alloc, key, assignment.value.try_clone()?)
+    }
+
+    // Takes an assignment of a family: its value counts where it is live and isn't empty.
+    fn take_in_family(
+        &mut self,
+        alloc: Global,
+        assignment: &Assignment,
+        live: bool,
+    ) -> Result<(), AllocError>
+        ensures map { OnOk result (self.new.map
+            ≡ changed_by (effect KeyRule.Condition live assignment.now.value) self.old.map (key_of assignment.now)) }
+        ensures notes { OnOk result (self.new.notes ≡ self.old.notes) }
+    {
+        if live && !assignment.value.as_slice().is_empty() {
+            self.add(alloc, assignment)?;
+        } else {
+            self.map.enter(alloc, SettingKey::of(assignment)?)?;
+        }
+        Ok(())
+    }
+
+    // Takes an assignment of a switch: a good boolean replaces the one before, a bad one is noted.
+    fn switch(&mut self, alloc: Global, assignment: &Assignment) -> Result<(), AllocError>
+        ensures map { OnOk result (self.new.map
+            ≡ changed_by (effect KeyRule.Switch false assignment.now.value) self.old.map (key_of assignment.now)) }
+        ensures notes { OnOk result (self.new.notes ≡ self.old.notes
+            ++ (if is_bad_by KeyRule.Switch assignment.now.value then note_on (key_of assignment.now) BadBoolean ∷ [] else [])) }
+    {
+        let key = SettingKey::of(assignment)?;
+        if boolean(assignment.value.as_slice()).is_some() {
+            self.map.replace(alloc, key, assignment.value.try_clone()?)
+        } else {
+            self.notes
+                .push(SettingNote::on(key, SettingNoteKind::BadBoolean))
+        }
+    }
+}

@@ -1,0 +1,18 @@
+//! Whether a unit refuses a manual start.
+ghost use Rattle.std.specs.Prelude.{◌≡◌};
+ghost use Rattle.setting_rules.specs.Switches.{refuses};
+
+use crate::booleans::boolean;
+use crate::dependency_lists::UNIT;
+use crate::settings::Settings;
+
+/// Whether the unit refuses that a person starts it: the last good boolean of `RefuseManualStart` says so (systemd.unit(5),
+/// "[Unit] Section Options"). It takes no memory, and walks over the keys.
+pub fn refuses_manual_start(settings: &Settings) -> bool
+    ensures test { result ≡ refuses settings.now.map }
+{
+    match settings.map.values_of(UNIT, b"RefuseManualStart").last() {
+        Some(value) => boolean(value.as_slice()).unwrap_or(false),
+        None => false,
+    }
+}
