@@ -169,6 +169,10 @@ impl<K: Key, V: Join> Join for JoinMap<K, V> {
         self.pairs.is_empty()
     }
 
+    /// Joins key by key. Few pairs cost a search each and the shifts of those that are new; many cost
+    /// one growth and one pass over both maps. Into an empty map the other one moves as it stands.
+    ///
+    /// A pair that is refused goes back into the room that it left.
     fn join_from(&mut self, mut other: Self) -> Result<(), Rest<Self>> {
         if join_pairs(&mut self.pairs, &mut other.pairs) {
             return Ok(());
@@ -176,10 +180,14 @@ impl<K: Key, V: Join> Join for JoinMap<K, V> {
         Err(Rest { rest: other })
     }
 
+    /// Joins copies key by key. Up to the first key that is new it costs a search each and moves
+    /// nothing; behind it few pairs cost the same and the shifts, and many one growth and one pass
+    /// over both maps.
     fn join_copy(&mut self, other: &Self) -> Result<(), AllocError> {
         join_copies(&mut self.pairs, &other.pairs)
     }
 
+    /// An equal map, by one growth and a copy of each pair. It fails for want of memory alone.
     fn try_clone(&self) -> Result<Self, AllocError> {
         Ok(JoinMap {
             pairs: copy_pairs(*self.pairs.allocator(), &self.pairs)?,
