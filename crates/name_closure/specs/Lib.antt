@@ -1,0 +1,6 @@
+pub mod Chains
+pub mod ClosureLaws
+pub mod LimitLaws
+pub mod DistanceLaws
+pub mod SourceLaws
+pub mod ListedLaws
