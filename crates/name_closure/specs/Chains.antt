@@ -1,7 +1,7 @@
 -- What is reached from sources by steps, and in how many: for any nodes, any sources and any steps between nodes.
 -- Source: Cormen, Leiserson, Rivest, Stein, Introduction to Algorithms, chapter "Elementary graph algorithms" (reachability, shortest-path distance);
 -- that a closure is given by a list, or by a list of over so many of its members, is this project's own.
-use Rattle.std.specs.Prelude.{◌≡◌, ◌↔◌, ◌<◌, ◌≤◌, ℕ, zero, suc, List, length}
+use Rattle.std.specs.Prelude.{◌↔◌, ◌<◌, ◌≤◌, ℕ, zero, suc, List, length}
 use Rattle.std.specs.List.Sorted.{IsStrictlySortedBy}
 use Rattle.std.specs.Ordering.{nat_cmp, ordering_then}
 use Rattle.std.specs.declared.cmp.Ordering.{Ordering}

@@ -1,12 +1,10 @@
 -- Closures have their sources, are closed under the steps, and are the least such sets; of one closure there is one list.
-use Rattle.std.specs.Prelude.{◌≡◌, ◌↔◌, ◌<◌, ◌≤◌, ℕ, zero, suc, List, length}
+use Rattle.std.specs.Prelude.{◌≡◌, ℕ, zero, suc, List}
 use Rattle.std.specs.Cmp.{IsTotalOrder}
-use Rattle.std.specs.List.Sorted.{IsStrictlySortedBy}
 use Rattle.std.specs.declared.cmp.Ordering.{Ordering}
-use Rattle.std.proofs.Common.{arith}
 use Rattle.list_laws.specs.Members.{IsAmong}
 use Rattle.list_laws.specs.Rising.{one_rising_list}
-use Rattle.name_closure.specs.Chains.{IsChain, IsReached, IsClosure, HasOver}
+use Rattle.name_closure.specs.Chains.{IsChain, IsReached, IsClosure}
 
 -- the set has the sources, and what a step leads to from it
 pub record IsClosed {N : Type 0} (starts : N → Type 0) (leads : N → N → Type 0) (set : N → Type 0) : Type 0 where

@@ -1,9 +1,8 @@
 -- Distances: a node has one at most; each is one more than that of a node before it; what is reached by chains that can be tested has one.
-use Rattle.std.specs.Prelude.{◌≡◌, ◌↔◌, ◌⊎◌, ◌<◌, ◌≤◌, ◌+◌, ℕ, zero, suc, List}
+use Rattle.std.specs.Prelude.{◌≡◌, ◌↔◌, ◌⊎◌, ◌<◌, ◌≤◌, ℕ, zero, suc, List}
 use Rattle.std.specs.Cmp.{IsTotalOrder, then_total, on_total, nat_cmp_total}
 use Rattle.std.specs.declared.cmp.Ordering.{Ordering}
-use Rattle.std.proofs.Common.{arith, inl, inr, refl, ap, sym, subst}
-use Rattle.list_laws.specs.Members.{IsAmong}
+use Rattle.std.proofs.Common.{arith, inl, inr, refl, ap, subst}
 use Rattle.list_laws.specs.Rising.{one_rising_list}
 use Rattle.name_closure.specs.Chains.{IsChain, IsReached, IsDistance, IsDistances, distance_cmp}
 

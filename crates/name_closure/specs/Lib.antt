@@ -4,3 +4,5 @@ pub mod LimitLaws
 pub mod DistanceLaws
 pub mod SourceLaws
 pub mod ListedLaws
+pub mod Faults
+pub mod Growth

@@ -1,5 +1,5 @@
 -- A rising list has no more members than any list that has them all, so more is reached than a limit exactly where the closure's list is longer.
-use Rattle.std.specs.Prelude.{◌≡◌, ◌↔◌, ◌⊎◌, ◌<◌, ◌≤◌, ℕ, zero, suc, List, [], ◌∷◌, length}
+use Rattle.std.specs.Prelude.{◌≡◌, ◌↔◌, ◌<◌, ◌≤◌, ℕ, suc, List, [], ◌∷◌, length}
 use Rattle.std.specs.Cmp.{IsTotalOrder}
 use Rattle.std.specs.List.{AllByRecursion}
 use Rattle.std.specs.List.Sorted.{IsStrictlySortedBy}
@@ -64,3 +64,8 @@ module _ {N : Type 0} where
             let fewer = no_more v.nodes nodes v.rising (λ n h. (c.members n).1 (v.reached n h)) in
             let more = v.over in
             omega arith
+
+    -- a closure of no more than the limit is all that is reached
+    pub not_over : (starts : N → Type 0) (leads : N → N → Type 0) (nodes : List N) (limit : ℕ) → IsClosure starts leads order nodes → length nodes ≤ limit
+        → ¬ HasOver starts leads order limit
+    not_over starts leads nodes limit c room v = let long = (over-closure starts leads nodes limit c).0 v in absurd (omega arith)

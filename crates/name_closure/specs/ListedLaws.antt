@@ -1,5 +1,5 @@
 -- Steps and sources that lists give: whether a chain leads to a node can be tested, so what is reached is at some distance.
-use Rattle.std.specs.Prelude.{◌≡◌, ◌⊎◌, ℕ, zero, suc, List, [], ◌∷◌, ◌++◌}
+use Rattle.std.specs.Prelude.{◌≡◌, ℕ, zero, suc, List, [], ◌∷◌}
 use Rattle.std.specs.List.{flat_map}
 use Rattle.std.specs.Cmp.{IsTotalOrder}
 use Rattle.std.specs.declared.cmp.Ordering.{Ordering}
@@ -20,17 +20,18 @@ Named named n m = IsAmong m (named n)
 
 module _ {N : Type 0} (named : N → List N) where
   -- one of the list names the node
-  abbrev IsNamedBy : List N → N → Type 0
+  abbrev pub IsNamedBy : List N → N → Type 0
   IsNamedBy ms n = (m : N) × (IsAmong m ms × IsAmong n (named m))
 
-  named_by : (ms : List N) (n : N) → IsAmong n (flat_map named ms) → IsNamedBy ms n
+  -- what stands in the lists of several is named by one of them
+  pub named_by : (ms : List N) (n : N) → IsAmong n (flat_map named ms) → IsNamedBy ms n
   named_by [] n h = absurd h
   named_by (m ∷ ms) n h = elim (IsAmong-append_cases n (named m) (flat_map named ms) h) [
     | inl a ↦ (m, (inl refl, a))
     | inr b ↦ (let r = named_by ms n b in (r.0, (inr r.1.0, r.1.1)))
   ]
 
-  names_all : (ms : List N) (m n : N) → IsAmong m ms → IsAmong n (named m) → IsAmong n (flat_map named ms)
+  pub names_all : (ms : List N) (m n : N) → IsAmong m ms → IsAmong n (named m) → IsAmong n (flat_map named ms)
   names_all [] m n h a = absurd h
   names_all (o ∷ ms) m n (inl e) a = IsAmong-append_left n (named o) (flat_map named ms) (subst_named a)
     where

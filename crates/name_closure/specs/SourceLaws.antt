@@ -1,10 +1,9 @@
 -- How what is reached depends on the sources and on the steps: it depends on which they are alone, sources unite, and what is reached leads no farther.
-use Rattle.std.specs.Prelude.{◌≡◌, ◌↔◌, ◌⊎◌, ◌≤◌, ℕ, zero, suc, List}
+use Rattle.std.specs.Prelude.{◌↔◌, ◌⊎◌, ℕ, zero, suc, List}
 use Rattle.std.specs.declared.cmp.Ordering.{Ordering}
 use Rattle.std.proofs.Common.{inl, inr}
-use Rattle.list_laws.specs.Members.{IsAmong}
-use Rattle.name_closure.specs.Chains.{IsChain, IsReached, IsDistance, IsClosure, IsDistances}
-use Rattle.name_closure.specs.ClosureLaws.{IsClosed, reached_closed, reached_least}
+use Rattle.name_closure.specs.Chains.{IsChain, IsReached, IsDistance, IsClosure}
+use Rattle.name_closure.specs.ClosureLaws.{reached_closed, reached_least}
 
 -- the same nodes are in both sets
 abbrev pub AreSameNodes : {N : Type 0} → (N → Type 0) → (N → Type 0) → Type 0
