@@ -20,9 +20,11 @@ pub fn close<K: Key, L: Rounds<K>>(
     sources: &[K],
     limit: usize,
 ) -> Result<BTreeSet<K>, CloseFault>
-    ensures closure { IfOk result (λ found. IsClosure (Listed sources.now) (Named (L.named steps.now)) K.cmp found.keys) }
+    ensures closure { IfOk result (λ found. IsClosure (Listed sources.now) (Named (L.named steps.now)) K.cmp
+        found.keys) }
     ensures room { IfOk result (λ found. length found.keys ≤ limit) }
-    ensures over { IfErr result (λ fault. OnTooMany fault (HasOver (Listed sources.now) (Named (L.named steps.now)) K.cmp limit)) }
+    ensures over { IfErr result (λ fault. OnTooMany fault (HasOver (Listed sources.now)
+        (Named (L.named steps.now)) K.cmp limit)) }
     ensures not_over { IfOk result (λ _. ¬ HasOver (Listed sources.now) (Named (L.named steps.now)) K.cmp limit) }
 {
     let mut found = BTreeSet::new(alloc);

@@ -32,10 +32,12 @@ pub fn least_closed_sets<N, S: NodeSet<N>, E: StepSet<N>, O: NodeSet<N>>()
 /// There is one such list, and it is longer than a limit exactly where more is reached than the
 /// limit.
 pub fn lists_of_closures<N: Ord, S: NodeSet<N>, E: StepSet<N>, O: NodeSet<N>>()
-    ensures closed { (nodes : List N) → IsClosure S.holds E.leads N.cmp nodes → IsClosed S.holds E.leads (λ n. IsAmong n nodes) }
+    ensures closed { (nodes : List N) → IsClosure S.holds E.leads N.cmp nodes
+        → IsClosed S.holds E.leads (λ n. IsAmong n nodes) }
     ensures least { (nodes : List N) → IsClosure S.holds E.leads N.cmp nodes → IsClosed S.holds E.leads O.holds
         → (n : N) → IsAmong n nodes → O.holds n }
-    ensures one { (xs ys : List N) → IsClosure S.holds E.leads N.cmp xs → IsClosure S.holds E.leads N.cmp ys → xs ≡ ys }
+    ensures one { (xs ys : List N) → IsClosure S.holds E.leads N.cmp xs → IsClosure S.holds E.leads N.cmp ys
+        → xs ≡ ys }
     ensures over { (nodes : List N) (limit : ℕ) → IsClosure S.holds E.leads N.cmp nodes
         → HasOver S.holds E.leads N.cmp limit ↔ (limit < length nodes) }
 {}

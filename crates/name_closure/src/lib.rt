@@ -1,7 +1,12 @@
 //! Least closed sets and distances: what is reached from sources by steps, for any nodes.
 //!
-//! The definitions and laws are of any nodes, sources and steps. The code is of keys, and goes by
-//! rounds: what names name is asked of many at once, so that many may be loaded at the same time.
+//! The definitions and laws are of any nodes, sources and steps, so that closures over names and
+//! over indexes, and over any part of the steps, are of one kind. Each user shows what its sources
+//! and steps are, and cites the laws.
+//!
+//! The code is of keys, and goes by rounds: what nodes name is asked of many at once, since asking
+//! may take memory and time, and many may be asked at the same time. Code over indexes, which can
+//! mark what it has found, stands with its user.
 #![tactic(auto)]
 
 mod closures;

@@ -69,7 +69,8 @@ pub fn add_all<K: Key>(
     requires rising { IsStrictlySortedBy K.cmp found.old.keys }
     ensures grown { OnOk result (IsGrown found.old.keys fresh.old.items nodes.now found.new.keys fresh.new.items) }
     ensures room { OnOk result (length found.new.keys ≤ limit) }
-    ensures over { IfErr result (λ fault. OnTooMany fault (IsOverFull limit found.old.keys nodes.now found.new.keys)) }
+    ensures over { IfErr result (λ fault. OnTooMany fault (IsOverFull limit found.old.keys nodes.now
+        found.new.keys)) }
     ensures rising { IsStrictlySortedBy K.cmp found.new.keys }
 {
     for node in nodes {
