@@ -1,0 +1,3 @@
+mod Insertions
+mod Refusals
+mod Rounding

@@ -1,0 +1,42 @@
+-- Closures have their sources, are closed under the steps, and are the least such sets; of one closure there is one list.
+use Rattle.std.specs.Prelude.{◌≡◌, ℕ, zero, suc, List}
+use Rattle.std.specs.Cmp.{IsTotalOrder}
+use Rattle.std.specs.declared.cmp.Ordering.{Ordering}
+use Rattle.list_laws.specs.Members.{IsAmong}
+use Rattle.list_laws.specs.Rising.{one_rising_list}
+use Rattle.name_closure.specs.Chains.{IsChain, IsReached, IsClosure}
+
+-- the set has the sources, and what a step leads to from it
+pub record IsClosed {N : Type 0} (starts : N → Type 0) (leads : N → N → Type 0) (set : N → Type 0) : Type 0 where
+  pub started : (n : N) → starts n → set n
+  pub stepped : (n m : N) → set n → leads n m → set m
+
+module _ {N : Type 0} (starts : N → Type 0) (leads : N → N → Type 0) where
+  pub reached_closed : IsClosed starts leads (IsReached starts leads)
+  reached_closed = record {
+    started = λ n s. record { steps = 0; chain = s };
+    stepped = λ n m r l. record { steps = suc r.steps; chain = (n, (r.chain, l)) };
+  }
+
+  chain_within : (set : N → Type 0) → IsClosed starts leads set → (k : ℕ) (n : N) → IsChain starts leads k n → set n
+  chain_within set c zero n h = c.started n h
+  chain_within set c (suc k) n h = c.stepped h.0 n (chain_within set c k h.0 h.1.0) h.1.1
+
+  -- what is reached is in each closed set
+  pub reached_least : (set : N → Type 0) → IsClosed starts leads set → (n : N) → IsReached starts leads n → set n
+  reached_least set c n r = chain_within set c r.steps n r.chain
+
+  module _ (order : N → N → Ordering) where
+    pub closure_closed : (nodes : List N) → IsClosure starts leads order nodes → IsClosed starts leads (λ n. IsAmong n nodes)
+    closure_closed nodes c = record {
+      started = λ n s. (c.members n).1 (reached_closed.started n s);
+      stepped = λ n m h l. (c.members m).1 (reached_closed.stepped n m ((c.members n).0 h) l);
+    }
+
+    pub closure_least : (nodes : List N) → IsClosure starts leads order nodes → (set : N → Type 0) → IsClosed starts leads set → (n : N) → IsAmong n nodes → set n
+    closure_least nodes c set d n h = reached_least set d n ((c.members n).0 h)
+
+    pub one_closure : IsTotalOrder order → (xs ys : List N) → IsClosure starts leads order xs → IsClosure starts leads order ys → xs ≡ ys
+    one_closure total xs ys a b =
+        one_rising_list order total xs ys a.rising b.rising
+        (λ n. (λ h. (b.members n).1 ((a.members n).0 h), λ h. (a.members n).1 ((b.members n).0 h)))

@@ -1,0 +1,80 @@
+-- Steps and sources that lists give: whether a chain leads to a node can be tested, so what is reached is at some distance.
+use Rattle.std.specs.Prelude.{◌≡◌, ℕ, zero, suc, List, [], ◌∷◌}
+use Rattle.std.specs.List.{flat_map}
+use Rattle.std.specs.Cmp.{IsTotalOrder}
+use Rattle.std.specs.declared.cmp.Ordering.{Ordering}
+use Rattle.std.specs.declared.cmp.Ordering.TheVariants.{Less, Equal, Greater}
+use Rattle.std.proofs.Common.{inl, inr, refl, sym, ap, subst, ◌∙◌}
+use Rattle.std.proofs.lemmas.Cmp.{tied_itself}
+use Rattle.list_laws.specs.Members.{IsAmong, IsAmong-append_cases, IsAmong-append_left, IsAmong-append_right}
+use Rattle.name_closure.specs.Chains.{IsChain, IsReached}
+use Rattle.name_closure.specs.DistanceLaws.{IsDecided, HasDistance, some_distance}
+
+-- the node is one of the list's
+abbrev pub Listed : {N : Type 0} → List N → N → Type 0
+Listed starts n = IsAmong n starts
+
+-- the second is one of those that the first names
+abbrev pub Named : {N : Type 0} → (N → List N) → N → N → Type 0
+Named named n m = IsAmong m (named n)
+
+module _ {N : Type 0} (named : N → List N) where
+  -- one of the list names the node
+  abbrev pub IsNamedBy : List N → N → Type 0
+  IsNamedBy ms n = (m : N) × (IsAmong m ms × IsAmong n (named m))
+
+  -- what stands in the lists of several is named by one of them
+  pub named_by : (ms : List N) (n : N) → IsAmong n (flat_map named ms) → IsNamedBy ms n
+  named_by [] n h = absurd h
+  named_by (m ∷ ms) n h = elim (IsAmong-append_cases n (named m) (flat_map named ms) h) [
+    | inl a ↦ (m, (inl refl, a))
+    | inr b ↦ (let r = named_by ms n b in (r.0, (inr r.1.0, r.1.1)))
+  ]
+
+  pub names_all : (ms : List N) (m n : N) → IsAmong m ms → IsAmong n (named m) → IsAmong n (flat_map named ms)
+  names_all [] m n h a = absurd h
+  names_all (o ∷ ms) m n (inl e) a = IsAmong-append_left n (named o) (flat_map named ms) (subst_named a)
+    where
+      subst_named : IsAmong n (named m) → IsAmong n (named o)
+      subst_named b = subst (λ v. IsAmong n (named v)) (sym e) b
+  names_all (o ∷ ms) m n (inr h) a = IsAmong-append_right n (named o) (flat_map named ms) (names_all ms m n h a)
+
+  module _ (starts : List N) where
+    -- all that chains of so many steps lead to
+    abbrev level : ℕ → List N
+    level zero = starts
+    level (suc k) = flat_map named (level k)
+
+    level_chain : (k : ℕ) (n : N) → IsAmong n (level k) → IsChain (Listed starts) (Named named) k n
+    level_chain zero n h = h
+    level_chain (suc k) n h = let r = named_by (level k) n h in (r.0, (level_chain k r.0 r.1.0, r.1.1))
+
+    chain_level : (k : ℕ) (n : N) → IsChain (Listed starts) (Named named) k n → IsAmong n (level k)
+    chain_level zero n c = c
+    chain_level (suc k) n c = names_all (level k) c.0 n (chain_level k c.0 c.1.0) c.1.1
+
+    module _ (order : N → N → Ordering) (total : IsTotalOrder order) (exact : (x y : N) → order x y ≡ Equal → x ≡ y) where
+      is_or_not : (x y : N) → IsDecided (x ≡ y)
+      is_or_not x y = by (order x y) refl
+        where
+          differ : (r : Ordering) → order x y ≡ r → ¬ (r ≡ Equal) → ¬ (x ≡ y)
+          differ r e d h = d (sym e ∙ ap (λ z. order z y) h ∙ tied_itself total y)
+
+          by : (r : Ordering) → order x y ≡ r → IsDecided (x ≡ y)
+          by Less e = inr (differ Less e (λ h. cc (h)))
+          by Equal e = inl (exact x y e)
+          by Greater e = inr (differ Greater e (λ h. cc (h)))
+
+      among_or_not : (n : N) (xs : List N) → IsDecided (IsAmong n xs)
+      among_or_not n [] = inr (λ h. h)
+      among_or_not n (x ∷ xs) = elim (is_or_not x n) [
+        | inl e ↦ inl (inl e)
+        | inr d ↦ (elim (among_or_not n xs) [ inl a ↦ inl (inr a) | inr b ↦ inr (λ h. elim h [ inl e ↦ d e | inr a ↦ b a ]) ])
+      ]
+
+      pub chain_or_not : (k : ℕ) (n : N) → IsDecided (IsChain (Listed starts) (Named named) k n)
+      chain_or_not k n = elim (among_or_not n (level k)) [ inl a ↦ inl (level_chain k n a) | inr b ↦ inr (λ c. b (chain_level k n c)) ]
+
+      -- what is reached is at some distance
+      pub listed_distance : (n : N) → IsReached (Listed starts) (Named named) n → HasDistance (Listed starts) (Named named) n
+      listed_distance n = some_distance (Listed starts) (Named named) n (λ k. chain_or_not k n)
