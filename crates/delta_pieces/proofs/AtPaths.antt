@@ -11,7 +11,7 @@ use Rattle.std.specs.FinMap.Entries.{find-put, is_sorted-put}
 use Rattle.join_law.specs.declared.versions.Version.{Version}
 use Rattle.load_path.specs.Paths.{PathParts, path_cmp}
 use Rattle.load_path.specs.PathLaws.{path_cmp_total, path_cmp-IsAntisymmetric}
-use Rattle.edit_sums.specs.declared.entries.Entry.{Entry}
+use Rattle.edit_sums.specs.Entries.{Entry}
 use Rattle.edit_sums.specs.Sums.{EntryMap}
 use Rattle.edit_sums.specs.GreatestLaws.{passed, tied}
 use Rattle.edit_sums.specs.SumLaws.{same_store}

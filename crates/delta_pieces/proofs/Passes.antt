@@ -11,7 +11,7 @@ use Rattle.std.specs.FinMap.Entries.{find, is_sorted, below_all}
 use Rattle.join_law.specs.declared.versions.Version.{Version}
 use Rattle.load_path.specs.Paths.{PathParts, path_cmp}
 use Rattle.load_path.specs.PathLaws.{path_cmp_total}
-use Rattle.edit_sums.specs.declared.entries.Entry.{Entry}
+use Rattle.edit_sums.specs.Entries.{Entry}
 use Rattle.edit_sums.specs.GreatestLaws.{tied}
 use Rattle.sorted_pairs.specs.PlaceLaws.{find_before}
 use Rattle.std.proofs.lemmas.Bool.{and_parts}

@@ -7,7 +7,7 @@ use Rattle.std.specs.FinMap.{find, is_sorted, same_map}
 use Rattle.join_law.specs.declared.versions.Version.{Version}
 use Rattle.load_path.specs.Paths.{PathParts, path_cmp}
 use Rattle.load_path.specs.PathLaws.{path_cmp_total, path_cmp-IsAntisymmetric}
-use Rattle.edit_sums.specs.declared.entries.Entry.{Entry}
+use Rattle.edit_sums.specs.Entries.{Entry}
 use Rattle.edit_sums.specs.declared.entries.Edit.{Edit}
 use Rattle.edit_sums.specs.Sums.{EntryMap, edit_of, sum_of, join}
 use Rattle.edit_sums.specs.SumLaws.{sum_of-edits_of}

@@ -22,12 +22,12 @@ pub struct Piece {
 impl Model for Piece {
     ghost use Rattle.std.specs.FinMap as finmap;
     ghost use Rattle.load_path.specs.PathLaws.{coded_path};
-    ghost use Rattle.edit_sums.specs.contracts.entries.Entry as entry;
+    ghost use Rattle.edit_sums.specs.EntryCodes.{coded_entry};
     ghost use Rattle.edit_sums.specs.Sums.{EntryMap};
 
     ghost Value = { EntryMap };
 
-    ghost coded = { finmap.code coded_path (entry.the_row).coded };
+    ghost coded = { finmap.code coded_path coded_entry };
 
     ghost view = { λ p. p.store };
 }

@@ -3,6 +3,7 @@ pub mod Contents
 pub mod ContentLaws
 pub mod Entries
 pub mod EntryLaws
+pub mod EntryCodes
 pub mod Sums
 pub mod GreatestLaws
 pub mod SumLaws

@@ -11,7 +11,7 @@ use Rattle.std.proofs.lemmas.List.Sums.{sum_by-cons}
 use Rattle.load_path.specs.Paths.{PathParts}
 use Rattle.edit_sums.specs.SumLaws.{join-nothing, join_idem}
 use Rattle.edit_sums.specs.declared.entries.Edit.{Edit}
-use Rattle.edit_sums.specs.declared.entries.Entry.{Entry}
+use Rattle.edit_sums.specs.Entries.{Entry}
 use Rattle.edit_sums.specs.EntryLaws.{entry_cmp_total}
 use Rattle.edit_sums.specs.GreatestLaws.{get_from_edits_of}
 use Rattle.list_laws.specs.Members.{IsAmong}

@@ -14,7 +14,7 @@ use Rattle.std.proofs.lemmas.Option.{same_Some, none-some}
 use Rattle.list_laws.specs.Members.{IsAmong}
 use Rattle.load_path.specs.Paths.{PathParts, path_cmp}
 use Rattle.load_path.specs.PathLaws.{path_cmp-IsAntisymmetric}
-use Rattle.edit_sums.specs.declared.entries.Entry.{Entry}
+use Rattle.edit_sums.specs.Entries.{Entry}
 use Rattle.edit_sums.specs.Sums.{EntryMap, shown}
 use Rattle.replica_store.specs.Folders.{is_in}
 use Rattle.unit_name.specs.declared.names.Shape.{Shape as UnitShape}

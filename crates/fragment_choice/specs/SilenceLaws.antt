@@ -12,7 +12,7 @@ use Rattle.list_laws.specs.Orderings.{is_equal}
 use Rattle.load_path.specs.Paths.{PathParts}
 use Rattle.edit_sums.specs.declared.contents.Content.{Content}
 use Rattle.edit_sums.specs.declared.contents.Content.TheVariants as content
-use Rattle.edit_sums.specs.declared.entries.Entry.{Entry}
+use Rattle.edit_sums.specs.Entries.{Entry}
 use Rattle.edit_sums.specs.Sums.{EntryMap, shown, visible_at}
 use Rattle.std.specs.FinMap as finmap
 use Rattle.unit_name.specs.declared.names.Shape.{Shape}

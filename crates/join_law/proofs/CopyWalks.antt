@@ -1,15 +1,15 @@
 -- A walk that joins copies of pairs, and one that compares pairs.
-use Rattle.std.specs.Prelude.{◌≡◌, ℕ, zero, suc, ◌<◌, ◌+◌, List, [], ◌∷◌, ◌++◌, Option, Some, None, ◌↔◌, Bool, true, false, cond, refl, length}
+use Rattle.std.specs.Prelude.{◌≡◌, ℕ, zero, suc, ◌<◌, ◌≤◌, ◌+◌, ◌-◌, List, [], ◌∷◌, ◌++◌, Option, Some, None, true, false, cond, refl, length}
 use Rattle.std.specs.Bool.{IsTrue}
 use Rattle.std.specs.Cmp.{IsTotalOrder, tied_itself}
 use Rattle.std.specs.Ordering.{eq_by_cmp, is_eq}
 use Rattle.std.proofs.Common.{ap, sym, subst, ◌∙◌, get_or, take, drop, arith}
 use Rattle.std.proofs.lemmas.Bool.{and_parts}
-use Rattle.std.proofs.lemmas.List.{take_more, take-append-drop}
+use Rattle.std.proofs.lemmas.List.{take_more, take-append-drop, length-drop}
 use Rattle.std.specs.declared.cmp.Ordering.{Ordering}
-use Rattle.std.specs.declared.cmp.Ordering.TheVariants.{Less, Equal, Greater}
-use Rattle.std.specs.FinMap.Entries.{find, is_sorted, find_tied}
-use Rattle.list_laws.specs.Orderings.{is_equal, turned}
+use Rattle.std.specs.declared.cmp.Ordering.TheVariants.{Less, Equal}
+use Rattle.std.specs.FinMap.Entries.{find, is_sorted, below_all, find_tied}
+use Rattle.list_laws.specs.Orderings.{is_less, is_equal, turned}
 use Rattle.list_laws.specs.Searches.{below_at}
 use Rattle.join_law.specs.Order.{IsJoin, IsBetween}
 use Rattle.join_law.specs.Maps.{OptionBelow, IsHeld, AllHeld, MapBelow, IsMap, IsSinglePair}
@@ -29,6 +29,14 @@ same_at {A} xs ys i x y p q lt e = p ∙ get_or_any xs i x y lt ∙ ap (λ zs. g
 pub same_more : {A : Type 0} (xs ys : List A) (i : ℕ) (x y : A) → x ≡ get_or xs i x → y ≡ get_or ys i y → i < length xs → i < length ys → x ≡ y → take i xs ≡ take i ys → take (i + 1) xs ≡ take (i + 1) ys
 same_more xs ys i x y p q lt mt e h =
     take_more xs i x lt ∙ (λ j. h j ++ (sym p ∙ e ∙ q) j ∷ []) ∙ sym (take_more ys i y mt)
+
+pub take_all : {A : Type 0} (es : List A) → take (length es) es ≡ es
+take_all [] = refl
+take_all (e ∷ es) = ap (λ l. e ∷ l) (take_all es)
+
+-- all that stands behind a place
+pub take_rest : {A : Type 0} (es : List A) (i : ℕ) → i ≤ length es → take (length es - i) (drop i es) ≡ drop i es
+take_rest es i le = let long : length es - i ≡ length (drop i es) = omega (arith, length-drop i es) in ap (λ n. take n (drop i es)) long ∙ take_all (drop i es)
 
 -- joins of copies
 
@@ -56,6 +64,29 @@ module _ {K V : Type 0} (R : K → K → Ordering) (o : IsTotalOrder R) where
       let less : R e.0 k ≡ Less = below_at R e.0 es i d (and_parts _ _ s).0 (omega arith) in
       ap (λ r. cond (is_eq r) (Some e.1) (find R k es)) (turned R o e.0 k Less less) ∙ find_there es i d (and_parts _ _ s).1 (omega arith)
 
+  -- the later pairs
+
+  below_all_drop : (x : K) (es : List (K × V)) (i : ℕ) → IsTrue (below_all R x es) → IsTrue (below_all R x (drop i es))
+  below_all_drop x [] zero h = h
+  below_all_drop x [] (suc i) h = h
+  below_all_drop x (e ∷ es) zero h = h
+  below_all_drop x (e ∷ es) (suc i) h = below_all_drop x es i (and_parts _ _ h).1
+
+  sorted_drop : (es : List (K × V)) (i : ℕ) → IsTrue (is_sorted R es) → IsTrue (is_sorted R (drop i es))
+  sorted_drop [] zero h = h
+  sorted_drop [] (suc i) h = h
+  sorted_drop (e ∷ es) zero h = h
+  sorted_drop (e ∷ es) (suc i) h = sorted_drop es i (and_parts _ _ h).1
+
+  held_drop : (below : V → V → Type 0) (valid : V → Type 0) (es : List (K × V)) (i : ℕ) → AllHeld below valid es → AllHeld below valid (drop i es)
+  held_drop below valid [] zero h = h
+  held_drop below valid [] (suc i) h = h
+  held_drop below valid (e ∷ es) zero h = h
+  held_drop below valid (e ∷ es) (suc i) h = held_drop below valid es i h.1
+
+  pub drop_is_map : (below : V → V → Type 0) (valid : V → Type 0) (es : List (K × V)) (i : ℕ) → IsMap R below valid es → IsMap R below valid (drop i es)
+  drop_is_map below valid es i m = record { sorted = sorted_drop es i m.sorted; held = held_drop below valid es i m.held }
+
   module _ (below : V → V → Type 0) (itself : (x : V) → below x x) (chain : (x y z : V) → below x y → below y z → below x z) where
     prefix_at : (xs ys : List (K × V)) (q : K) → OptionBelow below (find R q xs) (find R q (xs ++ ys))
     prefix_at [] ys q = tt
@@ -77,6 +108,39 @@ module _ {K V : Type 0} (R : K → K → Ordering) (o : IsTotalOrder R) where
           ] refl;
         }
 
+    drop_at : (es : List (K × V)) (i : ℕ) (q : K) → IsTrue (is_sorted R es) → OptionBelow below (find R q (drop i es)) (find R q es)
+    drop_at [] zero q s = tt
+    drop_at [] (suc i) q s = tt
+    drop_at (e ∷ es) zero q s = itself_at (find R q (e ∷ es))
+      where
+        itself_at : (x : Option V) → OptionBelow below x x
+        itself_at None = tt
+        itself_at (Some v) = itself v
+    drop_at (e ∷ es) (suc i) q s = elim (eq_by_cmp R q e.0) as (λ b. eq_by_cmp R q e.0 ≡ b → OptionBelow below (find R q (drop i es)) (cond b (Some e.1) (find R q es))) [
+      | true ↦ λ t.
+          let none : find R q (drop i es) ≡ None = find_alike q e.0 (is_equal _ t) (drop i es) (below_all_drop e.0 es i (and_parts _ _ s).0) in
+          subst (λ x. OptionBelow below x (Some e.1)) (sym none) tt
+      | false ↦ λ t. drop_at es i q (and_parts _ _ s).1
+    ] refl
+      where
+        find_alike : (q x : K) → R q x ≡ Equal → (es : List (K × V)) → IsTrue (below_all R x es) → find R q es ≡ None
+        find_alike q x t [] h = refl
+        find_alike q x t (f ∷ fs) h = ap (λ r. cond (is_eq r) (Some f.1) (find R q fs)) (o.congr q x f.0 t ∙ is_less _ (and_parts _ _ h).0) ∙ find_alike q x t fs (and_parts _ _ h).1
+
+    drop_below : (es : List (K × V)) (i : ℕ) → IsTrue (is_sorted R es) → MapBelow R below (drop i es) es
+    drop_below es i s = record { at = λ q. drop_at es i q s }
+
+    parts_at : (xs ys : List (K × V)) (q : K) (w : Option V) → OptionBelow below (find R q xs) w → OptionBelow below (find R q ys) w → OptionBelow below (find R q (xs ++ ys)) w
+    parts_at [] ys q w h k = k
+    parts_at (x ∷ xs) ys q w h k = elim (eq_by_cmp R q x.0) as (λ b. OptionBelow below (cond b (Some x.1) (find R q xs)) w → OptionBelow below (cond b (Some x.1) (find R q (xs ++ ys))) w) [
+      | true ↦ λ t. t
+      | false ↦ λ t. parts_at xs ys q w t k
+    ] h
+
+    -- what is above the pairs up to a place and above the others is above all
+    parts_below : (es : List (K × V)) (i : ℕ) (z : List (K × V)) → MapBelow R below (take i es) z → MapBelow R below (drop i es) z → MapBelow R below es z
+    parts_below es i z p q = subst (λ l. MapBelow R below l z) (take-append-drop i es) (record { at = λ k. parts_at (take i es) (drop i es) k (find R k z) (p.at k) (q.at k) })
+
     -- the pairs so far are joined
     pub record IsCopied (valid : V → Type 0) (first now other : List (K × V)) (i : ℕ) : Type 0 where
       pub map : IsMap R below valid now
@@ -94,10 +158,6 @@ module _ {K V : Type 0} (R : K → K → Ordering) (o : IsTotalOrder R) where
       module _ (first now other : List (K × V)) (i : ℕ) (u : IsCopied valid first now other i) where
         pub copied_all : length other ≡ i → IsJoin (MapBelow R below) first other now
         copied_all is = subst (λ l. IsJoin (MapBelow R below) first l now) (ap (λ n. take n other) (sym is) ∙ take_all other) u.joined
-          where
-            take_all : (es : List (K × V)) → take (length es) es ≡ es
-            take_all [] = refl
-            take_all (e ∷ es) = ap (λ l. e ∷ l) (take_all es)
 
         module _ (e : K × V) (is : e ≡ get_or other i e) (lt : i < length other) (m : IsMap R below valid other) where
           now_itself : MapBelow R below now now
@@ -144,3 +204,48 @@ module _ {K V : Type 0} (R : K → K → Ordering) (o : IsTotalOrder R) where
               only (f ∷ []) zero l a t = (refl, subst (λ x. is_single x.1) (sym a) t)
               only (f ∷ []) (suc j) l a t = absurd (omega arith)
               only (f ∷ g ∷ fs) j l a t = absurd t
+
+          -- the later pairs are joined with what stands now
+          pub rest_joined : (new : List (K × V)) → IsJoin (MapBelow R below) now (drop i other) new → IsJoin (MapBelow R below) first other new
+          rest_joined new j = record {
+            bounds = λ z. (
+              λ h.
+                  let p = (j.bounds z).0 h in
+                  let q = (u.joined.bounds z).0 p.0 in
+                  (q.0, parts_below other i z q.1 p.1),
+              λ p. (j.bounds z).1 (
+                (u.joined.bounds z).1 (p.0, map_chain below itself chain R (take i other) other z (take_below other i) p.1),
+                map_chain below itself chain R (drop i other) other z (drop_below other i m.sorted) p.1,
+              ),
+            );
+          }
+
+          pub rest_stopped : (new : List (K × V)) → IsBetween (MapBelow R below) now (drop i other) new → IsBetween (MapBelow R below) first other new
+          rest_stopped new j = record {
+            kept = map_chain below itself chain R first now new first_now j.kept;
+            within = λ z p q. j.within z
+                ((u.joined.bounds z).1 (p, map_chain below itself chain R (take i other) other z (take_below other i) q))
+                (map_chain below itself chain R (drop i other) other z (drop_below other i m.sorted) q);
+          }
+
+          pub rest_single : (is_single : V → Type 0) (new : List (K × V)) → (IsSinglePair is_single (drop i other) → new ≡ now) → IsSinglePair is_single other → new ≡ first
+          rest_single is_single new h s =
+              let none = single_place other i lt s in
+              h (subst (λ n. IsSinglePair is_single (drop n other)) (sym none) (subst (IsSinglePair is_single) (sym (drop_none other)) s)) ∙ u.start none
+            where
+              drop_none : (es : List (K × V)) → drop 0 es ≡ es
+              drop_none [] = refl
+              drop_none (x ∷ xs) = refl
+
+              single_place : (es : List (K × V)) (j : ℕ) → j < length es → IsSinglePair is_single es → j ≡ 0
+              single_place [] j l t = absurd t
+              single_place (x ∷ []) zero l t = refl
+              single_place (x ∷ []) (suc j) l t = absurd (omega arith)
+              single_place (x ∷ y ∷ xs) j l t = absurd t
+
+          -- a key that is not there now was not known
+          pub not_known : find R e.0 now ≡ None → ¬ MapBelow R below other first
+          not_known none h =
+              let at = (still_known h).at e.0 in
+              let least = subst (λ x. OptionBelow below (Some e.1) x) none (subst (λ r. OptionBelow below (cond (is_eq r) (Some e.1) None) (find R e.0 now)) (tied_itself o e.0) at) in
+              (subst (λ x. IsHeld below valid x.1) (sym is) (held_at below valid other i e lt m.held)).not_least least

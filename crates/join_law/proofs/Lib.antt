@@ -2,3 +2,5 @@ pub mod MapEdits
 pub mod Ends
 pub mod CopyWalks
 pub mod Outcomes
+pub mod Behind
+pub mod FrontWalks

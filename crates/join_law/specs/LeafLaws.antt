@@ -1,7 +1,6 @@
 -- Maps of entries: what is written at each key of a join, and of what lies between.
 use Rattle.std.specs.Prelude.{◌≡◌, List, Option, Some, None, ◌↔◌}
 use Rattle.std.specs.Cmp.{IsTotalOrder}
-use Rattle.std.proofs.Common.{sym, subst, ◌∙◌}
 use Rattle.std.specs.declared.cmp.Ordering.{Ordering}
 use Rattle.std.specs.declared.cmp.Ordering.TheVariants.{Equal}
 use Rattle.std.specs.FinMap.Entries.{find}
@@ -13,7 +12,7 @@ use Rattle.join_law.specs.Maps.{OptionBelow, MapBelow, map_union}
 use Rattle.join_law.specs.MapLaws.{OptionJoin, OptionBounds, map_itself}
 use Rattle.join_law.specs.UnionLaws.{union_joins}
 use Rattle.join_law.specs.LevelLaws.{join_at, bounds_at, between_at, upper_of}
-use Rattle.join_law.specs.VersionOrder.{IsBelow, larger, written, written_at, versioned_max, IsUpTo}
+use Rattle.join_law.specs.VersionOrder.{IsBelow, larger, written_at, versioned_max, IsUpTo}
 use Rattle.join_law.specs.EntryLaws.{below_refl, below_antisym, larger-left, larger-right, larger-least}
 use Rattle.join_law.specs.VersionedLaws.{up_to_itself, up_to_chain, max_joins}
 

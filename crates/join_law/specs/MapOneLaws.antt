@@ -1,5 +1,5 @@
 -- Maps that are below each other are one, and the least map is the empty one.
-use Rattle.std.specs.Prelude.{◌≡◌, ℕ, List, [], ◌∷◌, Some, None, ◌↔◌, Bool, true, false, cond, ◌&&◌, length, ◌==◌, Option}
+use Rattle.std.specs.Prelude.{◌≡◌, ℕ, List, [], ◌∷◌, Some, None, ◌↔◌, Bool, true, false, cond, length, ◌==◌, Option}
 use Rattle.std.proofs.Common.{eqb-true, eq-eqb, ap, sym, subst, ◌∙◌, refl, arith}
 use Rattle.std.proofs.lemmas.Bool.{and_parts}
 use Rattle.std.specs.Bool.{IsTrue}

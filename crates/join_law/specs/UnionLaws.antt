@@ -4,9 +4,9 @@ use Rattle.std.specs.Cmp.{IsTotalOrder}
 use Rattle.std.specs.Ordering.{eq_by_cmp}
 use Rattle.std.proofs.Common.{ap, sym, subst, ◌∙◌}
 use Rattle.std.specs.declared.cmp.Ordering.{Ordering}
-use Rattle.std.specs.FinMap.Entries.{find, put, find-put, find_tied}
+use Rattle.std.specs.FinMap.Entries.{find, find-put, find_tied}
 use Rattle.list_laws.specs.Orderings.{is_equal}
-use Rattle.join_law.specs.Order.{IsLeast, IsJoin}
+use Rattle.join_law.specs.Order.{IsJoin}
 use Rattle.join_law.specs.Maps.{IsHeld, AllHeld, MapBelow, IsMap, joined_value, map_union}
 use Rattle.join_law.specs.MapLaws.{OptionJoin, option_join, option_new, option_same, map_join, is_map-put}
 

@@ -1,11 +1,13 @@
 //! Sorted pairs compared and copied, and copies joined into them.
-ghost use Rattle.std.specs.Prelude.{◌≡◌, ◌↔◌, [], ◌∷◌, map, IsTrue, IsOk, IfOk, OnOk, OnErr};
+ghost use Rattle.std.specs.Prelude.{◌≡◌, ◌↔◌, None, [], ◌∷◌, map, IsTrue, IsOk, IfOk, OnOk, OnErr};
+ghost use Rattle.std.specs.Bool.{OnTrue, OnFalse};
 ghost use Rattle.std.specs.FinMap.{find};
 ghost use Rattle.join_law.specs.Maps.{IsHeld, IsMap, IsSinglePair, MapBelow};
 ghost use Rattle.join_law.specs.Order.{IsBetween, IsJoin};
 
 use crate::joins::Join;
 use crate::keys::Key;
+use crate::passes::join_copies_in_one;
 use sorted_pairs::seek;
 use std::alloc::{AllocError, Global};
 
@@ -37,7 +39,71 @@ fn join_pair_copy<K: Key, V: Join>(
     }
 }
 
-// Joins copies of what the others have more.
+// Joins a copy of a value at a key that is held, and answers whether it is. No pair is moved.
+fn join_held_copy<K: Key, V: Join>(
+    pairs: &mut Vec<(K, V)>,
+    key: &K,
+    value: &V,
+) -> Result<bool, AllocError>
+    requires map { IsMap K.cmp V.below V.is_valid pairs.old.items }
+    ensures map { IsMap K.cmp V.below V.is_valid pairs.new.items }
+    ensures ok { IfOk result (λ held. OnTrue held (IsJoin (MapBelow K.cmp V.below) pairs.old.items ((key.now, value.now) ∷ []) pairs.new.items)) }
+    ensures absent { IfOk result (λ held. OnFalse held (find K.cmp key.now pairs.old.items ≡ None)) }
+    ensures unchanged { IfOk result (λ held. OnFalse held (pairs.new.items ≡ pairs.old.items)) }
+    ensures refused { OnErr result (IsBetween (MapBelow K.cmp V.below) pairs.old.items ((key.now, value.now) ∷ []) pairs.new.items) }
+    ensures single { OnErr result (V.is_single value.now → pairs.new.items ≡ pairs.old.items) }
+    ensures known { MapBelow K.cmp V.below ((key.now, value.now) ∷ []) pairs.old.items → IsOk result }
+{
+    match seek(pairs, key) {
+        Ok(at) => {
+            let place = &mut pairs[at];
+            place.1.join_copy(value)?;
+            Ok(true)
+        }
+        Err(_) => Ok(false),
+    }
+}
+
+// Joins copies of what the others have more: a search for each.
+fn join_each_copy<K: Key, V: Join>(
+    pairs: &mut Vec<(K, V)>,
+    other: &[(K, V)],
+) -> Result<(), AllocError>
+    requires map { IsMap K.cmp V.below V.is_valid pairs.old.items }
+    requires other_map { IsMap K.cmp V.below V.is_valid other.now }
+    ensures map { IsMap K.cmp V.below V.is_valid pairs.new.items }
+    ensures ok { OnOk result (IsJoin (MapBelow K.cmp V.below) pairs.old.items other.now pairs.new.items) }
+    ensures refused { OnErr result (IsBetween (MapBelow K.cmp V.below) pairs.old.items other.now pairs.new.items) }
+    ensures single { OnErr result (IsSinglePair V.is_single other.now → pairs.new.items ≡ pairs.old.items) }
+{
+    for pair in other {
+        join_pair_copy(pairs, &pair.0, &pair.1)?;
+    }
+    Ok(())
+}
+
+// Joins copies of what the others have more: a search for each where they are few, else one growth
+// and one pass over both.
+fn join_new_copies<K: Key, V: Join>(
+    pairs: &mut Vec<(K, V)>,
+    other: &[(K, V)],
+) -> Result<(), AllocError>
+    requires map { IsMap K.cmp V.below V.is_valid pairs.old.items }
+    requires other_map { IsMap K.cmp V.below V.is_valid other.now }
+    ensures map { IsMap K.cmp V.below V.is_valid pairs.new.items }
+    ensures ok { OnOk result (IsJoin (MapBelow K.cmp V.below) pairs.old.items other.now pairs.new.items) }
+    ensures refused { OnErr result (IsBetween (MapBelow K.cmp V.below) pairs.old.items other.now pairs.new.items) }
+    ensures single { OnErr result (IsSinglePair V.is_single other.now → pairs.new.items ≡ pairs.old.items) }
+{
+    if other.len() <= 1 || other.len() < pairs.len() / 64 {
+        join_each_copy(pairs, other)
+    } else {
+        join_copies_in_one(pairs, other)
+    }
+}
+
+// Joins copies of what the others have more. Up to the first key that is new, it searches for each
+// of them and moves no pair.
 pub fn join_copies<K: Key, V: Join>(
     pairs: &mut Vec<(K, V)>,
     other: &[(K, V)],
@@ -50,8 +116,11 @@ pub fn join_copies<K: Key, V: Join>(
     ensures single { OnErr result (IsSinglePair V.is_single other.now → pairs.new.items ≡ pairs.old.items) }
     ensures known { MapBelow K.cmp V.below other.now pairs.old.items → IsOk result }
 {
-    for pair in other {
-        join_pair_copy(pairs, &pair.0, &pair.1)?;
+    for i in 0..other.len() {
+        let pair = &other[i];
+        if !join_held_copy(pairs, &pair.0, &pair.1)? {
+            return join_new_copies(pairs, &other[i..]);
+        }
     }
     Ok(())
 }

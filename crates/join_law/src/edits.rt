@@ -7,7 +7,9 @@ ghost use Rattle.join_law.specs.Order.{IsJoin, IsLeast, IsPartialJoin};
 
 use crate::joins::{Join, Rest};
 use crate::keys::Key;
+use crate::passes::join_pairs_in_one;
 use sorted_pairs::seek;
+use std::mem;
 
 // Joins one pair. A bottom value changes nothing.
 pub fn join_pair<K: Key, V: Join>(
@@ -43,8 +45,8 @@ pub fn join_pair<K: Key, V: Join>(
     }
 }
 
-// Joins all pairs of `other`, from its end, and answers whether all went in.
-pub fn join_pairs<K: Key, V: Join>(pairs: &mut Vec<(K, V)>, other: &mut Vec<(K, V)>) -> bool
+// Joins all pairs of `other`, from its end, and answers whether all went in: a search for each.
+fn join_each_pair<K: Key, V: Join>(pairs: &mut Vec<(K, V)>, other: &mut Vec<(K, V)>) -> bool
     requires map { IsMap K.cmp V.below V.is_valid pairs.old.items }
     requires other_map { IsMap K.cmp V.below V.is_valid other.old.items }
     ensures map { IsMap K.cmp V.below V.is_valid pairs.new.items }
@@ -63,4 +65,25 @@ pub fn join_pairs<K: Key, V: Join>(pairs: &mut Vec<(K, V)>, other: &mut Vec<(K, 
         }
     }
     true
+}
+
+// Joins all pairs of `other`, and answers whether all went in: a search for each where they are few,
+// else one growth and one pass over both.
+pub fn join_pairs<K: Key, V: Join>(pairs: &mut Vec<(K, V)>, other: &mut Vec<(K, V)>) -> bool
+    requires map { IsMap K.cmp V.below V.is_valid pairs.old.items }
+    requires other_map { IsMap K.cmp V.below V.is_valid other.old.items }
+    ensures map { IsMap K.cmp V.below V.is_valid pairs.new.items }
+    ensures other_map { IsMap K.cmp V.below V.is_valid other.new.items }
+    ensures ok { OnTrue result (IsJoin (MapBelow K.cmp V.below) pairs.old.items other.old.items pairs.new.items) }
+    ensures refused { OnFalse result (IsPartialJoin (MapBelow K.cmp V.below) pairs.old.items other.old.items pairs.new.items other.new.items) }
+    ensures single { OnFalse result (IsSinglePair V.is_single other.old.items → pairs.new.items ≡ pairs.old.items) }
+{
+    if pairs.is_empty() {
+        mem::swap(pairs, other);
+        return true;
+    }
+    if other.len() <= 1 || other.len() < pairs.len() / 64 {
+        return join_each_pair(pairs, other);
+    }
+    join_pairs_in_one(pairs, other)
 }

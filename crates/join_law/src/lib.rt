@@ -12,6 +12,7 @@ mod joins;
 mod keys;
 mod maps;
 mod nested;
+mod passes;
 mod versions;
 
 pub use joins::{Join, Rest};

@@ -1,6 +1,6 @@
 //! Maps whose values are joined key by key.
 ghost use Rattle.std.specs.Prelude.{◌≡◌, [], ◌∷◌, ◌++◌, length, map, IsSome, IsOk, IfOk, OnOk, IfErr};
-ghost use Rattle.std.specs.Option.{option_copied, option_to_list, IfSome};
+ghost use Rattle.std.specs.Option.{option_copied, option_to_list, IfNone, IfSome};
 ghost use Rattle.std.specs.FinMap.{find};
 ghost use Rattle.join_law.specs.Maps.{IsHeld, IsMap, MapBelow};
 ghost use Rattle.join_law.specs.Order.{IsJoin, IsLeast, IsPartialJoin};
@@ -48,11 +48,11 @@ impl<K: Key, V: Join> JoinMap<K, V> {
     }
 
     /// The map of these pairs. O(1), without memory.
-    pub fn from_pairs(pairs: Vec<(K, V)>) -> Self
-        requires map { IsMap K.cmp V.below V.is_valid pairs.items }
-        ensures pairs { result ≡ pairs.items }
+    pub fn from_pairs(sorted: Vec<(K, V)>) -> Self
+        requires map { IsMap K.cmp V.below V.is_valid sorted.items }
+        ensures pairs { result ≡ sorted.items }
     {
-        JoinMap { pairs }
+        JoinMap { pairs: sorted }
     }
 
     /// The map of one pair. It fails for want of memory alone.
@@ -79,7 +79,7 @@ impl<K: Key, V: Join> JoinMap<K, V> {
         ensures pairs { result.now ≡ self.now }
         ensures map { IsMap K.cmp V.below V.is_valid self.now }
     {
-        &self.pairs
+        self.pairs.as_slice()
     }
 
     /// The allocator that the map takes its memory from.
@@ -114,6 +114,7 @@ impl<K: Key, V: Join> JoinMap<K, V> {
     /// Takes out the pair with the greatest key, if there is one. O(1), without memory.
     pub fn pop_last(&mut self) -> Option<(K, V)>
         ensures pairs { self.old ≡ self.new ++ option_to_list result }
+        ensures none { IfNone result (self.old ≡ []) }
         ensures held { IfSome result (λ pair. IsHeld V.below V.is_valid pair.1) }
     {
         self.pairs.pop()
@@ -168,6 +169,10 @@ impl<K: Key, V: Join> Join for JoinMap<K, V> {
         self.pairs.is_empty()
     }
 
+    /// Joins key by key. Few pairs cost a search each and the shifts of those that are new; many cost
+    /// one growth and one pass over both maps. Into an empty map the other one moves as it stands.
+    ///
+    /// A pair that is refused goes back into the room that it left.
     fn join_from(&mut self, mut other: Self) -> Result<(), Rest<Self>> {
         if join_pairs(&mut self.pairs, &mut other.pairs) {
             return Ok(());
@@ -175,10 +180,14 @@ impl<K: Key, V: Join> Join for JoinMap<K, V> {
         Err(Rest { rest: other })
     }
 
+    /// Joins copies key by key. Up to the first key that is new it costs a search each and moves
+    /// nothing; behind it few pairs cost the same and the shifts, and many one growth and one pass
+    /// over both maps.
     fn join_copy(&mut self, other: &Self) -> Result<(), AllocError> {
         join_copies(&mut self.pairs, &other.pairs)
     }
 
+    /// An equal map, by one growth and a copy of each pair. It fails for want of memory alone.
     fn try_clone(&self) -> Result<Self, AllocError> {
         Ok(JoinMap {
             pairs: copy_pairs(*self.pairs.allocator(), &self.pairs)?,

@@ -107,6 +107,7 @@ impl<K: Key, L: Key, M: Key, V: Join> JoinMap<K, JoinMap<L, JoinMap<M, V>>> {
         ensures refused { OnErr result (IsBetween (MapBelow K.cmp (MapBelow L.cmp (MapBelow M.cmp V.below))) self.old ((key, (inner, (innermost, value) ∷ []) ∷ []) ∷ []) self.new) }
         ensures single { OnErr result (V.is_single value → self.new ≡ self.old) }
         ensures in_place { V.joins_in_place → IsSome (find M.cmp innermost (or_empty (find L.cmp inner (or_empty (find K.cmp key self.old))))) → IsOk result }
+        ensures map { IsMap K.cmp (MapBelow L.cmp (MapBelow M.cmp V.below)) (IsMap L.cmp (MapBelow M.cmp V.below) (IsMap M.cmp V.below V.is_valid)) self.new }
     {
         let pairs = &mut self.pairs;
         if value.is_bottom() {

@@ -1,6 +1,6 @@
 //! Where a content stands.
 ghost use Rattle.std.specs.Prelude.{◌≡◌, ◌<◌, ◌⊎◌, ◌||◌, ◌++◌, not, length, Err, IsErr, IsTrue, OnOk, OnErr};
-ghost use Rattle.load_path.specs.Paths.{directory_of, has_folder, is_component, path_of, text_of};
+ghost use Rattle.load_path.specs.Paths.{directory_of, has_folder, is_component, path_of, text_of, IsPath};
 
 use crate::texts::{Parts, directory};
 use byte_strings::Bytes;
@@ -109,6 +109,32 @@ impl Path {
         ensures component { IsTrue (is_component self.now.name) }
     {
         self.name.as_slice()
+    }
+
+    /// The rank of its directory, its folder and its name, lent. It takes no memory.
+    pub fn parts(&self) -> (u8, &Bytes, &Bytes)
+        ensures rank { result.0 ≡ self.now.rank }
+        ensures folder { result.1.now ≡ self.now.folder }
+        ensures name { result.2.now ≡ self.now.name }
+    {
+        (self.rank, &self.folder, &self.name)
+    }
+
+    /// The rank of its directory, its folder and its name, given out. It takes no memory.
+    pub fn into_parts(self) -> (u8, Bytes, Bytes)
+        ensures parts { record { rank = result.0; folder = result.1; name = result.2 } ≡ self }
+        ensures lawful { IsPath self }
+    {
+        let Path { rank, folder, name } = self;
+        (rank, folder, name)
+    }
+
+    /// The path of these parts. It takes no memory.
+    pub fn from_parts(rank: u8, folder: Bytes, name: Bytes) -> Path
+        requires lawful { IsPath (record { rank = rank; folder = folder; name = name }) }
+        ensures path { result ≡ record { rank = rank; folder = folder; name = name } }
+    {
+        Path { rank, folder, name }
     }
 
     /// Appends the text of the path. Where memory is refused, nothing is appended.

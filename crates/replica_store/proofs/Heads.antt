@@ -5,7 +5,7 @@ use Rattle.std.specs.Ordering.{is_eq}
 use Rattle.std.specs.FinMap.Entries.{find, put, is_sorted, by_order}
 use Rattle.load_path.specs.Paths.{PathParts, path_cmp}
 use Rattle.load_path.specs.PathLaws.{path_cmp_total, path_cmp-IsAntisymmetric}
-use Rattle.edit_sums.specs.declared.entries.Entry.{Entry}
+use Rattle.edit_sums.specs.Entries.{Entry}
 use Rattle.sorted_pairs.specs.Places.{IsNotBelow}
 use Rattle.sorted_pairs.specs.PlaceLaws.{find_before}
 use Rattle.replica_store.specs.Merges.{Pair}

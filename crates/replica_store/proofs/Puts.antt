@@ -5,7 +5,7 @@ use Rattle.std.specs.Ordering.{eq_by_cmp}
 use Rattle.std.specs.FinMap.Entries.{find, put, is_sorted, find-put}
 use Rattle.load_path.specs.Paths.{PathParts, path_cmp}
 use Rattle.load_path.specs.PathLaws.{path_cmp_total}
-use Rattle.edit_sums.specs.declared.entries.Entry.{Entry}
+use Rattle.edit_sums.specs.Entries.{Entry}
 use Rattle.edit_sums.specs.Entries.{larger}
 use Rattle.edit_sums.specs.EntryLaws.{larger-absorb, larger_comm}
 use Rattle.edit_sums.specs.Sums.{edit_of, with_edit}

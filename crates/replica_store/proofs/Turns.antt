@@ -7,7 +7,7 @@ use Rattle.std.specs.FinMap as finmap
 use Rattle.std.specs.FinMap.Entries.{find, put, is_sorted, below_all, find-put}
 use Rattle.load_path.specs.Paths.{PathParts, path_cmp}
 use Rattle.load_path.specs.PathLaws.{path_cmp_total}
-use Rattle.edit_sums.specs.declared.entries.Entry.{Entry}
+use Rattle.edit_sums.specs.Entries.{Entry}
 use Rattle.edit_sums.specs.Entries.{IsBelow, larger}
 use Rattle.edit_sums.specs.EntryLaws.{below_refl, below_trans, larger-absorb, larger_comm, larger-None}
 use Rattle.edit_sums.specs.Sums.{join, IsStoreBelow}

@@ -5,7 +5,7 @@ use Rattle.std.specs.Ordering.{is_lt}
 use Rattle.std.specs.FinMap as finmap
 use Rattle.std.specs.FinMap.{find, is_sorted}
 use Rattle.load_path.specs.Paths.{PathParts, path_cmp}
-use Rattle.edit_sums.specs.declared.entries.Entry.{Entry}
+use Rattle.edit_sums.specs.Entries.{Entry}
 use Rattle.edit_sums.specs.Entries.{entry_cmp}
 use Rattle.edit_sums.specs.Sums.{EntryMap, join, IsStoreBelow, is_other, changed_paths, greatest_counter}
 use Rattle.sorted_pairs.specs.Places.{AreBelow}

@@ -3,7 +3,7 @@ ghost use Rattle.std.specs.Prelude.{◌≡◌, ◌+◌, ◌≤◌, ◌++◌, [],
 ghost use Rattle.std.specs.VecDeque.{deque_len};
 ghost use Rattle.std.specs.FinMap.{is_sorted, find, put};
 ghost use Rattle.load_path.specs.Paths.{path_cmp};
-ghost use Rattle.edit_sums.specs.declared.entries.Entry.{Entry};
+ghost use Rattle.edit_sums.specs.Entries.{Entry};
 ghost use Rattle.sorted_pairs.specs.Places.{AreBelow, IsNotBelow};
 ghost use Rattle.edit_sums.specs.Sums.{edit_of, join, with_edit};
 ghost use Rattle.replica_store.specs.Merges.{Pair, Merges, IsMerged, IsPartOf, is_rise, map_of};

@@ -33,13 +33,13 @@ impl Model for Store {
     ghost use Rattle.std.specs.FinMap as finmap;
     ghost use Rattle.load_path.specs.Paths.{path_cmp};
     ghost use Rattle.load_path.specs.PathLaws.{coded_path};
-    ghost use Rattle.edit_sums.specs.declared.entries.Entry.{Entry};
-    ghost use Rattle.edit_sums.specs.contracts.entries.Entry as entry;
+    ghost use Rattle.edit_sums.specs.Entries.{Entry};
+    ghost use Rattle.edit_sums.specs.EntryCodes.{coded_entry};
     ghost use Rattle.replica_store.specs.Merges.{IsKept};
 
     ghost Value = { finmap.FinMap path_cmp Entry };
 
-    ghost coded = { finmap.code coded_path (entry.the_row).coded };
+    ghost coded = { finmap.code coded_path coded_entry };
 
     ghost view = { λ s. finmap.from_sorted s.entries.items };
 

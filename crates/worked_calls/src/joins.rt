@@ -1,7 +1,7 @@
 //! Calls on the joins of contents with versions: numbers below 256 with versions, or nothing yet.
 use crate::calls::{CallFault, Words, number_of};
 use crate::edits::{append_version, version_of};
-use join_law::{Join, Key, Rest, Versioned};
+use join_law::{Entry, Join, Key, Rest, Versioned};
 use std::alloc::Global;
 use std::cmp::Ordering;
 
@@ -15,24 +15,24 @@ pub fn answer(alloc: Global, words: &mut Words) -> Result<Vec<u8>, CallFault> {
     }
 }
 
-// The next word as a number below 256.
-fn byte(word: &[u8]) -> Result<u8, CallFault> {
+/// A word as a number below 256.
+pub fn byte(word: &[u8]) -> Result<u8, CallFault> {
     u8::try_from(number_of(word)?).map_err(|_| CallFault::Line)
 }
 
-// The next word as `never` or as a version and a number.
-fn versioned(words: &mut Words) -> Result<Versioned<u8>, CallFault> {
-    let word = words.word()?;
+/// A word as `never` or as a version and a number.
+pub fn versioned(word: &[u8]) -> Result<Versioned<u8>, CallFault> {
     if word == b"never".as_slice() {
         return Ok(Versioned::Never);
     }
     let place = word.iter().position(|b| *b == b'=').ok_or(CallFault::Line)?;
     let version = version_of(&word[..place])?;
-    Ok(Versioned::At(version, byte(&word[place + 1..])?))
+    let content = byte(&word[place + 1..])?;
+    Ok(Versioned::At(Entry { version, content }))
 }
 
-// The join of two values of any type that has joins.
-fn joined<J: Join>(left: &J, right: &J) -> Result<J, CallFault> {
+/// The join of two values of any type that has joins.
+pub fn joined<J: Join>(left: &J, right: &J) -> Result<J, CallFault> {
     let mut value = left.try_clone()?;
     match value.join_from(right.try_clone()?) {
         Ok(()) => Ok(value),
@@ -40,15 +40,15 @@ fn joined<J: Join>(left: &J, right: &J) -> Result<J, CallFault> {
     }
 }
 
-// Whether two values of any type that has joins are the same.
-fn are_same<J: Join>(left: &J, right: &J) -> bool {
+/// Whether two values of any type that has joins are the same.
+pub fn are_same<J: Join>(left: &J, right: &J) -> bool {
     left.same(right)
 }
 
 // The join of two values, how they are ordered, and whether they are the same.
 fn compared(alloc: Global, words: &mut Words) -> Result<Vec<u8>, CallFault> {
-    let left = versioned(words)?;
-    let right = versioned(words)?;
+    let left = versioned(words.word()?)?;
+    let right = versioned(words.word()?)?;
     words.end()?;
     let mut out = told(alloc, &joined(&left, &right)?)?;
     out.extend_from_slice(match left.rank(&right) {
@@ -64,20 +64,21 @@ fn compared(alloc: Global, words: &mut Words) -> Result<Vec<u8>, CallFault> {
     Ok(out)
 }
 
-// A value, as words write it.
-fn told(alloc: Global, value: &Versioned<u8>) -> Result<Vec<u8>, CallFault> {
-    let Versioned::At(version, content) = value else {
+/// A value, as words write it.
+pub fn told(alloc: Global, value: &Versioned<u8>) -> Result<Vec<u8>, CallFault> {
+    let Some(entry) = value.entry() else {
         return Ok(Vec::from_slice(alloc, b"never")?);
     };
     let mut out = Vec::new(alloc);
-    append_version(alloc, &mut out, *version)?;
+    append_version(alloc, &mut out, entry.version)?;
+    let content = entry.content;
     out.extend_from_slice(format!(in alloc; "={content}")?.as_bytes())?;
     Ok(out)
 }
 
 // Whether a value is below every other.
 fn bottom(alloc: Global, words: &mut Words) -> Result<Vec<u8>, CallFault> {
-    let value = versioned(words)?;
+    let value = versioned(words.word()?)?;
     words.end()?;
     let word: &[u8] = if value.is_bottom() { b"yes" } else { b"no" };
     Ok(Vec::from_slice(alloc, word)?)

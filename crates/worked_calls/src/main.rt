@@ -9,6 +9,7 @@ mod choices;
 mod contents;
 mod drop_ins;
 mod edits;
+mod join_maps;
 mod joins;
 mod name_lists;
 mod names;
@@ -40,6 +41,7 @@ fn answer(alloc: Global, line: &[u8]) -> Result<Vec<u8>, CallFault> {
         b"setting" => settings::answer(alloc, &mut words),
         b"script" => script_lines::answer(alloc, &mut words),
         b"version" => joins::answer(alloc, &mut words),
+        b"map" => join_maps::answer(alloc, &mut words),
         b"content" => contents::answer(alloc, &mut words),
         b"store" => stores::answer(alloc, &mut words),
         b"replica" => replicas::answer(alloc, &mut words),

@@ -10,7 +10,7 @@ use Rattle.join_law.specs.VersionOrder.{version_cmp}
 use Rattle.join_law.specs.VersionOrderLaws.{version_cmp-IsAntisymmetric}
 use Rattle.load_path.specs.Paths.{PathParts, path_cmp}
 use Rattle.load_path.specs.PathLaws.{path_cmp_total}
-use Rattle.edit_sums.specs.declared.entries.Entry.{Entry}
+use Rattle.edit_sums.specs.Entries.{Entry}
 use Rattle.edit_sums.specs.declared.entries.Edit.{Edit}
 use Rattle.edit_sums.specs.Contents.{content_cmp}
 use Rattle.edit_sums.specs.Entries.{IsBelow, larger}

@@ -8,7 +8,7 @@ use borrow.Author.Tests.{lt-ltb, eqb-true}
 use Rattle.std.specs.FinMap as finmap
 use Rattle.list_laws.specs.Members.{IsAmong, IsAmong-append_cases}
 use Rattle.join_law.specs.declared.versions.Version.{Version}
-use Rattle.edit_sums.specs.declared.entries.Entry.{Entry}
+use Rattle.edit_sums.specs.Entries.{Entry}
 use Rattle.edit_sums.specs.declared.entries.Edit.{Edit}
 use Rattle.join_law.specs.VersionOrder.{version_cmp}
 use Rattle.edit_sums.specs.Entries.{IsBelow, larger}

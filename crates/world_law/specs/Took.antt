@@ -3,7 +3,7 @@
 use Rattle.std.specs.Prelude.{◌≡◌, ℕ, ◌<◌, true, Option, Some, List, [], ◌∷◌, ◌++◌, ◌↔◌, length, reverse, slice_get, IsSome, IfSome}
 use Rattle.std.specs.FinMap as finmap
 use Rattle.list_laws.specs.Members.{IsAmong}
-use Rattle.edit_sums.specs.declared.entries.Entry.{Entry}
+use Rattle.edit_sums.specs.Entries.{Entry}
 use Rattle.edit_sums.specs.declared.entries.Edit.{Edit}
 use Rattle.edit_sums.specs.Entries.{IsBelow}
 use Rattle.load_path.specs.Paths.{PathParts}

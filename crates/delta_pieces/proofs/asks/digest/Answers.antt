@@ -1,6 +1,6 @@
 use Rattle.std.proofs.Common.{◌≡◌, ap, ◌∙◌, map}
 use Rattle.std.specs.FinMap as finmap
-use Rattle.edit_sums.specs.declared.entries.Entry.{Entry}
+use Rattle.edit_sums.specs.Entries.{Entry}
 use Rattle.delta_pieces.proofs.Orders.{entries_rise, map_rises}
 use Rattle.delta_pieces.proofs.Views.{versions_are_digest}
 use Rattle.delta_pieces.proofs.asks.digest.Goals as goal

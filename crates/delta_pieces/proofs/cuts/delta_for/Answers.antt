@@ -3,7 +3,7 @@ use Rattle.std.specs.Prelude.{filter}
 use Rattle.std.specs.FinMap as finmap
 use Rattle.std.specs.FinMap.{find}
 use Rattle.load_path.specs.Paths.{PathParts, path_cmp}
-use Rattle.edit_sums.specs.declared.entries.Entry.{Entry}
+use Rattle.edit_sums.specs.Entries.{Entry}
 use Rattle.edit_sums.specs.Sums.{join}
 use Rattle.world_law.specs.Cuts.{is_newer, cut}
 use Rattle.world_law.specs.CutLaws.{whole_answer}

@@ -1,7 +1,7 @@
 use Rattle.std.proofs.Common.{◌≡◌, ◌+◌, [], ◌∷◌, ◌++◌, List, IsTrue, drop, ap, sym, subst, ◌∙◌}
 use Rattle.std.specs.FinMap.Entries.{find, is_sorted}
 use Rattle.load_path.specs.Paths.{PathParts, path_cmp}
-use Rattle.edit_sums.specs.declared.entries.Entry.{Entry}
+use Rattle.edit_sums.specs.Entries.{Entry}
 use Rattle.world_law.specs.Cuts.{is_newer}
 use Rattle.delta_pieces.proofs.Orders.{drop_rises}
 use Rattle.delta_pieces.proofs.Passes.{TellsTheSame, tells_all, tells_from, next_of, with_next, without_next}

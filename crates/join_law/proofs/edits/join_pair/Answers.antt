@@ -1,7 +1,5 @@
 use Rattle.std.proofs.Common.{subst, ap, ◌∙◌, set}
 use Rattle.std.specs.Prelude.{IsSome}
-use Rattle.join_law.specs.Order.{IsLeast, IsJoin, IsPartialJoin}
-use Rattle.join_law.specs.Maps.{IsMap, MapBelow}
 use Rattle.sorted_pairs.specs.PlaceLaws.{find_gap}
 use Rattle.join_law.proofs.MapEdits.{set_same, joined_is_map, joined_is_join, partly_is_map, partly_is_join, refused_is_join, inserted_is_map, inserted_is_join}
 use Rattle.join_law.proofs.edits.join_pair.Goals as goal

@@ -4,7 +4,7 @@ use Rattle.std.specs.FinMap.{find}
 use Rattle.sorted_pairs.specs.PlaceLaws.{find_at, find_gap}
 use Rattle.join_law.specs.Maps.{IsMap, MapBelow, or_empty}
 use Rattle.join_law.specs.MapLaws.{map_itself, map_chain}
-use Rattle.join_law.proofs.MapEdits.{set_same, joined_is_map, joined_is_join, between_is_map, between_is_between, unchanged_is_between, inserted_is_map, inserted_is_join, partial_between, pair_held}
+use Rattle.join_law.proofs.MapEdits.{set_same, joined_is_map, joined_is_join, between_is_map, between_is_between, unchanged_is_between, inserted_is_map, inserted_is_join, pair_held}
 use Rattle.join_law.proofs.Outcomes.{on_err}
 use Rattle.join_law.proofs.nested.join_deep.Goals as goal
 

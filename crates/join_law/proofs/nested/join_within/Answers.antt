@@ -1,4 +1,4 @@
-use Rattle.std.proofs.Common.{◌≡◌, [], ◌∷◌, Some, ap, sym, ◌∙◌, set, subst}
+use Rattle.std.proofs.Common.{[], ◌∷◌, Some, ap, sym, ◌∙◌, set, subst}
 use Rattle.std.specs.Prelude.{IsSome}
 use Rattle.std.specs.FinMap.{find}
 use Rattle.sorted_pairs.specs.PlaceLaws.{find_at, find_gap}

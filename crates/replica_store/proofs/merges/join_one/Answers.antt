@@ -3,7 +3,7 @@ use Rattle.std.specs.Ordering.{is_lt}
 use Rattle.std.specs.FinMap.{find}
 use Rattle.load_path.specs.Paths.{path_cmp}
 use Rattle.load_path.specs.PathLaws.{path_cmp_total}
-use Rattle.edit_sums.specs.declared.entries.Entry.{Entry}
+use Rattle.edit_sums.specs.Entries.{Entry}
 use Rattle.sorted_pairs.specs.PlaceLaws.{find_gap}
 use Rattle.replica_store.specs.Merges.{is_rise}
 use Rattle.replica_store.proofs.Puts.{set_is_edit, set_sorted, kept_is_edit, insert_is_edit, insert_sorted}

@@ -1,7 +1,7 @@
 use Rattle.std.proofs.Common.{◌≡◌, take, drop, ap, ◌∙◌}
 use Rattle.std.specs.FinMap as finmap
 use Rattle.std.specs.FinMap.{same_entries_map}
-use Rattle.edit_sums.specs.declared.entries.Entry.{Entry}
+use Rattle.edit_sums.specs.Entries.{Entry}
 use Rattle.delta_pieces.proofs.Orders.{entries_rise, take_rises, drop_rises}
 use Rattle.delta_pieces.proofs.Views.{parts_are_whole}
 use Rattle.delta_pieces.proofs.pieces.Piece.split.Goals as goal

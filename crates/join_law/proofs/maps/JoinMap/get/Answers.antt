@@ -1,4 +1,4 @@
-use Rattle.std.proofs.Common.{rules, ap, sym, ◌∙◌, Some}
+use Rattle.std.proofs.Common.{ap, sym, ◌∙◌, Some}
 use Rattle.std.specs.FinMap.{find}
 use Rattle.sorted_pairs.specs.PlaceLaws.{find_at, find_gap}
 use Rattle.join_law.proofs.maps.JoinMap.get.Goals as goal

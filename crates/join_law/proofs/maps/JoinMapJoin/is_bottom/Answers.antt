@@ -1,7 +1,5 @@
-use Rattle.std.proofs.Common.{arith, subst, sym, List, ◌↔◌, IsTrue}
+use Rattle.std.proofs.Common.{arith}
 use Rattle.join_law.specs.MapOneLaws.{least_exactly_empty}
-use Rattle.join_law.specs.Order.{IsLeast}
-use Rattle.join_law.specs.Maps.{MapBelow}
 use Rattle.join_law.proofs.maps.JoinMapJoin.is_bottom.Goals as goal
 
 pub returns-clause-least : goal.returns-clause-least

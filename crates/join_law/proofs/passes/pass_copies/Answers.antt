@@ -1,0 +1,54 @@
+use Rattle.std.proofs.Common.{◌≡◌, [], ◌∷◌, ◌++◌, get_or, length, ap, sym, subst, ◌∙◌, arith}
+use Rattle.std.specs.declared.cmp.Ordering.TheVariants.{Less}
+use Rattle.sorted_pairs.specs.Places.{AreBelow}
+use Rattle.join_law.specs.Order.{IsBetween, IsJoin}
+use Rattle.join_law.specs.Maps.{IsHeld, IsMap, MapBelow}
+use Rattle.join_law.proofs.Outcomes.{on_err}
+use Rattle.join_law.proofs.Behind.{keys_rise}
+use Rattle.join_law.proofs.CopyWalks.{held_at, copied_first, copied_all, copied_more, copied_stopped, copied_single}
+use Rattle.join_law.proofs.passes.pass_copies.Goals as goal
+
+pub loop-pair-init : goal.loop-pair-init
+loop-pair-init g c = record {
+  copied = rw c.requires.none (copied_first g.K.Ord.cmp g.met.K.Ord.total g.V.Join.below g.met.V.Join.reflexive g.met.V.Join.transitive g.V.Join.is_valid _ _ c.requires.map);
+  before = rw c.requires.none (λ j d a b. tt);
+  room = omega (arith, ap length c.requires.none);
+}
+
+pub pass_below-requires-clause-below : goal.pass_below-requires-clause-below
+pass_below-requires-clause-below g c =
+    subst (λ pair. AreBelow g.K.Ord.cmp pair.0 c.loop-pair.passed.items) (sym c.pair-item.is)
+    (c.loop-pair.invariant.before c.loop-pair.pair-index c.pair-item.result (omega arith) c.loop-pair-test.true)
+
+pub place_copy-requires-clause-map : goal.place_copy-requires-clause-map
+place_copy-requires-clause-map g c =
+    subst (IsMap g.K.Ord.cmp g.V.Join.below g.V.Join.is_valid) (sym c.pass_below.ensures.pairs) c.loop-pair.invariant.copied.map
+
+pub place_copy-requires-clause-held : goal.place_copy-requires-clause-held
+place_copy-requires-clause-held g c =
+    subst (λ pair. IsHeld g.V.Join.below g.V.Join.is_valid pair.1) (sym c.pair-item.is)
+    (held_at g.V.Join.below g.V.Join.is_valid c.args.other.now c.loop-pair.pair-index c.pair-item.result c.loop-pair-test.true c.requires.other_map.held)
+
+pub loop-pair-preserved : goal.loop-pair-preserved
+loop-pair-preserved g c =
+    let new = c.place_copy.new.passed.items ++ c.place_copy.new.ahead.items in
+    record {
+      copied = copied_more g.K.Ord.cmp g.met.K.Ord.total g.V.Join.below g.met.V.Join.reflexive g.met.V.Join.transitive g.V.Join.is_valid _ _ _ _ c.loop-pair.invariant.copied c.pair-item.result c.pair-item.is c.loop-pair-test.true c.requires.other_map _ c.in_ok-place_copy.ensures.map (subst (λ now. IsJoin (MapBelow g.K.Ord.cmp g.V.Join.below) now ((c.pair-item.result.0, c.pair-item.result.1) ∷ []) new) c.pass_below.ensures.pairs c.in_ok-place_copy.ensures.ok);
+      before = λ j d past within.
+          c.in_ok-place_copy.ensures.below (get_or c.args.other.now j d).0
+          (subst (λ pair. g.K.Ord.cmp pair.0 (get_or c.args.other.now j d).0 ≡ Less) (sym c.pair-item.is)
+          (keys_rise g.K.Ord.cmp c.args.other.now c.loop-pair.pair-index j c.pair-item.result d c.requires.other_map.sorted (omega arith) within));
+      room = omega arith;
+    }
+
+pub returns-in_err-place_copy-clause-refused : goal.returns-in_err-place_copy-clause-refused
+returns-in_err-place_copy-clause-refused g c =
+    let new = c.place_copy.new.passed.items ++ c.place_copy.new.ahead.items in
+    on_err _ (copied_stopped g.K.Ord.cmp g.met.K.Ord.total g.V.Join.below g.met.V.Join.reflexive g.met.V.Join.transitive g.V.Join.is_valid _ _ _ _ c.loop-pair.invariant.copied c.pair-item.result c.pair-item.is c.loop-pair-test.true c.requires.other_map _ (subst (λ now. IsBetween (MapBelow g.K.Ord.cmp g.V.Join.below) now ((c.pair-item.result.0, c.pair-item.result.1) ∷ []) new) c.pass_below.ensures.pairs c.in_err-place_copy.ensures.refused))
+
+pub returns-in_err-place_copy-clause-single : goal.returns-in_err-place_copy-clause-single
+returns-in_err-place_copy-clause-single g c =
+    on_err _ (copied_single g.K.Ord.cmp g.met.K.Ord.total g.V.Join.below g.met.V.Join.reflexive g.met.V.Join.transitive g.V.Join.is_valid _ _ _ _ c.loop-pair.invariant.copied c.pair-item.result c.pair-item.is c.loop-pair-test.true c.requires.other_map g.V.Join.is_single _ (λ single. c.in_err-place_copy.ensures.single single ∙ c.pass_below.ensures.pairs))
+
+pub returns-clause-ok : goal.returns-clause-ok
+returns-clause-ok g c = copied_all g.K.Ord.cmp g.met.K.Ord.total g.V.Join.below g.met.V.Join.reflexive g.met.V.Join.transitive g.V.Join.is_valid _ _ _ _ c.loop-pair.invariant.copied (omega arith)

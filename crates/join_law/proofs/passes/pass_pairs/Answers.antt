@@ -1,0 +1,55 @@
+use Rattle.std.proofs.Common.{◌<◌, [], ◌∷◌, ◌++◌, List, suc, get_or, length, ap, sym, subst, ◌∙◌, arith}
+use Rattle.sorted_pairs.specs.Places.{AreBelow}
+use Rattle.join_law.specs.Order.{IsJoin, IsPartialJoin}
+use Rattle.join_law.specs.Maps.{IsMap, MapBelow}
+use Rattle.join_law.proofs.Behind.{keys_rise}
+use Rattle.join_law.proofs.Ends.{IsUnderWay, under_way_first}
+use Rattle.join_law.proofs.FrontWalks.{front_held, front_more, front_stopped, front_back, front_single}
+use Rattle.join_law.proofs.passes.pass_pairs.Goals as goal
+
+pub loop-key-init : goal.loop-key-init
+loop-key-init g c = record {
+  under_way = rw c.requires.none (under_way_first g.K.Ord.cmp g.met.K.Ord.total g.V.Join.is_valid g.V.Join.below g.met.V.Join.reflexive g.met.V.Join.transitive g.V.Join.is_single _ _ c.requires.map c.requires.other_map);
+  before = rw c.requires.none (λ j d lt. tt);
+  room = omega (arith, ap length c.requires.none);
+}
+
+pub pass_below-requires-clause-below : goal.pass_below-requires-clause-below
+pass_below-requires-clause-below g c =
+    let some : 0 < length c.loop-key.other.items = omega (arith, ap length c.in-Some.ensures.items) in
+    subst (λ (left : List (g.row.K.Denot × g.row.V.Denot)). AreBelow g.K.Ord.cmp (get_or left 0 (c.in-Some.key, c.in-Some.value)).0 c.loop-key.passed.items) c.in-Some.ensures.items (c.loop-key.invariant.before 0 (c.in-Some.key, c.in-Some.value) some)
+
+pub place_pair-requires-clause-map : goal.place_pair-requires-clause-map
+place_pair-requires-clause-map g c =
+    subst (IsMap g.K.Ord.cmp g.V.Join.below g.V.Join.is_valid) (sym c.pass_below.ensures.pairs) c.loop-key.invariant.under_way.map
+
+pub place_pair-requires-clause-held : goal.place_pair-requires-clause-held
+place_pair-requires-clause-held g c =
+    let u = subst (λ left. IsUnderWay g.K.Ord.cmp g.V.Join.is_valid g.V.Join.below g.V.Join.is_single c.args.ahead.now.items c.args.other.now.items (c.loop-key.passed.items ++ c.loop-key.ahead.items) left) c.in-Some.ensures.items c.loop-key.invariant.under_way in
+    front_held g.K.Ord.cmp g.met.K.Ord.total g.V.Join.is_valid g.V.Join.below g.met.V.Join.reflexive g.met.V.Join.transitive g.V.Join.is_single c.args.ahead.now.items c.args.other.now.items (c.loop-key.passed.items ++ c.loop-key.ahead.items) c.in-Some.key c.in-Some.value c.pop_front.new.self.items u
+
+pub loop-key-preserved : goal.loop-key-preserved
+loop-key-preserved g c =
+    let u = subst (λ left. IsUnderWay g.K.Ord.cmp g.V.Join.is_valid g.V.Join.below g.V.Join.is_single c.args.ahead.now.items c.args.other.now.items (c.loop-key.passed.items ++ c.loop-key.ahead.items) left) c.in-Some.ensures.items c.loop-key.invariant.under_way in
+    record {
+      under_way = front_more g.K.Ord.cmp g.met.K.Ord.total g.V.Join.is_valid g.V.Join.below g.met.V.Join.reflexive g.met.V.Join.transitive g.V.Join.is_single c.args.ahead.now.items c.args.other.now.items (c.loop-key.passed.items ++ c.loop-key.ahead.items) c.in-Some.key c.in-Some.value c.pop_front.new.self.items u _ c.in_default-place_pair.ensures.map (subst (λ now. IsJoin (MapBelow g.K.Ord.cmp g.V.Join.below) now ((c.in-Some.key, c.in-Some.value) ∷ []) (c.place_pair.new.passed.items ++ c.place_pair.new.ahead.items)) c.pass_below.ensures.pairs c.in_default-place_pair.ensures.ok);
+      before = λ j d lt.
+          c.in_default-place_pair.ensures.below (get_or c.pop_front.new.self.items j d).0
+          (keys_rise g.K.Ord.cmp ((c.in-Some.key, c.in-Some.value) ∷ c.pop_front.new.self.items) 0 (suc j) (c.in-Some.key, c.in-Some.value) d u.left_map.sorted (omega arith) (omega (arith, lt)));
+      room = omega (arith, c.in-Some.ensures.len);
+    }
+
+pub returns-in-Ok-clause-other_map : goal.returns-in-Ok-clause-other_map
+returns-in-Ok-clause-other_map g c =
+    let u = subst (λ left. IsUnderWay g.K.Ord.cmp g.V.Join.is_valid g.V.Join.below g.V.Join.is_single c.args.ahead.now.items c.args.other.now.items (c.loop-key.passed.items ++ c.loop-key.ahead.items) left) c.in-Some.ensures.items c.loop-key.invariant.under_way in
+    rw c.in-Ok.ensures.items (front_back g.K.Ord.cmp g.met.K.Ord.total g.V.Join.is_valid g.V.Join.below g.met.V.Join.reflexive g.met.V.Join.transitive g.V.Join.is_single c.args.ahead.now.items c.args.other.now.items (c.loop-key.passed.items ++ c.loop-key.ahead.items) c.in-Some.key c.in-Some.value c.pop_front.new.self.items u _ _ c.in-Err.ensures.key (subst (λ now. IsPartialJoin (MapBelow g.K.Ord.cmp g.V.Join.below) now ((c.in-Some.key, c.in-Some.value) ∷ []) (c.place_pair.new.passed.items ++ c.place_pair.new.ahead.items) (c.in-Err.field-0.rest ∷ [])) c.pass_below.ensures.pairs c.in-Err.ensures.refused) c.in-Err.ensures.left c.in-Err.ensures.rest_valid)
+
+pub returns-in-Ok-clause-refused : goal.returns-in-Ok-clause-refused
+returns-in-Ok-clause-refused g c =
+    let u = subst (λ left. IsUnderWay g.K.Ord.cmp g.V.Join.is_valid g.V.Join.below g.V.Join.is_single c.args.ahead.now.items c.args.other.now.items (c.loop-key.passed.items ++ c.loop-key.ahead.items) left) c.in-Some.ensures.items c.loop-key.invariant.under_way in
+    rw c.in-Ok.ensures.items (front_stopped g.K.Ord.cmp g.met.K.Ord.total g.V.Join.is_valid g.V.Join.below g.met.V.Join.reflexive g.met.V.Join.transitive g.V.Join.is_single c.args.ahead.now.items c.args.other.now.items (c.loop-key.passed.items ++ c.loop-key.ahead.items) c.in-Some.key c.in-Some.value c.pop_front.new.self.items u _ _ c.in-Err.ensures.key (subst (λ now. IsPartialJoin (MapBelow g.K.Ord.cmp g.V.Join.below) now ((c.in-Some.key, c.in-Some.value) ∷ []) (c.place_pair.new.passed.items ++ c.place_pair.new.ahead.items) (c.in-Err.field-0.rest ∷ [])) c.pass_below.ensures.pairs c.in-Err.ensures.refused) c.in-Err.ensures.left)
+
+pub returns-in-Ok-clause-single : goal.returns-in-Ok-clause-single
+returns-in-Ok-clause-single g c =
+    let u = subst (λ left. IsUnderWay g.K.Ord.cmp g.V.Join.is_valid g.V.Join.below g.V.Join.is_single c.args.ahead.now.items c.args.other.now.items (c.loop-key.passed.items ++ c.loop-key.ahead.items) left) c.in-Some.ensures.items c.loop-key.invariant.under_way in
+    front_single g.K.Ord.cmp g.met.K.Ord.total g.V.Join.is_valid g.V.Join.below g.met.V.Join.reflexive g.met.V.Join.transitive g.V.Join.is_single c.args.ahead.now.items c.args.other.now.items (c.loop-key.passed.items ++ c.loop-key.ahead.items) c.in-Some.key c.in-Some.value c.pop_front.new.self.items u _ (λ single. c.in-Err.ensures.single single ∙ c.pass_below.ensures.pairs)

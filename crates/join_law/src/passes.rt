@@ -1,0 +1,199 @@
+//! One pass over sorted pairs that joins others which are many.
+ghost use Rattle.std.specs.Prelude.{◌≡◌, ◌+◌, ◌<◌, ◌≤◌, ◌++◌, [], ◌∷◌, length, vec_len, vec_capacity, IsOk, OnOk, OnErr, IfErr};
+ghost use Rattle.std.specs.VecDeque.{deque_len};
+ghost use Rattle.std.specs.declared.cmp.Ordering.TheVariants.{Less};
+ghost use Rattle.std.specs.Bool.{OnTrue, OnFalse};
+ghost use Rattle.sorted_pairs.specs.Places.{IsAt, IsGap, AreBelow, IsNotBelow};
+ghost use Rattle.join_law.specs.Maps.{IsHeld, IsMap, IsSinglePair, MapBelow};
+ghost use Rattle.join_law.specs.Order.{IsBetween, IsJoin, IsLeast, IsPartialJoin};
+
+use crate::joins::{Join, Rest};
+use crate::keys::Key;
+use sorted_pairs::{pass_all, pass_below};
+use std::alloc::AllocError;
+use std::collections::VecDeque;
+use std::mem;
+
+// Whether the first pair has this key.
+fn is_first<K: Key, V>(ahead: &VecDeque<(K, V)>, key: &K) -> bool
+    requires next { IsNotBelow K.cmp key.now ahead.now.items }
+    ensures at { OnTrue result (IsAt K.cmp key.now ahead.now.items 0) }
+    ensures gap { OnFalse result (IsGap K.cmp key.now ahead.now.items 0) }
+{
+    match ahead.front() {
+        Some(next) => key.cmp(&next.0).is_eq(),
+        None => false,
+    }
+}
+
+// Joins a copy of one pair, whose key is above all passed ones and not above the others.
+fn place_copy<K: Key, V: Join>(
+    passed: &mut Vec<(K, V)>,
+    ahead: &mut VecDeque<(K, V)>,
+    key: &K,
+    value: &V,
+) -> Result<(), AllocError>
+    requires room { vec_len passed.old + deque_len ahead.old + 1 ≤ vec_capacity passed.old }
+    requires map { IsMap K.cmp V.below V.is_valid (passed.old.items ++ ahead.old.items) }
+    requires held { IsHeld V.below V.is_valid value.now }
+    requires below { AreBelow K.cmp key.now passed.old.items }
+    requires next { IsNotBelow K.cmp key.now ahead.old.items }
+    ensures map { IsMap K.cmp V.below V.is_valid (passed.new.items ++ ahead.new.items) }
+    ensures ok { OnOk result (IsJoin (MapBelow K.cmp V.below) (passed.old.items ++ ahead.old.items) ((key.now, value.now) ∷ []) (passed.new.items ++ ahead.new.items)) }
+    ensures refused { OnErr result (IsBetween (MapBelow K.cmp V.below) (passed.old.items ++ ahead.old.items) ((key.now, value.now) ∷ []) (passed.new.items ++ ahead.new.items)) }
+    ensures single { OnErr result (V.is_single value.now → passed.new.items ++ ahead.new.items ≡ passed.old.items ++ ahead.old.items) }
+    ensures below { (next : K) → K.cmp key.now next ≡ Less → AreBelow K.cmp next passed.new.items }
+    ensures len { vec_len passed.new + deque_len ahead.new ≤ vec_len passed.old + deque_len ahead.old + 1 }
+    ensures capacity { vec_capacity passed.old ≤ vec_capacity passed.new }
+{
+    if is_first(ahead, key) {
+        let place = &mut ahead[0];
+        place.1.join_copy(value)?;
+        return Ok(());
+    }
+    let copy = key.try_clone()?;
+    match passed.push((copy, value.try_clone()?)) {
+        Ok(()) => Ok(()),
+        Err(_) => unreachable!(),
+    }
+}
+
+// Joins one pair, whose key is above all passed ones and not above the others.
+fn place_pair<K: Key, V: Join>(
+    passed: &mut Vec<(K, V)>,
+    ahead: &mut VecDeque<(K, V)>,
+    key: K,
+    value: V,
+) -> Result<(), Rest<(K, V)>>
+    requires room { vec_len passed.old + deque_len ahead.old + 1 ≤ vec_capacity passed.old }
+    requires map { IsMap K.cmp V.below V.is_valid (passed.old.items ++ ahead.old.items) }
+    requires held { IsHeld V.below V.is_valid value }
+    requires below { AreBelow K.cmp key passed.old.items }
+    requires next { IsNotBelow K.cmp key ahead.old.items }
+    ensures map { IsMap K.cmp V.below V.is_valid (passed.new.items ++ ahead.new.items) }
+    ensures ok { OnOk result (IsJoin (MapBelow K.cmp V.below) (passed.old.items ++ ahead.old.items) ((key, value) ∷ []) (passed.new.items ++ ahead.new.items)) }
+    ensures key { IfErr result (λ fault. fault.rest.0 ≡ key) }
+    ensures refused { IfErr result (λ fault. IsPartialJoin (MapBelow K.cmp V.below) (passed.old.items ++ ahead.old.items) ((key, value) ∷ []) (passed.new.items ++ ahead.new.items) (fault.rest ∷ [])) }
+    ensures left { IfErr result (λ fault. ¬ IsLeast V.below fault.rest.1) }
+    ensures rest_valid { IfErr result (λ fault. V.is_valid fault.rest.1) }
+    ensures single { IfErr result (λ _. V.is_single value → passed.new.items ++ ahead.new.items ≡ passed.old.items ++ ahead.old.items) }
+    ensures below { (next : K) → K.cmp key next ≡ Less → AreBelow K.cmp next passed.new.items }
+    ensures len { vec_len passed.new + deque_len ahead.new ≤ vec_len passed.old + deque_len ahead.old + 1 }
+    ensures capacity { vec_capacity passed.old ≤ vec_capacity passed.new }
+{
+    if is_first(ahead, &key) {
+        let place = &mut ahead[0];
+        return match place.1.join_from(value) {
+            Ok(()) => Ok(()),
+            Err(Rest { rest }) => Err(Rest { rest: (key, rest) }),
+        };
+    }
+    match passed.push((key, value)) {
+        Ok(()) => Ok(()),
+        Err(_) => unreachable!(),
+    }
+}
+
+// Joins the others from the first on, and answers whether all went in.
+fn pass_pairs<K: Key, V: Join>(
+    passed: &mut Vec<(K, V)>,
+    ahead: &mut VecDeque<(K, V)>,
+    other: &mut VecDeque<(K, V)>,
+) -> bool
+    requires room { deque_len ahead.old + deque_len other.old ≤ vec_capacity passed.old }
+    requires none { passed.old.items ≡ [] }
+    requires map { IsMap K.cmp V.below V.is_valid ahead.old.items }
+    requires other_map { IsMap K.cmp V.below V.is_valid other.old.items }
+    ensures map { IsMap K.cmp V.below V.is_valid (passed.new.items ++ ahead.new.items) }
+    ensures other_map { IsMap K.cmp V.below V.is_valid other.new.items }
+    ensures ok { OnTrue result (IsJoin (MapBelow K.cmp V.below) ahead.old.items other.old.items (passed.new.items ++ ahead.new.items)) }
+    ensures refused { OnFalse result (IsPartialJoin (MapBelow K.cmp V.below) ahead.old.items other.old.items (passed.new.items ++ ahead.new.items) other.new.items) }
+    ensures single { OnFalse result (IsSinglePair V.is_single other.old.items → passed.new.items ++ ahead.new.items ≡ ahead.old.items) }
+    ensures room { vec_len passed.new + deque_len ahead.new ≤ vec_capacity passed.new }
+{
+    while let Some((key, value)) = other.pop_front() {
+        pass_below(passed, ahead, &key);
+        if let Err(Rest { rest }) = place_pair(passed, ahead, key, value) {
+            // It goes back into the room that it left.
+            match other.push_front(rest) {
+                Ok(()) => return false,
+                Err(_) => unreachable!(),
+            }
+        }
+    }
+    true
+}
+
+// Joins copies of what the others have more.
+fn pass_copies<K: Key, V: Join>(
+    passed: &mut Vec<(K, V)>,
+    ahead: &mut VecDeque<(K, V)>,
+    other: &[(K, V)],
+) -> Result<(), AllocError>
+    requires room { deque_len ahead.old + length other.now ≤ vec_capacity passed.old }
+    requires none { passed.old.items ≡ [] }
+    requires map { IsMap K.cmp V.below V.is_valid ahead.old.items }
+    requires other_map { IsMap K.cmp V.below V.is_valid other.now }
+    ensures map { IsMap K.cmp V.below V.is_valid (passed.new.items ++ ahead.new.items) }
+    ensures ok { OnOk result (IsJoin (MapBelow K.cmp V.below) ahead.old.items other.now (passed.new.items ++ ahead.new.items)) }
+    ensures refused { OnErr result (IsBetween (MapBelow K.cmp V.below) ahead.old.items other.now (passed.new.items ++ ahead.new.items)) }
+    ensures single { OnErr result (IsSinglePair V.is_single other.now → passed.new.items ++ ahead.new.items ≡ ahead.old.items) }
+    ensures room { vec_len passed.new + deque_len ahead.new ≤ vec_capacity passed.new }
+{
+    for pair in other {
+        pass_below(passed, ahead, &pair.0);
+        place_copy(passed, ahead, &pair.0, &pair.1)?;
+    }
+    Ok(())
+}
+
+// Joins copies of what the others have more, by one growth, then one pass over both. Linear.
+pub fn join_copies_in_one<K: Key, V: Join>(
+    pairs: &mut Vec<(K, V)>,
+    other: &[(K, V)],
+) -> Result<(), AllocError>
+    requires map { IsMap K.cmp V.below V.is_valid pairs.old.items }
+    requires other_map { IsMap K.cmp V.below V.is_valid other.now }
+    ensures map { IsMap K.cmp V.below V.is_valid pairs.new.items }
+    ensures ok { OnOk result (IsJoin (MapBelow K.cmp V.below) pairs.old.items other.now pairs.new.items) }
+    ensures refused { OnErr result (IsBetween (MapBelow K.cmp V.below) pairs.old.items other.now pairs.new.items) }
+    ensures single { OnErr result (IsSinglePair V.is_single other.now → pairs.new.items ≡ pairs.old.items) }
+{
+    let alloc = *pairs.allocator();
+    let room = pairs.len().checked_add(other.len()).ok_or(AllocError)?;
+    let mut passed = Vec::with_capacity(alloc, room)?;
+    let mut ahead = VecDeque::from_vec(mem::replace(pairs, Vec::new(alloc)));
+    let outcome = pass_copies(&mut passed, &mut ahead, other);
+    pass_all(&mut passed, &mut ahead);
+    *pairs = passed;
+    outcome
+}
+
+// Joins all pairs of `other`, by one growth, then one pass over both, and answers whether all went
+// in. Linear.
+pub fn join_pairs_in_one<K: Key, V: Join>(pairs: &mut Vec<(K, V)>, other: &mut Vec<(K, V)>) -> bool
+    requires map { IsMap K.cmp V.below V.is_valid pairs.old.items }
+    requires other_map { IsMap K.cmp V.below V.is_valid other.old.items }
+    requires some { 0 < vec_len other.old }
+    ensures map { IsMap K.cmp V.below V.is_valid pairs.new.items }
+    ensures other_map { IsMap K.cmp V.below V.is_valid other.new.items }
+    ensures ok { OnTrue result (IsJoin (MapBelow K.cmp V.below) pairs.old.items other.old.items pairs.new.items) }
+    ensures refused { OnFalse result (IsPartialJoin (MapBelow K.cmp V.below) pairs.old.items other.old.items pairs.new.items other.new.items) }
+    ensures single { OnFalse result (IsSinglePair V.is_single other.old.items → pairs.new.items ≡ pairs.old.items) }
+{
+    let alloc = *pairs.allocator();
+    let Some(room) = pairs.len().checked_add(other.len()) else {
+        return false;
+    };
+    let mut passed = match Vec::with_capacity(alloc, room) {
+        Ok(passed) => passed,
+        Err(_) => return false,
+    };
+    let mut ahead = VecDeque::from_vec(mem::replace(pairs, Vec::new(alloc)));
+    let mut left = VecDeque::from_vec(mem::replace(other, Vec::new(alloc)));
+    let done = pass_pairs(&mut passed, &mut ahead, &mut left);
+    pass_all(&mut passed, &mut ahead);
+    *pairs = passed;
+    *other = left.into_vec();
+    done
+}

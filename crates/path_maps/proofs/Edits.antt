@@ -1,0 +1,86 @@
+-- One edit more.
+use Rattle.std.proofs.Common.{◌≡◌, ◌⊎◌, inl, inr, ℕ, Bool, true, false, cond, List, [], ◌∷◌, Option, Some, None, IsTrue, IsSome, refl, sym, ap, subst, ◌∙◌, arith}
+use Rattle.std.specs.Prelude.{max, length, ◌+◌}
+use Rattle.std.specs.Ordering.{eq_by_cmp, nat_cmp}
+use Rattle.std.specs.Cmp.Lexicographic.{nat_list_cmp_total}
+use Rattle.std.specs.FinMap as finmap
+use Rattle.std.specs.FinMap.Entries.{find}
+use Rattle.join_law.specs.declared.versions.Versioned.TheVariants.{At}
+use Rattle.join_law.specs.Order.{IsJoin}
+use Rattle.join_law.specs.VersionedLaws.{not_least}
+use Rattle.join_law.specs.MapLaws.{entry_not_least}
+use Rattle.load_path.specs.Paths.{PathParts, IsPath, path_cmp}
+use Rattle.load_path.specs.PathLaws.{path_cmp_total}
+use Rattle.edit_sums.specs.Contents.{content_cmp}
+use Rattle.edit_sums.specs.Entries.{Entry, larger}
+use Rattle.join_law.specs.VersionOrder.{IsUpTo}
+use Rattle.edit_sums.specs.declared.entries.Edit.{Edit}
+use Rattle.edit_sums.specs.Sums.{EntryMap, entry_of, with_edit, sum_of, join, high_of}
+use Rattle.edit_sums.specs.SumLaws.{same_store, with_edit-join}
+use Rattle.edit_sums.specs.GreatestLaws.{get-with_edit, get-sum_of, tied}
+use Rattle.edit_sums.specs.CounterLaws.{high_of-join, high_of-sum_of}
+use Rattle.path_maps.specs.PathMaps.{RankMap, bytes_cmp, NamesBelow, FoldersBelow, RanksBelow, AreNames, AreFolders, AreRanks, flat}
+use Rattle.path_maps.specs.PathMapLaws.{flat-join}
+use Rattle.path_maps.specs.Kept.{IsCounted, IsKept}
+
+pub nothing_is_empty : flat [] ≡ finmap.empty
+nothing_is_empty = finmap.empty_of_len _ (finmap.len-entries _ ∙ ap length (finmap.entries-from_sorted path_cmp [] tt))
+
+none_held : (x : Option Entry) → x ≡ None → IsSome x → ⊥
+none_held x e h = let wrong = subst (λ (y : Option Entry). IsSome y) e h in cc (wrong)
+
+pub nothing_kept : IsKept [] 0 0
+nothing_kept = record {
+  ranks = record { sorted = refl; held = tt };
+  counted = record {
+      paths = λ q h. absurd (none_held _ (ap (λ (s : EntryMap). finmap.get s q) nothing_is_empty ∙ finmap.get-empty path_cmp q) h);
+      counted = sym (ap (λ (s : EntryMap). finmap.len s) nothing_is_empty ∙ finmap.len-empty path_cmp Entry);
+      greatest = sym (ap high_of nothing_is_empty ∙ high_of-sum_of []);
+  };
+}
+
+-- ---- the maps of one edit
+
+abbrev pub one_edit : Edit → RankMap
+one_edit e = (e.path.rank, (e.path.folder, (e.path.name, At (entry_of e)) ∷ []) ∷ []) ∷ []
+
+pub one_ranks : (e : Edit) → AreRanks (one_edit e)
+one_ranks e =
+    let names : AreNames ((e.path.name, At (entry_of e)) ∷ []) = record { sorted = refl; held = (record { not_least = not_least content_cmp (entry_of e); lawful = tt }, tt) } in
+    let names_left = entry_not_least bytes_cmp (IsUpTo content_cmp) nat_list_cmp_total e.path.name (At (entry_of e)) (not_least content_cmp (entry_of e)) in
+    let folders : AreFolders ((e.path.folder, (e.path.name, At (entry_of e)) ∷ []) ∷ []) = record { sorted = refl; held = (record { not_least = names_left; lawful = names }, tt) } in
+    let folders_left = entry_not_least bytes_cmp NamesBelow nat_list_cmp_total e.path.folder ((e.path.name, At (entry_of e)) ∷ []) names_left in
+    record { sorted = refl; held = (record { not_least = folders_left; lawful = folders }, tt) }
+
+pub flat-one : (e : Edit) → flat (one_edit e) ≡ sum_of (e ∷ [])
+flat-one e = same_store (flat (one_edit e)) (sum_of (e ∷ []))
+    (λ q. finmap.get-from_sorted path_cmp ((e.path, entry_of e) ∷ []) q tt ∙ sym (get-sum_of (e ∷ []) q))
+
+-- what joins the maps of one edit, whose path is told by its parts, has one edit more
+pub joined_edit : (m n : RankMap) (s : EntryMap) (e : Edit) (p : PathParts) → p ≡ e.path → flat m ≡ s → AreRanks m → AreRanks n → IsJoin RanksBelow m (one_edit (record e { path = p })) n → flat n ≡ with_edit s e
+joined_edit m n s e p parts is is_m is_n j =
+    let e' : Edit = record e { path = p } in
+    flat-join m (one_edit e') n is_m (one_ranks e') is_n j ∙ ap (join (flat m)) (flat-one e') ∙ sym (with_edit-join (flat m) e')
+    ∙ ap (λ (t : EntryMap). with_edit t e') is ∙ ap (λ (q : PathParts). with_edit s (record e { path = q })) parts
+
+pub counted_edit : (s : EntryMap) (len high len' : ℕ) (e : Edit) → IsPath e.path → IsCounted s len high → len' ≡ cond (finmap.contains_key s e.path) (finmap.len s) (finmap.len s + 1) → IsCounted (with_edit s e) len' (max high e.version.counter)
+counted_edit s len high len' e lawful c is = record {
+  paths = λ q h. path q (larger (Some (entry_of e)) (finmap.get s q)) (eq_by_cmp path_cmp q e.path) refl (subst (λ (x : Option Entry). IsSome x) (get-with_edit s e q) h);
+  counted = is ∙ sym (finmap.len-insert path_cmp_total s e.path _);
+  greatest = (λ i. max (c.greatest i) (one i)) ∙ sym (high_of-join s (sum_of (e ∷ []))) ∙ ap high_of (sym (with_edit-join s e));
+}
+  where
+    one : e.version.counter ≡ high_of (sum_of (e ∷ []))
+    one = let m : max e.version.counter 0 ≡ e.version.counter = omega arith in sym (high_of-sum_of (e ∷ []) ∙ m)
+
+    path : (q : PathParts) (x : Option Entry) (b : Bool) → eq_by_cmp path_cmp q e.path ≡ b → IsSome (cond b x (finmap.get s q)) → IsPath q
+    path q x true t h = subst IsPath (sym (tied q e.path t)) lawful
+    path q x false t h = c.paths q h
+
+pub kept_edit : (m n : RankMap) (s : EntryMap) (len high len' : ℕ) (e : Edit) (p : PathParts) → p ≡ e.path → IsPath e.path → flat m ≡ s → IsKept m len high → AreRanks n → IsJoin RanksBelow m (one_edit (record e { path = p })) n → len' ≡ cond (finmap.contains_key s e.path) (finmap.len s) (finmap.len s + 1) → IsKept n len' (max high e.version.counter)
+kept_edit m n s len high len' e p parts lawful is k is_n j counted = record {
+  ranks = is_n;
+  counted =
+      subst (λ (t : EntryMap). IsCounted t len' (max high e.version.counter)) (sym (joined_edit m n s e p parts is k.ranks is_n j))
+      (counted_edit s len high len' e lawful (subst (λ (t : EntryMap). IsCounted t len high) is k.counted) counted);
+}

@@ -1,0 +1,5 @@
+pub mod Spread
+pub mod SpreadLaws
+pub mod PathMaps
+pub mod PathMapLaws
+pub mod Kept

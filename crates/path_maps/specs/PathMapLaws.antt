@@ -1,0 +1,242 @@
+-- What the map from paths to entries holds, and what joins of maps of maps are in it.
+use Rattle.std.specs.Prelude.{◌≡◌, ℕ, List, [], ◌∷◌, Option, Some, None, Bool, true, false, cond, refl, IsTrue, ◌↔◌}
+use Rattle.std.specs.Option.{option_and_then}
+use Rattle.std.specs.Ordering.{nat_cmp, ordering_then, eq_by_cmp, is_eq}
+use Rattle.std.specs.Cmp.{nat_cmp_total, tied_itself, IsTotalOrder}
+use Rattle.std.specs.Cmp.Lexicographic.{slice_cmp, nat_list_cmp_total}
+use Rattle.std.specs.FinMap as finmap
+use Rattle.std.specs.FinMap.{slice_cmp-IsAntisymmetric, nat_cmp-IsAntisymmetric}
+use Rattle.std.specs.FinMap.Entries.{find, is_sorted}
+use Rattle.std.proofs.Common.{ap, sym, subst, ◌∙◌}
+use Rattle.std.specs.declared.cmp.Ordering.{Ordering}
+use Rattle.std.specs.declared.cmp.Ordering.TheVariants.{Less, Equal}
+use Rattle.list_laws.specs.Truths.{to_T}
+use Rattle.list_laws.specs.Orderings.{is_equal}
+use Rattle.join_law.specs.declared.versions.Versioned.{Versioned}
+use Rattle.join_law.specs.declared.versions.Versioned.TheVariants.{Never, At}
+use Rattle.join_law.specs.VersionOrder.{IsUpTo, written, written_at, versioned_max}
+use Rattle.join_law.specs.VersionedLaws.{up_to_itself, up_to_chain, max_joins}
+use Rattle.join_law.specs.Order.{IsJoin, IsBetween}
+use Rattle.join_law.specs.Maps.{IsMap, MapBelow, AllHeld, IsHeld, or_empty, map_union}
+use Rattle.join_law.specs.MapLaws.{map_itself, map_chain}
+use Rattle.join_law.specs.UnionLaws.{union_joins}
+use Rattle.join_law.specs.LevelLaws.{level_below, level_join, level_between, level_bounds}
+use Rattle.join_law.specs.LeafLaws.{leaf_below, leaf_join, leaf_between, leaf_bounds}
+use Rattle.load_path.specs.Paths.{PathParts, path_cmp}
+use Rattle.load_path.specs.PathLaws.{path_cmp-IsAntisymmetric}
+use Rattle.edit_sums.specs.declared.contents.Content.{Content}
+use Rattle.edit_sums.specs.Contents.{content_cmp}
+use Rattle.edit_sums.specs.ContentLaws.{content_cmp_total, content_cmp-IsAntisymmetric}
+use Rattle.edit_sums.specs.Entries.{Entry, IsBelow, larger}
+use Rattle.edit_sums.specs.Sums.{EntryMap, IsStoreBelow, join}
+use Rattle.edit_sums.specs.SumLaws.{same_store}
+use Rattle.edit_sums.specs.GreatestLaws.{get-join}
+use Rattle.path_maps.specs.Spread.{spread, AllKeys, AllValues}
+use Rattle.path_maps.specs.SpreadLaws.{find-spread, sorted-spread, all_keys-append, all_keys_weaker}
+use Rattle.path_maps.specs.PathMaps.{NameMap, FolderMap, RankMap, bytes_cmp, NamesBelow, FoldersBelow, RanksBelow, AreNames, AreFolders, AreRanks, look_up, at_name, in_folder, in_rank, listed, flat}
+
+bytes_same : (x y : List ℕ) → bytes_cmp x y ≡ Equal → x ≡ y
+bytes_same = slice_cmp-IsAntisymmetric nat_cmp-IsAntisymmetric
+
+-- ---- which paths the parts have
+
+all_keys-spread : {K V A E : Type 0} (P : A → Type 0) (part : K → V → List (A × E)) (h : (k : K) (v : V) → AllKeys P (part k v)) (es : List (K × V)) → AllKeys P (spread part es)
+all_keys-spread P part h [] = tt
+all_keys-spread P part h (e ∷ es) = all_keys-append P (part e.0 e.1) (spread part es) (h e.0 e.1) (all_keys-spread P part h es)
+
+abbrev IsAtName : ℕ → List ℕ → List ℕ → PathParts → Type 0
+IsAtName rank folder name q = q ≡ record { rank = rank; folder = folder; name = name }
+
+abbrev IsInFolder : ℕ → List ℕ → PathParts → Type 0
+IsInFolder rank folder q = (q.rank ≡ rank) × (q.folder ≡ folder)
+
+abbrev IsInRank : ℕ → PathParts → Type 0
+IsInRank rank q = q.rank ≡ rank
+
+of_name : (rank : ℕ) (folder name : List ℕ) (v : Versioned Content) → AllKeys (IsAtName rank folder name) (at_name rank folder name v)
+of_name rank folder name Never = tt
+of_name rank folder name (At x) = (refl, tt)
+
+of_folder : (rank : ℕ) (folder : List ℕ) (names : NameMap) → AllKeys (IsInFolder rank folder) (in_folder rank folder names)
+of_folder rank folder names =
+    all_keys-spread (IsInFolder rank folder) (at_name rank folder)
+    (λ k v. all_keys_weaker (IsAtName rank folder k) (IsInFolder rank folder) (λ q is. (ap (λ (p : PathParts). p.rank) is, ap (λ (p : PathParts). p.folder) is)) (at_name rank folder k v) (of_name rank folder k v))
+    names
+
+of_rank : (rank : ℕ) (folders : FolderMap) → AllKeys (IsInRank rank) (in_rank rank folders)
+of_rank rank folders =
+    all_keys-spread (IsInRank rank) (in_folder rank)
+    (λ k v. all_keys_weaker (IsInFolder rank k) (IsInRank rank) (λ q is. is.0) (in_folder rank k v) (of_folder rank k v)) folders
+
+-- ---- they rise
+
+one_sorted : (rank : ℕ) (folder name : List ℕ) (v : Versioned Content) → Unit {0} → IsTrue (is_sorted path_cmp (at_name rank folder name v))
+one_sorted rank folder name Never h = refl
+one_sorted rank folder name (At x) h = refl
+
+by_name : (rank : ℕ) (folder : List ℕ) (k l : List ℕ) (a b : PathParts) → bytes_cmp k l ≡ Less → IsAtName rank folder k a → IsAtName rank folder l b → path_cmp a b ≡ Less
+by_name rank folder k l a b less p q =
+    (λ i. path_cmp (p i) (q i))
+    ∙ ap (λ r. ordering_then r (ordering_then (bytes_cmp folder folder) (bytes_cmp k l))) (tied_itself nat_cmp_total rank)
+    ∙ ap (λ r. ordering_then r (bytes_cmp k l)) (tied_itself nat_list_cmp_total folder) ∙ less
+
+by_folder : (rank : ℕ) (k l : List ℕ) (a b : PathParts) → bytes_cmp k l ≡ Less → IsInFolder rank k a → IsInFolder rank l b → path_cmp a b ≡ Less
+by_folder rank k l a b less p q =
+    (λ i. ordering_then (nat_cmp (p.0 i) (q.0 i)) (ordering_then (bytes_cmp (p.1 i) (q.1 i)) (bytes_cmp a.name b.name)))
+    ∙ ap (λ r. ordering_then r (ordering_then (bytes_cmp k l) (bytes_cmp a.name b.name))) (tied_itself nat_cmp_total rank)
+    ∙ ap (λ r. ordering_then r (bytes_cmp a.name b.name)) less
+
+by_rank : (k l : ℕ) (a b : PathParts) → nat_cmp k l ≡ Less → IsInRank k a → IsInRank l b → path_cmp a b ≡ Less
+by_rank k l a b less p q =
+    (λ i. ordering_then (nat_cmp (p i) (q i)) (ordering_then (bytes_cmp a.folder b.folder) (bytes_cmp a.name b.name)))
+    ∙ ap (λ r. ordering_then r (ordering_then (bytes_cmp a.folder b.folder) (bytes_cmp a.name b.name))) less
+
+all_lawful : {K V : Type 0} (below : V → V → Type 0) (valid : V → Type 0) (es : List (K × V)) → AllHeld below valid es → AllValues valid es
+all_lawful below valid [] h = tt
+all_lawful below valid (e ∷ es) h = (h.0.lawful, all_lawful below valid es h.1)
+
+names_sorted : (rank : ℕ) (folder : List ℕ) (names : NameMap) → AreNames names → IsTrue (is_sorted path_cmp (in_folder rank folder names))
+names_sorted rank folder names m =
+    sorted-spread bytes_cmp path_cmp (IsAtName rank folder) (at_name rank folder) (of_name rank folder) (λ _. Unit {0}) (by_name rank folder) (one_sorted rank folder) names m.sorted
+    (all_lawful (IsUpTo content_cmp) (λ _. Unit {0}) names m.held)
+
+folders_sorted : (rank : ℕ) (folders : FolderMap) → AreFolders folders → IsTrue (is_sorted path_cmp (in_rank rank folders))
+folders_sorted rank folders m =
+    sorted-spread bytes_cmp path_cmp (IsInFolder rank) (in_folder rank) (of_folder rank) AreNames (by_folder rank) (names_sorted rank) folders m.sorted
+    (all_lawful NamesBelow AreNames folders m.held)
+
+pub listed_sorted : (m : RankMap) → AreRanks m → IsTrue (is_sorted path_cmp (listed m))
+listed_sorted m is =
+    sorted-spread nat_cmp path_cmp IsInRank in_rank of_rank AreFolders by_rank folders_sorted m is.sorted (all_lawful FoldersBelow AreFolders m is.held)
+
+-- the entries of the map in path order
+pub entries-flat : (m : RankMap) → AreRanks m → finmap.entries (flat m) ≡ listed m
+entries-flat m is = finmap.entries-from_sorted path_cmp (listed m) (to_T _ (listed_sorted m is))
+
+-- ---- what is found there
+
+found_lawful : {K V : Type 0} (R : K → K → Ordering) (below : V → V → Type 0) (valid : V → Type 0) (k : K) (es : List (K × V)) → AllHeld below valid es → (v : V) → find R k es ≡ Some v → valid v
+found_lawful R below valid k [] h v e = cc (e)
+found_lawful R below valid k (x ∷ es) h v e =
+    elim (eq_by_cmp R k x.0) as (λ b. cond b (Some x.1) (find R k es) ≡ Some v → valid v) [
+      | true ↦ λ e. subst valid (some_one e) h.0.lawful
+      | false ↦ λ e. found_lawful R below valid k es h.1 v e
+    ] e
+  where
+    some_one : {A : Type 0} {x y : A} → Some x ≡ Some y → x ≡ y
+    some_one e = cc
+
+same_path : (q : PathParts) → eq_by_cmp path_cmp q q ≡ true
+same_path q =
+    ap is_eq
+    (ap (λ r. ordering_then r (ordering_then (bytes_cmp q.folder q.folder) (bytes_cmp q.name q.name))) (tied_itself nat_cmp_total q.rank)
+    ∙ ap (λ r. ordering_then r (bytes_cmp q.name q.name)) (tied_itself nat_list_cmp_total q.folder) ∙ tied_itself nat_list_cmp_total q.name)
+
+find-at_name : (q : PathParts) (v : Versioned Content) → find path_cmp q (at_name q.rank q.folder q.name v) ≡ written v
+find-at_name q Never = refl
+find-at_name q (At x) = ap (λ b. cond b (Some x) None) (same_path q)
+
+find-in_folder : (q : PathParts) (names : NameMap) → IsTrue (is_sorted bytes_cmp names) → find path_cmp q (in_folder q.rank q.folder names) ≡ written_at (find bytes_cmp q.name names)
+find-in_folder q names s =
+    find-spread bytes_cmp path_cmp (IsAtName q.rank q.folder) (at_name q.rank q.folder) (of_name q.rank q.folder) nat_list_cmp_total bytes_same path_cmp-IsAntisymmetric q q.name (λ l is. ap (λ (p : PathParts). p.name) (sym is)) names s
+    ∙ by (find bytes_cmp q.name names)
+  where
+    by : (x : Option (Versioned Content)) → option_and_then (λ v. find path_cmp q (at_name q.rank q.folder q.name v)) x ≡ written_at x
+    by None = refl
+    by (Some v) = find-at_name q v
+
+find-in_rank : (q : PathParts) (folders : FolderMap) → AreFolders folders → find path_cmp q (in_rank q.rank folders) ≡ written_at (find bytes_cmp q.name (or_empty (find bytes_cmp q.folder folders)))
+find-in_rank q folders m =
+    find-spread bytes_cmp path_cmp (IsInFolder q.rank) (in_folder q.rank) (of_folder q.rank) nat_list_cmp_total bytes_same path_cmp-IsAntisymmetric q q.folder (λ l is. sym is.1) folders m.sorted
+    ∙ by (find bytes_cmp q.folder folders) refl
+  where
+    by : (x : Option NameMap) → find bytes_cmp q.folder folders ≡ x → option_and_then (λ v. find path_cmp q (in_folder q.rank q.folder v)) x ≡ written_at (find bytes_cmp q.name (or_empty x))
+    by None e = refl
+    by (Some names) e = find-in_folder q names (found_lawful bytes_cmp NamesBelow AreNames q.folder folders m.held names e).sorted
+
+find-listed : (m : RankMap) → AreRanks m → (q : PathParts) → find path_cmp q (listed m) ≡ look_up m q
+find-listed m is q =
+    find-spread nat_cmp path_cmp IsInRank in_rank of_rank nat_cmp_total nat_cmp-IsAntisymmetric path_cmp-IsAntisymmetric q q.rank (λ l at. sym at) m is.sorted
+    ∙ by (find nat_cmp q.rank m) refl
+  where
+    by : (x : Option FolderMap) → find nat_cmp q.rank m ≡ x → option_and_then (λ v. find path_cmp q (in_rank q.rank v)) x ≡ written_at (find bytes_cmp q.name (or_empty (find bytes_cmp q.folder (or_empty x))))
+    by None e = refl
+    by (Some folders) e = find-in_rank q folders (found_lawful nat_cmp FoldersBelow AreFolders q.rank m is.held folders e)
+
+-- the map holds at a path what three look-ups find
+pub get-flat : (m : RankMap) → AreRanks m → (q : PathParts) → finmap.get (flat m) q ≡ look_up m q
+get-flat m is q = finmap.get-from_sorted path_cmp (listed m) q (to_T _ (listed_sorted m is)) ∙ find-listed m is q
+
+-- ---- joins, and what lies between
+
+leaf_itself : (x : Versioned Content) → IsUpTo content_cmp x x
+leaf_itself = up_to_itself content_cmp content_cmp_total
+
+leaf_chain : (x y z : Versioned Content) → IsUpTo content_cmp x y → IsUpTo content_cmp y z → IsUpTo content_cmp x z
+leaf_chain = up_to_chain content_cmp content_cmp_total
+
+names_itself : (x : NameMap) → NamesBelow x x
+names_itself = map_itself (IsUpTo content_cmp) leaf_itself leaf_chain bytes_cmp
+
+names_chain : (x y z : NameMap) → NamesBelow x y → NamesBelow y z → NamesBelow x z
+names_chain = map_chain (IsUpTo content_cmp) leaf_itself leaf_chain bytes_cmp
+
+abbrev leaf_union : Versioned Content → Versioned Content → Versioned Content
+leaf_union = versioned_max content_cmp
+
+leaf_joins : (x y : Versioned Content) → IsJoin (IsUpTo content_cmp) x y (leaf_union x y)
+leaf_joins = max_joins content_cmp content_cmp_total
+
+abbrev names_union : NameMap → NameMap → NameMap
+names_union = map_union bytes_cmp leaf_union
+
+names_joins : (x y : NameMap) → IsJoin NamesBelow x y (names_union x y)
+names_joins = union_joins bytes_cmp nat_list_cmp_total (IsUpTo content_cmp) leaf_union leaf_joins
+
+-- what the first of two maps that are below each other has at a path is at most what the second has
+look_up_below : (a b : RankMap) → RanksBelow a b → (q : PathParts) → IsBelow (look_up a q) (look_up b q)
+look_up_below a b h q =
+    leaf_below content_cmp content_cmp_total content_cmp-IsAntisymmetric bytes_cmp nat_list_cmp_total q.name _ _
+    (level_below bytes_cmp nat_list_cmp_total bytes_cmp nat_list_cmp_total (IsUpTo content_cmp) leaf_itself leaf_chain q.folder _ _
+    (level_below nat_cmp nat_cmp_total bytes_cmp nat_list_cmp_total NamesBelow names_itself names_chain q.rank a b h))
+
+look_up_join : (a b c : RankMap) → IsJoin RanksBelow a b c → (q : PathParts) → look_up c q ≡ larger (look_up a q) (look_up b q)
+look_up_join a b c j q =
+    leaf_join content_cmp content_cmp_total content_cmp-IsAntisymmetric bytes_cmp nat_list_cmp_total q.name _ _ _
+    (level_join bytes_cmp nat_list_cmp_total bytes_cmp nat_list_cmp_total (IsUpTo content_cmp) leaf_itself leaf_chain q.folder _ _ _
+    (level_join nat_cmp nat_cmp_total bytes_cmp nat_list_cmp_total NamesBelow names_itself names_chain q.rank a b c j))
+
+look_up_between : (a b v : RankMap) → IsBetween RanksBelow a b v → (q : PathParts) → IsBelow (look_up v q) (larger (look_up a q) (look_up b q))
+look_up_between a b v j q =
+    leaf_between content_cmp content_cmp_total content_cmp-IsAntisymmetric bytes_cmp nat_list_cmp_total q.name _ _ _
+    (level_between bytes_cmp nat_list_cmp_total bytes_cmp nat_list_cmp_total (IsUpTo content_cmp) leaf_itself leaf_chain q.folder leaf_union leaf_joins _ _ _
+    (level_between nat_cmp nat_cmp_total bytes_cmp nat_list_cmp_total NamesBelow names_itself names_chain q.rank names_union names_joins a b v j))
+
+look_up_bounds : (a b v r : RankMap) → ((z : RankMap) → (RanksBelow v z × RanksBelow r z) ↔ (RanksBelow a z × RanksBelow b z)) → (q : PathParts) → larger (look_up v q) (look_up r q) ≡ larger (look_up a q) (look_up b q)
+look_up_bounds a b v r h q =
+    leaf_bounds content_cmp content_cmp_total content_cmp-IsAntisymmetric bytes_cmp nat_list_cmp_total q.name _ _ _ _
+    (level_bounds bytes_cmp nat_list_cmp_total bytes_cmp nat_list_cmp_total (IsUpTo content_cmp) leaf_itself leaf_chain q.folder leaf_union leaf_joins _ _ _ _
+    (level_bounds nat_cmp nat_cmp_total bytes_cmp nat_list_cmp_total NamesBelow names_itself names_chain q.rank names_union names_joins a b v r h))
+
+module _ (a b v : RankMap) (is_a : AreRanks a) (is_b : AreRanks b) (is_v : AreRanks v) where
+  -- a join of maps of maps is the join of the maps
+  pub flat-join : IsJoin RanksBelow a b v → flat v ≡ join (flat a) (flat b)
+  flat-join j = same_store (flat v) (join (flat a) (flat b))
+      (λ q. get-flat v is_v q ∙ look_up_join a b v j q ∙ (λ i. larger (sym (get-flat a is_a q) i) (sym (get-flat b is_b q) i)) ∙ sym (get-join (flat a) (flat b) q))
+
+  -- what lies between, lies between
+  pub flat-below : RanksBelow a v → IsStoreBelow (flat a) (flat v)
+  flat-below h q =
+      subst (λ x. IsBelow x (finmap.get (flat v) q)) (sym (get-flat a is_a q))
+      (subst (λ y. IsBelow (look_up a q) y) (sym (get-flat v is_v q)) (look_up_below a v h q))
+
+  pub flat-between : IsBetween RanksBelow a b v → IsStoreBelow (flat v) (join (flat a) (flat b))
+  flat-between j q =
+      subst (λ x. IsBelow x (finmap.get (join (flat a) (flat b)) q)) (sym (get-flat v is_v q))
+      (subst (λ y. IsBelow (look_up v q) y) ((λ i. larger (sym (get-flat a is_a q) i) (sym (get-flat b is_b q) i)) ∙ sym (get-join (flat a) (flat b) q)) (look_up_between a b v j q))
+
+  -- and what is left gives the join
+  pub flat-rest : (r : RankMap) → AreRanks r → ((z : RankMap) → (RanksBelow v z × RanksBelow r z) ↔ (RanksBelow a z × RanksBelow b z)) → join (flat v) (flat r) ≡ join (flat a) (flat b)
+  flat-rest r is_r h = same_store (join (flat v) (flat r)) (join (flat a) (flat b))
+      (λ q. get-join (flat v) (flat r) q ∙ (λ i. larger (get-flat v is_v q i) (get-flat r is_r q i)) ∙ look_up_bounds a b v r h q
+      ∙ (λ i. larger (sym (get-flat a is_a q) i) (sym (get-flat b is_b q) i)) ∙ sym (get-join (flat a) (flat b) q))

@@ -1,0 +1,73 @@
+-- Contents with versions by rank, folder and name, and the one map from paths to entries that they are.
+-- Source (maps of joins are joins): Shapiro, Preguica, Baquero, Zawirski 2011; the rest is this project's own.
+use Rattle.std.specs.Prelude.{ℕ, List, [], ◌∷◌, Option}
+use Rattle.std.specs.Ordering.{nat_cmp}
+use Rattle.std.specs.Cmp.Lexicographic.{slice_cmp}
+use Rattle.std.specs.declared.cmp.Ordering.{Ordering}
+use Rattle.std.specs.FinMap as finmap
+use Rattle.std.specs.FinMap.{find}
+use Rattle.join_law.specs.declared.versions.Versioned.{Versioned}
+use Rattle.join_law.specs.declared.versions.Versioned.TheVariants.{Never, At}
+use Rattle.join_law.specs.VersionOrder.{IsUpTo, written_at}
+use Rattle.join_law.specs.Maps.{IsMap, MapBelow, or_empty}
+use Rattle.load_path.specs.Paths.{PathParts}
+use Rattle.edit_sums.specs.declared.contents.Content.{Content}
+use Rattle.edit_sums.specs.Contents.{content_cmp}
+use Rattle.edit_sums.specs.Entries.{Entry}
+use Rattle.edit_sums.specs.Sums.{EntryMap}
+use Rattle.path_maps.specs.Spread.{spread}
+
+-- by name, of one folder; by folder, of one rank; by rank
+abbrev pub NameMap : Type 0
+NameMap = List (List ℕ × Versioned Content)
+
+abbrev pub FolderMap : Type 0
+FolderMap = List (List ℕ × NameMap)
+
+abbrev pub RankMap : Type 0
+RankMap = List (ℕ × FolderMap)
+
+abbrev pub bytes_cmp : List ℕ → List ℕ → Ordering
+bytes_cmp = slice_cmp nat_cmp
+
+-- y has all that x has, name by name, folder by folder, rank by rank
+abbrev pub NamesBelow : NameMap → NameMap → Type 0
+NamesBelow = MapBelow bytes_cmp (IsUpTo content_cmp)
+
+abbrev pub FoldersBelow : FolderMap → FolderMap → Type 0
+FoldersBelow = MapBelow bytes_cmp NamesBelow
+
+abbrev pub RanksBelow : RankMap → RankMap → Type 0
+RanksBelow = MapBelow nat_cmp FoldersBelow
+
+-- at each depth the keys rise, and nothing is held that says nothing
+abbrev pub AreNames : NameMap → Type 0
+AreNames = IsMap bytes_cmp (IsUpTo content_cmp) (λ _. Unit {0})
+
+abbrev pub AreFolders : FolderMap → Type 0
+AreFolders = IsMap bytes_cmp NamesBelow AreNames
+
+abbrev pub AreRanks : RankMap → Type 0
+AreRanks = IsMap nat_cmp FoldersBelow AreFolders
+
+-- what is written at a path: three look-ups
+abbrev pub look_up : RankMap → PathParts → Option Entry
+look_up m q = written_at (find bytes_cmp q.name (or_empty (find bytes_cmp q.folder (or_empty (find nat_cmp q.rank m)))))
+
+-- each entry with its path: of one name, one folder, one rank, and all
+abbrev pub at_name : ℕ → List ℕ → List ℕ → Versioned Content → List (PathParts × Entry)
+at_name rank folder name Never = []
+at_name rank folder name (At x) = (record { rank = rank; folder = folder; name = name }, x) ∷ []
+
+abbrev pub in_folder : ℕ → List ℕ → NameMap → List (PathParts × Entry)
+in_folder rank folder = spread (at_name rank folder)
+
+abbrev pub in_rank : ℕ → FolderMap → List (PathParts × Entry)
+in_rank rank = spread (in_folder rank)
+
+abbrev pub listed : RankMap → List (PathParts × Entry)
+listed = spread in_rank
+
+-- the map from paths to entries
+abbrev pub flat : RankMap → EntryMap
+flat m = finmap.from_sorted (listed m)

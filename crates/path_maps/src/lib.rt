@@ -1,0 +1,9 @@
+//! The entries of a node by path: maps of maps of contents with versions, by rank, folder and name, which contracts see
+//! as one map from paths to entries.
+#![tactic(auto)]
+
+mod entries;
+mod stores;
+
+pub use entries::Placed;
+pub use stores::{FolderMap, NameMap, RankMap, Store};

@@ -1,0 +1,144 @@
+//! Stores.
+ghost use Rattle.std.specs.Prelude.{◌≡◌, ◌↔◌, ◌+◌, IsTrue, IsSome, IsOk, IfOk, OnOk, OnErr, IfErr, if◌then◌else◌};
+ghost use Rattle.std.specs.Option.{option_copied};
+ghost use Rattle.std.specs.FinMap as finmap;
+ghost use Rattle.edit_sums.specs.Sums.{high_of, join, with_edit, IsStoreBelow};
+
+use byte_strings::Bytes;
+use edit_sums::{Content, Edit, Entry};
+use join_law::{Join, JoinMap, Versioned};
+use load_path::Path;
+use std::alloc::{AllocError, Global};
+use std::marker::Model;
+
+/// The contents of one folder by name.
+pub type NameMap = JoinMap<Bytes, Versioned<Content>>;
+
+/// The contents of one directory by folder and name; the empty folder has the paths of one component.
+pub type FolderMap = JoinMap<Bytes, NameMap>;
+
+/// The contents of all directories by rank, folder and name.
+pub type RankMap = JoinMap<u8, FolderMap>;
+
+/// The entries of a node by path, removals included.
+///
+/// A removal is an entry that stays, so an old edit cannot bring back what was removed.
+#[derive(Debug, Drop)]
+pub struct Store {
+    ranks: RankMap,
+    // How many paths are held.
+    len: usize,
+    // The greatest counter among the entries.
+    high: u64,
+}
+
+impl Model for Store {
+    ghost use Rattle.std.specs.FinMap as finmap;
+    ghost use Rattle.load_path.specs.Paths.{path_cmp};
+    ghost use Rattle.load_path.specs.PathLaws.{coded_path};
+    ghost use Rattle.edit_sums.specs.Entries.{Entry};
+    ghost use Rattle.edit_sums.specs.EntryCodes.{coded_entry};
+    ghost use Rattle.path_maps.specs.PathMaps.{flat};
+    ghost use Rattle.path_maps.specs.Kept.{IsKept};
+
+    ghost Value = { finmap.FinMap path_cmp Entry };
+
+    ghost coded = { finmap.code coded_path coded_entry };
+
+    ghost view = { λ s. flat s.ranks };
+
+    ghost invariant = { λ s. IsKept s.ranks s.len s.high };
+}
+
+impl Store {
+    /// A store that holds nothing. It takes no memory.
+    pub fn new(alloc: Global) -> Store
+        ensures empty { result ≡ finmap.empty }
+    {
+        Store {
+            ranks: JoinMap::new(alloc),
+            len: 0,
+            high: 0,
+        }
+    }
+
+    /// The allocator that the store takes its memory from.
+    pub fn allocator(&self) -> Global {
+        self.ranks.allocator()
+    }
+
+    /// How many paths are held, those of removals too. O(1), without memory.
+    pub fn len(&self) -> usize
+        ensures len { result ≡ finmap.len self.now }
+    {
+        self.len
+    }
+
+    /// The greatest counter held, 0 where nothing is. O(1), without memory.
+    pub fn high(&self) -> u64
+        ensures high { result ≡ high_of self.now }
+    {
+        self.high
+    }
+
+    /// What is held at a path, a removal too. O(log n), without memory.
+    pub fn get(&self, path: &Path) -> Option<&Entry>
+        ensures held { option_copied result ≡ finmap.get self.now path.now }
+    {
+        let (rank, folder, name) = path.parts();
+        let folders = self.ranks.get(&rank)?;
+        let names = folders.get(folder)?;
+        names.get(name)?.entry()
+    }
+
+    /// Whether both hold the same. Linear, without memory.
+    pub fn same(&self, other: &Store) -> bool
+        ensures same { IsTrue result ↔ (self.now ≡ other.now) }
+    {
+        self.ranks.same(&other.ranks)
+    }
+
+    /// An equal store. It fails for want of memory alone.
+    pub fn try_clone(&self) -> Result<Store, AllocError>
+        ensures copy { IfOk result (λ copy. copy ≡ self.now) }
+    {
+        Ok(Store {
+            ranks: self.ranks.try_clone()?,
+            len: self.len,
+            high: self.high,
+        })
+    }
+
+    /// Joins one edit. A search and at most one shift of entries in each of three maps. Where memory is refused,
+    /// nothing has changed; at a path that is held it takes none.
+    pub fn join_edit(&mut self, edit: Edit) -> Result<(), AllocError>
+        ensures ok { OnOk result (self.new ≡ with_edit self.old edit) }
+        ensures err { OnErr result (self.new ≡ self.old) }
+        ensures held { IsSome (finmap.get self.old edit.path) → IsOk result }
+    {
+        let Edit {
+            path,
+            version,
+            content,
+        } = edit;
+        let len = self.len_with(&path)?;
+        let (rank, folder, name) = path.into_parts();
+        let value = Versioned::At(Entry { version, content });
+        self.ranks.join_deep(rank, folder, name, value)?;
+        self.len = len;
+        self.high = self.high.max(version.counter);
+        Ok(())
+    }
+
+    // How many paths are held with this one. Over the greatest number, it is want of memory.
+    fn len_with(&self, path: &Path) -> Result<usize, AllocError>
+        ensures len { IfOk result (λ len. len ≡ if finmap.contains_key self.now path.now
+            then finmap.len self.now else finmap.len self.now + 1) }
+        ensures held { IsSome (finmap.get self.now path.now) → IsOk result }
+    {
+        match self.get(path) {
+            Some(_) => Ok(self.len),
+            None => self.len.checked_add(1).ok_or(AllocError),
+        }
+    }
+}
