@@ -1,3 +1,5 @@
 pub mod LookUps
 pub mod Edits
 pub mod Sames
+pub mod Cursors
+pub mod Listed

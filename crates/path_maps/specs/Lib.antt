@@ -3,3 +3,4 @@ pub mod SpreadLaws
 pub mod PathMaps
 pub mod PathMapLaws
 pub mod Kept
+pub mod Cursors

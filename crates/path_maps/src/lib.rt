@@ -5,5 +5,5 @@
 mod entries;
 mod stores;
 
-pub use entries::Placed;
+pub use entries::{Entries, Placed};
 pub use stores::{FolderMap, NameMap, RankMap, Store};

@@ -4,6 +4,7 @@ ghost use Rattle.std.specs.Option.{option_copied};
 ghost use Rattle.std.specs.FinMap as finmap;
 ghost use Rattle.edit_sums.specs.Sums.{high_of, join, with_edit, IsStoreBelow};
 
+use crate::entries::Entries;
 use byte_strings::Bytes;
 use edit_sums::{Content, Edit, Entry};
 use join_law::{Join, JoinMap, Versioned};
@@ -89,6 +90,13 @@ impl Store {
         let folders = self.ranks.get(&rank)?;
         let names = folders.get(folder)?;
         names.get(name)?.entry()
+    }
+
+    /// All entries with their paths, one after another in path order, those of removals too.
+    pub fn entries(&self) -> Entries<'_>
+        ensures entries { result ≡ finmap.entries self.now }
+    {
+        Entries::of_ranks(&self.ranks)
     }
 
     /// Whether both hold the same. Linear, without memory.
