@@ -4,3 +4,4 @@ pub mod PathMaps
 pub mod PathMapLaws
 pub mod Kept
 pub mod Cursors
+pub mod Changes
