@@ -3,4 +3,4 @@ pub mod Edits
 pub mod Sames
 pub mod Cursors
 pub mod Listed
-pub mod Changes
+pub mod Rises

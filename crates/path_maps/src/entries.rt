@@ -42,6 +42,13 @@ impl<'a> Placed<'a> {
         Ok(Path::from_parts(self.rank, folder, self.name.try_clone()?))
     }
 
+    /// The parts of its path: rank, folder and name. It takes no memory.
+    pub fn parts(&self) -> (u8, &'a Bytes, &'a Bytes)
+        ensures parts { record { rank = result.0; folder = result.1.now; name = result.2.now } ≡ self.now.0 }
+    {
+        (self.rank, self.folder, self.name)
+    }
+
     /// The entry. It takes no memory.
     pub fn entry(&self) -> &'a Entry
         ensures entry { result.now ≡ self.now.1 }

@@ -2,6 +2,7 @@
 //! as one map from paths to entries.
 #![tactic(auto)]
 
+mod changes;
 mod entries;
 mod stores;
 

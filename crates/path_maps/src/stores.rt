@@ -1,5 +1,5 @@
 //! Stores.
-ghost use Rattle.std.specs.Prelude.{◌≡◌, ◌↔◌, ◌+◌, IsTrue, IsSome, IsOk, IfOk, OnOk, OnErr, IfErr, if◌then◌else◌};
+ghost use Rattle.std.specs.Prelude.{◌≡◌, ◌≤◌, ◌↔◌, ◌+◌, IsTrue, IsSome, IsOk, IfOk, OnOk, OnErr, IfErr, if◌then◌else◌};
 ghost use Rattle.std.specs.Option.{option_copied};
 ghost use Rattle.std.specs.FinMap as finmap;
 ghost use Rattle.edit_sums.specs.Sums.{high_of, join, with_edit, IsStoreBelow};
@@ -71,6 +71,7 @@ impl Store {
     /// How many paths are held, those of removals too. O(1), without memory.
     pub fn len(&self) -> usize
         ensures len { result ≡ finmap.len self.now }
+        ensures within { finmap.len self.now ≤ u64.MAX }
     {
         self.len
     }
@@ -87,6 +88,14 @@ impl Store {
         ensures held { option_copied result ≡ finmap.get self.now path.now }
     {
         let (rank, folder, name) = path.parts();
+        self.entry_at(rank, folder, name)
+    }
+
+    /// What is held at the path of these parts. O(log n), without memory.
+    pub fn entry_at(&self, rank: u8, folder: &Bytes, name: &Bytes) -> Option<&Entry>
+        ensures held { option_copied result ≡ finmap.get self.now (record
+            { rank = rank; folder = folder.now; name = name.now }) }
+    {
         let folders = self.ranks.get(&rank)?;
         let names = folders.get(folder)?;
         names.get(name)?.entry()

@@ -164,3 +164,21 @@ module _ (s : EntryMap) where
     -- and has as many more as there was nothing at
     pub len-join : finmap.len (join s t) ≡ additions s (finmap.entries t) + finmap.len s
     len-join = ap (λ (x : EntryMap). finmap.len x) (sym all_joined) ∙ held_by (finmap.entries t) (from_T _ (finmap.entries_sorted t))
+
+-- ---- counts that can't run over
+
+module _ (s : EntryMap) (n : ℕ) (p : PathParts × Entry) (rest all : List (PathParts × Entry)) where
+  pub room_changed : is_rise (finmap.get s p.0) p.1 ≡ true → n + rises s (p ∷ rest) ≡ rises s all → n + 1 ≤ length all
+  room_changed h e =
+      let one = count_cons (λ (x : PathParts × Entry). is_rise (finmap.get s x.0) x.1) p rest ∙ ap (λ b. cond b 1 0 + rises s rest) h in
+      let most = count_by-le-length (λ (x : PathParts × Entry). is_rise (finmap.get s x.0) x.1) all in
+      omega (arith, one, e, most)
+
+  pub room_added : finmap.get s p.0 ≡ None → n + additions s (p ∷ rest) ≡ additions s all → n + 1 ≤ length all
+  room_added h e =
+      let one = count_cons (λ (x : PathParts × Entry). not (is_some (finmap.get s x.0))) p rest ∙ ap (λ (y : Option Entry). cond (not (is_some y)) 1 0 + additions s rest) h in
+      let most = count_by-le-length (λ (x : PathParts × Entry). not (is_some (finmap.get s x.0))) all in
+      omega (arith, one, e, most)
+
+pub rise_none : (x : Option Entry) (y : Entry) → x ≡ None → is_rise x y ≡ true
+rise_none x y h = ap (λ (z : Option Entry). is_rise z y) h
