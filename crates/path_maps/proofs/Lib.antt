@@ -4,3 +4,4 @@ pub mod Sames
 pub mod Cursors
 pub mod Listed
 pub mod Rises
+pub mod Sizes

@@ -67,7 +67,7 @@ written_other (Some x) y = by (entry_cmp y x) refl
         let turned = entry_cmp_total.antisymm x y ∙ ap ordering_reverse e in
         ap (λ r. not (is_eq r)) turned ∙ sym (ap is_lt turned)
 
-found_entry : (m : EntryMap) (q : PathParts) → finmap.get m q ≡ find path_cmp q (finmap.entries m)
+pub found_entry : (m : EntryMap) (q : PathParts) → finmap.get m q ≡ find path_cmp q (finmap.entries m)
 found_entry m q =
     ap (λ (x : EntryMap). finmap.get x q) (sym (finmap.same_entries_map _ m (finmap.entries-from_sorted path_cmp (finmap.entries m) (finmap.entries_sorted m))))
     ∙ finmap.get-from_sorted path_cmp (finmap.entries m) q (finmap.entries_sorted m)

@@ -3,6 +3,7 @@
 #![tactic(auto)]
 
 mod changes;
+mod counts;
 mod entries;
 mod stores;
 
