@@ -5,3 +5,4 @@ pub mod Cursors
 pub mod Listed
 pub mod Rises
 pub mod Sizes
+pub mod Merges

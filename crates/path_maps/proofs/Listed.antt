@@ -31,11 +31,14 @@ all_of : (P : PathParts → Type 0) (es : List (PathParts × Entry)) → ((q : P
 all_of P [] h = tt
 all_of P (e ∷ es) h = (h e.0 (inl refl), all_of P es (λ q is. h q (inr is)))
 
--- the paths of all entries are lawful
-pub listed_paths : (m : RankMap) (len high : ℕ) → IsKept m len high → AllKeys IsPath (listed m)
-listed_paths m len high k =
+-- where something is held at lawful paths alone, all that is listed has one
+pub paths_listed : (m : RankMap) → AreRanks m → ((q : PathParts) → IsSome (finmap.get (flat m) q) → IsPath q) → AllKeys IsPath (listed m)
+paths_listed m is paths =
     all_of IsPath (listed m)
-    (λ q is. k.counted.paths q (subst (λ (x : Option Entry). IsSome x) (sym (finmap.get-from_sorted path_cmp (listed m) q (to_T _ (listed_sorted m k.ranks)))) (found_in q (listed m) is)))
+    (λ q h. paths q (subst (λ (x : Option Entry). IsSome x) (sym (finmap.get-from_sorted path_cmp (listed m) q (to_T _ (listed_sorted m is)))) (found_in q (listed m) h)))
+
+pub listed_paths : (m : RankMap) (len high : ℕ) → IsKept m len high → AllKeys IsPath (listed m)
+listed_paths m len high k = paths_listed m k.ranks k.counted.paths
 
 -- all entries in path order
 pub listed_entries : (m : RankMap) (s : EntryMap) → AreRanks m → flat m ≡ s → listed m ≡ finmap.entries s

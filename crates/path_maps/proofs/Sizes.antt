@@ -77,7 +77,7 @@ lengths (x ∷ xs) (y ∷ ys) s t h = by (path_cmp x.0 y.0) refl (lengths xs ys 
         let more = all (λ q f. behind q y ys (eq_by_cmp path_cmp q y.0) refl (λ e. apart y.0 q (x ∷ xs) (below_further y.0 x xs less below_x) f e) (h q f)) in
         omega (arith, more)
 
-held_above : (x y : Option Entry) → IsBelow x y → IsSome x → IsSome y
+pub held_above : (x y : Option Entry) → IsBelow x y → IsSome x → IsSome y
 held_above None y b h = absurd (none_some None refl h)
 held_above (Some x) None b h = absurd b
 held_above (Some x) (Some y) b h = refl

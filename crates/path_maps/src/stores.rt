@@ -2,8 +2,10 @@
 ghost use Rattle.std.specs.Prelude.{◌≡◌, ◌≤◌, ◌↔◌, ◌+◌, IsTrue, IsSome, IsOk, IfOk, OnOk, OnErr, IfErr, if◌then◌else◌};
 ghost use Rattle.std.specs.Option.{option_copied};
 ghost use Rattle.std.specs.FinMap as finmap;
-ghost use Rattle.edit_sums.specs.Sums.{high_of, join, with_edit, IsStoreBelow};
+ghost use Rattle.edit_sums.specs.Sums.{changed_paths, high_of, join, with_edit, IsStoreBelow};
 
+use crate::changes::count_changes;
+use crate::counts::count_entries;
 use crate::entries::Entries;
 use byte_strings::Bytes;
 use edit_sums::{Content, Edit, Entry};
@@ -145,6 +147,35 @@ impl Store {
         self.len = len;
         self.high = self.high.max(version.counter);
         Ok(())
+    }
+
+    /// Joins copies of what another store holds, and answers how many paths changed. A search for each of its entries;
+    /// then it costs what is news and a search for each, or one pass over both, whichever is less. Copies of entries
+    /// share their bytes.
+    ///
+    /// Where memory is refused, the store lies between what it was and the join, and the same call may be made again.
+    pub fn merge(&mut self, other: &Store) -> Result<u64, AllocError>
+        ensures ok { OnOk result (self.new ≡ join self.old other.now) }
+        ensures changed { IfOk result (λ changed. changed ≡ changed_paths self.old self.new) }
+        ensures kept { OnErr result (IsStoreBelow self.old self.new) }
+        ensures within { OnErr result (IsStoreBelow self.new (join self.old other.now)) }
+        ensures again { OnErr result (join self.new other.now ≡ join self.old other.now) }
+    {
+        let changes = count_changes(self, other);
+        let len = self.len.checked_add(changes.added).ok_or(AllocError)?;
+        match self.ranks.join_copy(&other.ranks) {
+            Ok(()) => {
+                self.len = len;
+                self.high = self.high.max(other.high);
+                Ok(changes.changed)
+            }
+            Err(refused) => {
+                let counts = count_entries(&self.ranks);
+                self.len = counts.len;
+                self.high = counts.high;
+                Err(refused)
+            }
+        }
     }
 
     // How many paths are held with this one. Over the greatest number, it is want of memory.
