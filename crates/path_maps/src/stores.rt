@@ -162,7 +162,7 @@ impl Store {
         ensures again { OnErr result (join self.new other.now ≡ join self.old other.now) }
     {
         let changes = count_changes(self, other);
-        let len = self.len.checked_add(changes.added).ok_or(AllocError)?;
+        let len = sum_of_lens(self.len, changes.added)?;
         match self.ranks.join_copy(&other.ranks) {
             Ok(()) => {
                 self.len = len;
@@ -189,4 +189,12 @@ impl Store {
             None => self.len.checked_add(1).ok_or(AllocError),
         }
     }
+}
+
+// How many paths are held with so many more. Over the greatest number, it is want of memory.
+fn sum_of_lens(len: usize, added: usize) -> Result<usize, AllocError>
+    ensures sum { IfOk result (λ sum. sum ≡ len + added) }
+    ensures within { IfOk result (λ sum. len + added ≤ usize.MAX) }
+{
+    len.checked_add(added).ok_or(AllocError)
 }
