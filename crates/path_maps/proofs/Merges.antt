@@ -3,7 +3,7 @@ use Rattle.std.proofs.Common.{◌≡◌, ◌⊎◌, inl, inr, ℕ, ◌+◌, ◌�
 use Rattle.std.specs.Prelude.{max}
 use Rattle.std.specs.FinMap as finmap
 use Rattle.std.specs.FinMap.Entries.{find}
-use Rattle.join_law.specs.Order.{IsJoin, IsBetween}
+use Rattle.join_law.specs.Order.{IsJoin, IsBetween, IsPartialJoin}
 use Rattle.load_path.specs.Paths.{PathParts, IsPath, path_cmp}
 use Rattle.edit_sums.specs.Entries.{Entry, IsBelow, larger}
 use Rattle.edit_sums.specs.EntryLaws.{larger_cases}
@@ -13,7 +13,7 @@ use Rattle.edit_sums.specs.GreatestLaws.{get-join}
 use Rattle.edit_sums.specs.CounterLaws.{high_of-join}
 use Rattle.path_maps.specs.Spread.{AllKeys}
 use Rattle.path_maps.specs.PathMaps.{RankMap, RanksBelow, AreRanks, flat, listed}
-use Rattle.path_maps.specs.PathMapLaws.{flat-join, flat-below, flat-between, entries-flat}
+use Rattle.path_maps.specs.PathMapLaws.{flat-join, flat-below, flat-between, flat-rest, entries-flat}
 use Rattle.path_maps.specs.Kept.{IsCounted, IsKept}
 use Rattle.path_maps.specs.Changes.{rises, additions}
 use Rattle.path_maps.proofs.Rises.{changed-join, len-join}
@@ -76,25 +76,41 @@ module _ (m o : RankMap) (s t : EntryMap) (a b g h : ℕ) (is : flat m ≡ s) (i
       pub part_within : IsStoreBelow (flat n) (join s t)
       part_within = subst (λ (x : EntryMap). IsStoreBelow (flat n) x) (λ i. join (is i) (is_t i)) (flat-between m o n k.ranks l.ranks is_n v)
 
-      part_paths : HasPaths (flat n)
-      part_paths = below_paths (flat n) (join s t) part_within (join_paths s t counted_s.paths counted_t.paths)
+      pub part_again : join (flat n) t ≡ join s t
+      part_again = join_again s t (flat n) part_kept part_within
 
-      pub part_listed : AllKeys IsPath (listed n)
-      part_listed = paths_listed n is_n part_paths
+    -- what is below the join is counted as it is
+    module _ (w : IsStoreBelow (flat n) (join s t)) where
+      within_paths : HasPaths (flat n)
+      within_paths = below_paths (flat n) (join s t) w (join_paths s t counted_s.paths counted_t.paths)
+
+      pub within_listed : AllKeys IsPath (listed n)
+      within_listed = paths_listed n is_n within_paths
 
       same_len : length (listed n) ≡ finmap.len (flat n)
       same_len = ap length (sym (entries-flat n is_n)) ∙ sym (finmap.len-entries (flat n))
 
-      pub part_fits : (most : ℕ) → a + additions s (finmap.entries t) ≤ most → length (listed n) ≤ most
-      part_fits most fits =
-          let one = len-below (flat n) (join s t) part_within in
+      pub within_fits : (most : ℕ) → a + additions s (finmap.entries t) ≤ most → length (listed n) ≤ most
+      within_fits most fits =
+          let one = len-below (flat n) (join s t) w in
           let two = len-join s t in
           let three = counted_s.counted in
           let four = same_len in
           omega (arith, one, two, three, four, fits)
 
-      pub part_counted : (len high : ℕ) → len ≡ length (listed n) → high ≡ greatest_counter (listed n) → IsKept n len high
-      part_counted len high e f = record {
+      pub within_counted : (len high : ℕ) → len ≡ length (listed n) → high ≡ greatest_counter (listed n) → IsKept n len high
+      within_counted len high e f = record {
         ranks = is_n;
-        counted = record { paths = part_paths; counted = e ∙ same_len; greatest = f ∙ ap greatest_counter (sym (entries-flat n is_n)) };
+        counted = record { paths = within_paths; counted = e ∙ same_len; greatest = f ∙ ap greatest_counter (sym (entries-flat n is_n)) };
       }
+
+    -- what is left of a join that was refused
+    module _ (r : RankMap) (is_r : AreRanks r) (j : IsPartialJoin RanksBelow m o n r) where
+      pub partly : IsBetween RanksBelow m o n
+      partly = record { kept = j.kept; within = λ z p q. ((j.bounds z).1 (p, q)).0 }
+
+      pub rest_joined : join (flat n) (flat r) ≡ join s t
+      rest_joined = flat-rest m o n k.ranks l.ranks is_n r is_r j.bounds ∙ (λ i. join (is i) (is_t i))
+
+      pub rest_within : IsStoreBelow (flat r) (join s t)
+      rest_within = subst (λ (x : EntryMap). IsStoreBelow (flat r) x) rest_joined (join-right (flat n) (flat r))

@@ -5,11 +5,11 @@ ghost use Rattle.std.specs.FinMap as finmap;
 ghost use Rattle.edit_sums.specs.Sums.{changed_paths, high_of, join, with_edit, IsStoreBelow};
 
 use crate::changes::count_changes;
-use crate::counts::count_entries;
+use crate::counts::{Counts, count_entries};
 use crate::entries::Entries;
 use byte_strings::Bytes;
 use edit_sums::{Content, Edit, Entry};
-use join_law::{Join, JoinMap, Versioned};
+use join_law::{Join, JoinMap, Rest, Versioned};
 use load_path::Path;
 use std::alloc::{AllocError, Global};
 use std::marker::Model;
@@ -174,6 +174,46 @@ impl Store {
                 self.len = counts.len;
                 self.high = counts.high;
                 Err(refused)
+            }
+        }
+    }
+
+    /// Joins what another store holds, and answers how many paths changed. A search for each of its entries; then it
+    /// costs what is news and a search for each, or one pass over both, whichever is less.
+    ///
+    /// Where memory is refused, the store lies between what it was and the join, and joining the rest that comes back
+    /// gives that join.
+    pub fn absorb(&mut self, other: Store) -> Result<u64, Rest<Store>>
+        ensures ok { OnOk result (self.new ≡ join self.old other) }
+        ensures changed { IfOk result (λ changed. changed ≡ changed_paths self.old self.new) }
+        ensures kept { OnErr result (IsStoreBelow self.old self.new) }
+        ensures within { OnErr result (IsStoreBelow self.new (join self.old other)) }
+        ensures rest { IfErr result (λ fault. join self.new fault.rest ≡ join self.old other) }
+    {
+        let changes = count_changes(self, &other);
+        let Ok(len) = sum_of_lens(self.len, changes.added) else {
+            return Err(Rest { rest: other });
+        };
+        let Store {
+            ranks,
+            len: _,
+            high,
+        } = other;
+        match self.ranks.join_from(ranks) {
+            Ok(()) => {
+                self.len = len;
+                self.high = self.high.max(high);
+                Ok(changes.changed)
+            }
+            Err(Rest { rest }) => {
+                let counts = count_entries(&self.ranks);
+                self.len = counts.len;
+                self.high = counts.high;
+                let Counts { len, high } = count_entries(&rest);
+                let ranks = rest;
+                Err(Rest {
+                    rest: Store { ranks, len, high },
+                })
             }
         }
     }

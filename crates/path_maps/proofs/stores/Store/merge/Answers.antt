@@ -2,7 +2,7 @@ use Rattle.std.proofs.Common.{◌≡◌, ◌+◌, ap, sym, subst, ◌∙◌}
 use Rattle.std.specs.Prelude.{Result, Ok, Err, OnErr, ◌≤◌}
 use Rattle.edit_sums.specs.Sums.{join}
 use Rattle.edit_sums.specs.SumLaws.{store_below_refl, join-left}
-use Rattle.path_maps.proofs.Merges.{join_again, merged, merged_kept, merged_changes, part_kept, part_within, part_listed, part_fits, part_counted}
+use Rattle.path_maps.proofs.Merges.{merged, merged_kept, merged_changes, part_kept, part_within, part_again, within_listed, within_fits, within_counted}
 use Rattle.path_maps.proofs.stores.Store.merge.Goals as goal
 
 on_err : {T E P : Type 0} (r : Result T E) → P → OnErr r P
@@ -23,18 +23,18 @@ invariant_of-self c =
 
 pub count_entries-counts-requires-clause-paths : goal.count_entries-counts-requires-clause-paths
 count_entries-counts-requires-clause-paths c =
-    part_listed c.self.inside.ranks c.other.inside.ranks c.args.self.now c.args.other.now c.self.inside.len c.other.inside.len c.self.inside.high c.other.inside.high c.self.view_is c.other.view_is c.self.invariant c.other.invariant c.join_copy.new.self
-    c.in-Err.ensures.valid c.in-Err.ensures.refused
+    within_listed c.self.inside.ranks c.other.inside.ranks c.args.self.now c.args.other.now c.self.inside.len c.other.inside.len c.self.inside.high c.other.inside.high c.self.view_is c.other.view_is c.self.invariant c.other.invariant c.join_copy.new.self
+    c.in-Err.ensures.valid (part_within c.self.inside.ranks c.other.inside.ranks c.args.self.now c.args.other.now c.self.inside.len c.other.inside.len c.self.inside.high c.other.inside.high c.self.view_is c.other.view_is c.self.invariant c.other.invariant c.join_copy.new.self c.in-Err.ensures.valid c.in-Err.ensures.refused)
 
 pub count_entries-counts-requires-clause-fits : goal.count_entries-counts-requires-clause-fits
 count_entries-counts-requires-clause-fits c =
-    part_fits c.self.inside.ranks c.other.inside.ranks c.args.self.now c.args.other.now c.self.inside.len c.other.inside.len c.self.inside.high c.other.inside.high c.self.view_is c.other.view_is c.self.invariant c.other.invariant c.join_copy.new.self
-    c.in-Err.ensures.valid c.in-Err.ensures.refused _ (subst (λ n. c.self.inside.len + n ≤ _) c.count_changes-changes.ensures.added c.in_ok-len.ensures.within)
+    within_fits c.self.inside.ranks c.other.inside.ranks c.args.self.now c.args.other.now c.self.inside.len c.other.inside.len c.self.inside.high c.other.inside.high c.self.view_is c.other.view_is c.self.invariant c.other.invariant c.join_copy.new.self
+    c.in-Err.ensures.valid (part_within c.self.inside.ranks c.other.inside.ranks c.args.self.now c.args.other.now c.self.inside.len c.other.inside.len c.self.inside.high c.other.inside.high c.self.view_is c.other.view_is c.self.invariant c.other.invariant c.join_copy.new.self c.in-Err.ensures.valid c.in-Err.ensures.refused) _ (subst (λ n. c.self.inside.len + n ≤ _) c.count_changes-changes.ensures.added c.in_ok-len.ensures.within)
 
 pub invariant_of-self-in-Err : goal.invariant_of-self-in-Err
 invariant_of-self-in-Err c =
-    part_counted c.self.inside.ranks c.other.inside.ranks c.args.self.now c.args.other.now c.self.inside.len c.other.inside.len c.self.inside.high c.other.inside.high c.self.view_is c.other.view_is c.self.invariant c.other.invariant c.join_copy.new.self
-    c.in-Err.ensures.valid c.in-Err.ensures.refused c.count_entries-counts.result.len c.count_entries-counts.result.high c.count_entries-counts.ensures.len c.count_entries-counts.ensures.high
+    within_counted c.self.inside.ranks c.other.inside.ranks c.args.self.now c.args.other.now c.self.inside.len c.other.inside.len c.self.inside.high c.other.inside.high c.self.view_is c.other.view_is c.self.invariant c.other.invariant c.join_copy.new.self
+    c.in-Err.ensures.valid (part_within c.self.inside.ranks c.other.inside.ranks c.args.self.now c.args.other.now c.self.inside.len c.other.inside.len c.self.inside.high c.other.inside.high c.self.view_is c.other.view_is c.self.invariant c.other.invariant c.join_copy.new.self c.in-Err.ensures.valid c.in-Err.ensures.refused) c.count_entries-counts.result.len c.count_entries-counts.result.high c.count_entries-counts.ensures.len c.count_entries-counts.ensures.high
 
 pub returns-in-Ok-clause-ok : goal.returns-in-Ok-clause-ok
 returns-in-Ok-clause-ok c =
@@ -58,8 +58,5 @@ returns-in-Err-clause-within c =
 
 pub returns-in-Err-clause-again : goal.returns-in-Err-clause-again
 returns-in-Err-clause-again c =
-    join_again c.args.self.now c.args.other.now _
-    (part_kept c.self.inside.ranks c.other.inside.ranks c.args.self.now c.args.other.now c.self.inside.len c.other.inside.len c.self.inside.high c.other.inside.high c.self.view_is c.other.view_is c.self.invariant c.other.invariant c.join_copy.new.self
-    c.in-Err.ensures.valid c.in-Err.ensures.refused)
-    (part_within c.self.inside.ranks c.other.inside.ranks c.args.self.now c.args.other.now c.self.inside.len c.other.inside.len c.self.inside.high c.other.inside.high c.self.view_is c.other.view_is c.self.invariant c.other.invariant c.join_copy.new.self
-    c.in-Err.ensures.valid c.in-Err.ensures.refused)
+    part_again c.self.inside.ranks c.other.inside.ranks c.args.self.now c.args.other.now c.self.inside.len c.other.inside.len c.self.inside.high c.other.inside.high c.self.view_is c.other.view_is c.self.invariant c.other.invariant c.join_copy.new.self
+    c.in-Err.ensures.valid c.in-Err.ensures.refused
