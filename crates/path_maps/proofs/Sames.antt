@@ -37,10 +37,10 @@ names_itself = map_itself (IsUpTo content_cmp) (up_to_itself content_cmp content
 folders_chain : (x y z : FolderMap) → FoldersBelow x y → FoldersBelow y z → FoldersBelow x z
 folders_chain = map_chain NamesBelow names_itself names_chain bytes_cmp
 
-no_names : (z : NameMap) → NamesBelow [] z
+pub no_names : (z : NameMap) → NamesBelow [] z
 no_names z = record { at = λ q. tt }
 
-no_folders : (z : FolderMap) → FoldersBelow [] z
+pub no_folders : (z : FolderMap) → FoldersBelow [] z
 no_folders z = record { at = λ q. tt }
 
 -- ---- what has at most the same everywhere is below

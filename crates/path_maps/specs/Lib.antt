@@ -3,3 +3,5 @@ pub mod SpreadLaws
 pub mod PathMaps
 pub mod PathMapLaws
 pub mod Kept
+pub mod Cursors
+pub mod Changes

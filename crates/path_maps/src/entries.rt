@@ -1,8 +1,14 @@
-//! The entries of a store, one after another.
-ghost use Rattle.std.specs.Prelude.{◌≡◌, IfOk};
+//! The entries of a store, one after another in path order: ranks, folders and names that are left.
+ghost use Rattle.std.specs.Prelude.{◌≡◌, ◌≢◌, ◌++◌, ◌∷◌, [], IfOk, IfSome, MatchOption};
+ghost use Rattle.load_path.specs.Paths.{IsPath};
+ghost use Rattle.path_maps.specs.Cursors.{or_nothing};
+ghost use Rattle.path_maps.specs.PathMaps.{listed};
+ghost use Rattle.path_maps.specs.Spread.{AllKeys};
 
+use crate::stores::{FolderMap, NameMap, RankMap};
 use byte_strings::Bytes;
-use edit_sums::Entry;
+use edit_sums::{Content, Entry};
+use join_law::Versioned;
 use load_path::Path;
 use std::alloc::AllocError;
 use std::marker::Model;
@@ -36,10 +42,221 @@ impl<'a> Placed<'a> {
         Ok(Path::from_parts(self.rank, folder, self.name.try_clone()?))
     }
 
+    /// The parts of its path: rank, folder and name. It takes no memory.
+    pub fn parts(&self) -> (u8, &'a Bytes, &'a Bytes)
+        ensures parts { record { rank = result.0; folder = result.1.now; name = result.2.now } ≡ self.now.0 }
+    {
+        (self.rank, self.folder, self.name)
+    }
+
     /// The entry. It takes no memory.
     pub fn entry(&self) -> &'a Entry
         ensures entry { result.now ≡ self.now.1 }
     {
         self.entry
     }
+}
+
+// The names that are left of a folder.
+#[derive(Drop)]
+struct NamesLeft<'a> {
+    rank: u8,
+    folder: &'a Bytes,
+    names: &'a [(Bytes, Versioned<Content>)],
+}
+
+impl<'a> Model for NamesLeft<'a> {
+    ghost use Rattle.std.specs.Prelude.{List};
+    ghost use Rattle.load_path.specs.Paths.{PathParts};
+    ghost use Rattle.edit_sums.specs.Entries.{Entry};
+    ghost use Rattle.path_maps.specs.PathMaps.{in_folder};
+    ghost use Rattle.path_maps.specs.Cursors.{AreNamesLeft};
+
+    ghost Value = { List (PathParts × Entry) };
+
+    ghost view = { λ n. in_folder n.rank n.folder.now n.names.now };
+
+    ghost invariant = { λ n. AreNamesLeft n.rank n.folder.now n.names.now };
+}
+
+impl<'a> NamesLeft<'a> {
+    // Takes the first of them, if there is one.
+    fn next_name(&mut self) -> Option<Placed<'a>>
+        ensures first { MatchOption result ((self.old ≡ []) × (self.new ≡ [])) (λ placed. self.old ≡ placed ∷ self.new) }
+    {
+        let ((name, value), rest) = self.names.split_first()?;
+        let entry = value.entry()?;
+        let (rank, folder) = (self.rank, self.folder);
+        self.names = rest;
+        Some(Placed {
+            rank,
+            folder,
+            name,
+            entry,
+        })
+    }
+}
+
+// The folders that are left of a rank.
+#[derive(Drop)]
+struct FoldersLeft<'a> {
+    rank: u8,
+    folders: &'a [(Bytes, NameMap)],
+}
+
+impl<'a> Model for FoldersLeft<'a> {
+    ghost use Rattle.std.specs.Prelude.{List};
+    ghost use Rattle.load_path.specs.Paths.{PathParts};
+    ghost use Rattle.edit_sums.specs.Entries.{Entry};
+    ghost use Rattle.path_maps.specs.PathMaps.{in_rank};
+    ghost use Rattle.path_maps.specs.Cursors.{AreFoldersLeft};
+
+    ghost Value = { List (PathParts × Entry) };
+
+    ghost view = { λ f. in_rank f.rank f.folders.now };
+
+    ghost invariant = { λ f. AreFoldersLeft f.rank f.folders.now };
+}
+
+impl<'a> FoldersLeft<'a> {
+    // Takes the first of them, if there is one. Each has a name.
+    fn next_folder(&mut self) -> Option<NamesLeft<'a>>
+        ensures first { MatchOption result ((self.old ≡ []) × (self.new ≡ [])) (λ names. self.old ≡ names ++ self.new) }
+        ensures some { IfSome result (λ names. names ≢ []) }
+    {
+        let ((folder, names), rest) = self.folders.split_first()?;
+        let rank = self.rank;
+        self.folders = rest;
+        Some(NamesLeft {
+            rank,
+            folder,
+            names: names.pairs(),
+        })
+    }
+}
+
+// The ranks that are left.
+#[derive(Drop)]
+struct RanksLeft<'a> {
+    ranks: &'a [(u8, FolderMap)],
+}
+
+impl<'a> Model for RanksLeft<'a> {
+    ghost use Rattle.std.specs.Prelude.{List};
+    ghost use Rattle.load_path.specs.Paths.{PathParts};
+    ghost use Rattle.edit_sums.specs.Entries.{Entry};
+    ghost use Rattle.path_maps.specs.PathMaps.{listed};
+    ghost use Rattle.path_maps.specs.Cursors.{AreRanksLeft};
+
+    ghost Value = { List (PathParts × Entry) };
+
+    ghost view = { λ r. listed r.ranks.now };
+
+    ghost invariant = { λ r. AreRanksLeft r.ranks.now };
+}
+
+impl<'a> RanksLeft<'a> {
+    // Takes the first of them, if there is one. Each has a folder.
+    fn next_rank(&mut self) -> Option<FoldersLeft<'a>>
+        ensures first { MatchOption result ((self.old ≡ []) × (self.new ≡ [])) (λ folders. self.old ≡ folders ++ self.new) }
+        ensures some { IfSome result (λ folders. folders ≢ []) }
+    {
+        let ((rank, folders), rest) = self.ranks.split_first()?;
+        self.ranks = rest;
+        Some(FoldersLeft {
+            rank: *rank,
+            folders: folders.pairs(),
+        })
+    }
+}
+
+/// The entries of a store that are left, in path order.
+#[derive(Drop)]
+pub struct Entries<'a> {
+    // Of the folder and of the rank that are being read, if any are.
+    names: Option<NamesLeft<'a>>,
+    folders: Option<FoldersLeft<'a>>,
+    ranks: RanksLeft<'a>,
+}
+
+impl<'a> Model for Entries<'a> {
+    ghost use Rattle.std.specs.Prelude.{List, ◌++◌};
+    ghost use Rattle.load_path.specs.Paths.{PathParts};
+    ghost use Rattle.edit_sums.specs.Entries.{Entry};
+    ghost use Rattle.path_maps.specs.Cursors.{or_nothing};
+
+    ghost Value = { List (PathParts × Entry) };
+
+    ghost view = { λ e. or_nothing e.names ++ (or_nothing e.folders ++ e.ranks) };
+}
+
+impl<'a> Entries<'a> {
+    // Those of maps of maps whose paths are lawful.
+    pub(crate) fn of_ranks(ranks: &'a RankMap) -> Self
+        requires paths { AllKeys IsPath (listed ranks.now) }
+        ensures entries { result ≡ listed ranks.now }
+    {
+        Entries {
+            names: None,
+            folders: None,
+            ranks: RanksLeft {
+                ranks: ranks.pairs(),
+            },
+        }
+    }
+
+    /// Takes the first of them, if there is one. O(1), without memory.
+    pub fn next_entry(&mut self) -> Option<Placed<'a>>
+        ensures first { MatchOption result ((self.old ≡ []) × (self.new ≡ [])) (λ placed. self.old ≡ placed ∷ self.new) }
+    {
+        if let Some(placed) = next_of(&mut self.names) {
+            return Some(placed);
+        }
+        let mut names = next_folder(&mut self.folders, &mut self.ranks)?;
+        let placed = names.next_name()?;
+        self.names = Some(names);
+        Some(placed)
+    }
+}
+
+// Takes the first name of a folder, if one is being read and has any left.
+fn next_of<'a>(names: &mut Option<NamesLeft<'a>>) -> Option<Placed<'a>>
+    ensures first { MatchOption result ((or_nothing names.old ≡ []) × (or_nothing names.new ≡ []))
+        (λ placed. or_nothing names.old ≡ placed ∷ or_nothing names.new) }
+{
+    match names {
+        None => None,
+        Some(names) => names.next_name(),
+    }
+}
+
+// Takes the first folder of a rank, if one is being read and has any left.
+fn folder_of<'a>(folders: &mut Option<FoldersLeft<'a>>) -> Option<NamesLeft<'a>>
+    ensures first { MatchOption result ((or_nothing folders.old ≡ []) × (or_nothing folders.new ≡ []))
+        (λ names. or_nothing folders.old ≡ names ++ or_nothing folders.new) }
+    ensures some { IfSome result (λ names. names ≢ []) }
+{
+    match folders {
+        None => None,
+        Some(folders) => folders.next_folder(),
+    }
+}
+
+// Takes the next folder, of the rank that is being read or of the next one.
+fn next_folder<'a>(
+    folders: &mut Option<FoldersLeft<'a>>,
+    ranks: &mut RanksLeft<'a>,
+) -> Option<NamesLeft<'a>>
+    ensures first { MatchOption result
+        ((or_nothing folders.old ++ ranks.old ≡ []) × (or_nothing folders.new ++ ranks.new ≡ []))
+        (λ names. or_nothing folders.old ++ ranks.old ≡ names ++ (or_nothing folders.new ++ ranks.new)) }
+    ensures some { IfSome result (λ names. names ≢ []) }
+{
+    if let Some(names) = folder_of(folders) {
+        return Some(names);
+    }
+    let mut next = ranks.next_rank()?;
+    let names = next.next_folder()?;
+    *folders = Some(next);
+    Some(names)
 }

@@ -2,8 +2,10 @@
 //! as one map from paths to entries.
 #![tactic(auto)]
 
+mod changes;
+mod counts;
 mod entries;
 mod stores;
 
-pub use entries::Placed;
+pub use entries::{Entries, Placed};
 pub use stores::{FolderMap, NameMap, RankMap, Store};

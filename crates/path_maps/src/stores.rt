@@ -1,12 +1,15 @@
 //! Stores.
-ghost use Rattle.std.specs.Prelude.{◌≡◌, ◌↔◌, ◌+◌, IsTrue, IsSome, IsOk, IfOk, OnOk, OnErr, IfErr, if◌then◌else◌};
+ghost use Rattle.std.specs.Prelude.{◌≡◌, ◌≤◌, ◌↔◌, ◌+◌, IsTrue, IsSome, IsOk, IfOk, OnOk, OnErr, IfErr, if◌then◌else◌};
 ghost use Rattle.std.specs.Option.{option_copied};
 ghost use Rattle.std.specs.FinMap as finmap;
-ghost use Rattle.edit_sums.specs.Sums.{high_of, join, with_edit, IsStoreBelow};
+ghost use Rattle.edit_sums.specs.Sums.{changed_paths, high_of, join, with_edit, IsStoreBelow};
 
+use crate::changes::count_changes;
+use crate::counts::{Counts, count_entries};
+use crate::entries::Entries;
 use byte_strings::Bytes;
 use edit_sums::{Content, Edit, Entry};
-use join_law::{Join, JoinMap, Versioned};
+use join_law::{Join, JoinMap, Rest, Versioned};
 use load_path::Path;
 use std::alloc::{AllocError, Global};
 use std::marker::Model;
@@ -70,6 +73,7 @@ impl Store {
     /// How many paths are held, those of removals too. O(1), without memory.
     pub fn len(&self) -> usize
         ensures len { result ≡ finmap.len self.now }
+        ensures within { finmap.len self.now ≤ u64.MAX }
     {
         self.len
     }
@@ -86,9 +90,24 @@ impl Store {
         ensures held { option_copied result ≡ finmap.get self.now path.now }
     {
         let (rank, folder, name) = path.parts();
+        self.entry_at(rank, folder, name)
+    }
+
+    /// What is held at the path of these parts. O(log n), without memory.
+    pub fn entry_at(&self, rank: u8, folder: &Bytes, name: &Bytes) -> Option<&Entry>
+        ensures held { option_copied result ≡ finmap.get self.now (record
+            { rank = rank; folder = folder.now; name = name.now }) }
+    {
         let folders = self.ranks.get(&rank)?;
         let names = folders.get(folder)?;
         names.get(name)?.entry()
+    }
+
+    /// All entries with their paths, one after another in path order, those of removals too.
+    pub fn entries(&self) -> Entries<'_>
+        ensures entries { result ≡ finmap.entries self.now }
+    {
+        Entries::of_ranks(&self.ranks)
     }
 
     /// Whether both hold the same. Linear, without memory.
@@ -130,6 +149,75 @@ impl Store {
         Ok(())
     }
 
+    /// Joins copies of what another store holds, and answers how many paths changed. A search for each of its entries;
+    /// then it costs what is news and a search for each, or one pass over both, whichever is less. Copies of entries
+    /// share their bytes.
+    ///
+    /// Where memory is refused, the store lies between what it was and the join, and the same call may be made again.
+    pub fn merge(&mut self, other: &Store) -> Result<u64, AllocError>
+        ensures ok { OnOk result (self.new ≡ join self.old other.now) }
+        ensures changed { IfOk result (λ changed. changed ≡ changed_paths self.old self.new) }
+        ensures kept { OnErr result (IsStoreBelow self.old self.new) }
+        ensures within { OnErr result (IsStoreBelow self.new (join self.old other.now)) }
+        ensures again { OnErr result (join self.new other.now ≡ join self.old other.now) }
+    {
+        let changes = count_changes(self, other);
+        let len = sum_of_lens(self.len, changes.added)?;
+        match self.ranks.join_copy(&other.ranks) {
+            Ok(()) => {
+                self.len = len;
+                self.high = self.high.max(other.high);
+                Ok(changes.changed)
+            }
+            Err(refused) => {
+                let counts = count_entries(&self.ranks);
+                self.len = counts.len;
+                self.high = counts.high;
+                Err(refused)
+            }
+        }
+    }
+
+    /// Joins what another store holds, and answers how many paths changed. A search for each of its entries; then it
+    /// costs what is news and a search for each, or one pass over both, whichever is less.
+    ///
+    /// Where memory is refused, the store lies between what it was and the join, and joining the rest that comes back
+    /// gives that join.
+    pub fn absorb(&mut self, other: Store) -> Result<u64, Rest<Store>>
+        ensures ok { OnOk result (self.new ≡ join self.old other) }
+        ensures changed { IfOk result (λ changed. changed ≡ changed_paths self.old self.new) }
+        ensures kept { OnErr result (IsStoreBelow self.old self.new) }
+        ensures within { OnErr result (IsStoreBelow self.new (join self.old other)) }
+        ensures rest { IfErr result (λ fault. join self.new fault.rest ≡ join self.old other) }
+    {
+        let changes = count_changes(self, &other);
+        let Ok(len) = sum_of_lens(self.len, changes.added) else {
+            return Err(Rest { rest: other });
+        };
+        let Store {
+            ranks,
+            len: _,
+            high,
+        } = other;
+        match self.ranks.join_from(ranks) {
+            Ok(()) => {
+                self.len = len;
+                self.high = self.high.max(high);
+                Ok(changes.changed)
+            }
+            Err(Rest { rest }) => {
+                let counts = count_entries(&self.ranks);
+                self.len = counts.len;
+                self.high = counts.high;
+                let Counts { len, high } = count_entries(&rest);
+                let ranks = rest;
+                Err(Rest {
+                    rest: Store { ranks, len, high },
+                })
+            }
+        }
+    }
+
     // How many paths are held with this one. Over the greatest number, it is want of memory.
     fn len_with(&self, path: &Path) -> Result<usize, AllocError>
         ensures len { IfOk result (λ len. len ≡ if finmap.contains_key self.now path.now
@@ -141,4 +229,12 @@ impl Store {
             None => self.len.checked_add(1).ok_or(AllocError),
         }
     }
+}
+
+// How many paths are held with so many more. Over the greatest number, it is want of memory.
+fn sum_of_lens(len: usize, added: usize) -> Result<usize, AllocError>
+    ensures sum { IfOk result (λ sum. sum ≡ len + added) }
+    ensures within { IfOk result (λ sum. len + added ≤ usize.MAX) }
+{
+    len.checked_add(added).ok_or(AllocError)
 }

@@ -1,0 +1,87 @@
+-- What is left behind the first name, folder or rank.
+use Rattle.std.proofs.Common.{◌≡◌, ◌≢◌, ℕ, List, [], ◌∷◌, ◌++◌, Option, Some, None, refl, sym, ap, subst, ◌∙◌}
+use Rattle.join_law.specs.declared.versions.Versioned.{Versioned}
+use Rattle.join_law.specs.declared.versions.Versioned.TheVariants.{Never, At}
+use Rattle.join_law.specs.Order.{IsLeast}
+use Rattle.join_law.specs.VersionOrder.{IsUpTo, written}
+use Rattle.join_law.specs.VersionedLaws.{never_least}
+use Rattle.join_law.specs.Maps.{IsHeld, AllHeld}
+use Rattle.edit_sums.specs.declared.contents.Content.{Content}
+use Rattle.edit_sums.specs.Contents.{content_cmp}
+use Rattle.edit_sums.specs.Entries.{Entry}
+use Rattle.load_path.specs.Paths.{PathParts, IsPath}
+use Rattle.path_maps.specs.Spread.{AllKeys}
+use Rattle.path_maps.specs.PathMaps.{NameMap, FolderMap, RankMap, NamesBelow, FoldersBelow, AreNames, AreFolders, at_name, in_folder, in_rank, listed}
+use Rattle.path_maps.specs.Cursors.{AreNamesLeft, AreFoldersLeft, AreRanksLeft}
+use Rattle.path_maps.proofs.Sames.{no_names, no_folders}
+
+pub front_keys : {A E : Type 0} (P : A → Type 0) (xs ys : List (A × E)) → AllKeys P (xs ++ ys) → AllKeys P xs
+front_keys P [] ys h = tt
+front_keys P (x ∷ xs) ys h = (h.0, front_keys P xs ys h.1)
+
+pub back_keys : {A E : Type 0} (P : A → Type 0) (xs ys : List (A × E)) → AllKeys P (xs ++ ys) → AllKeys P ys
+back_keys P [] ys h = h
+back_keys P (x ∷ xs) ys h = back_keys P xs ys h.1
+
+-- what is held was written
+pub held_at : (v : Versioned Content) → ¬ IsLeast (IsUpTo content_cmp) v → (x : Entry) × (v ≡ At x)
+held_at Never h = absurd (h (never_least content_cmp))
+held_at (At x) h = (x, refl)
+
+some_front : {A : Type 0} (xs ys : List A) → xs ≢ [] → xs ++ ys ≢ []
+some_front [] ys h = absurd (h refl)
+some_front (x ∷ xs) ys h = λ e. cc (e)
+
+at_name_some : (rank : ℕ) (folder name : List ℕ) (v : Versioned Content) → ¬ IsLeast (IsUpTo content_cmp) v → at_name rank folder name v ≢ []
+at_name_some rank folder name Never h = absurd (h (never_least content_cmp))
+at_name_some rank folder name (At x) h = λ e. cc (e)
+
+-- a folder that is held has a name
+pub in_folder_some : (rank : ℕ) (folder : List ℕ) (names : NameMap) → ¬ IsLeast NamesBelow names → AreNames names → in_folder rank folder names ≢ []
+in_folder_some rank folder [] h is = absurd (h no_names)
+in_folder_some rank folder (n ∷ ns) h is = some_front (at_name rank folder n.0 n.1) (in_folder rank folder ns) (at_name_some rank folder n.0 n.1 is.held.0.not_least)
+
+-- a rank that is held has a folder
+pub in_rank_some : (rank : ℕ) (folders : FolderMap) → ¬ IsLeast FoldersBelow folders → AreFolders folders → in_rank rank folders ≢ []
+in_rank_some rank [] h is = absurd (h no_folders)
+in_rank_some rank (f ∷ fs) h is = some_front (in_folder rank f.0 f.1) (in_rank rank fs) (in_folder_some rank f.0 f.1 is.held.0.not_least is.held.0.lawful)
+
+-- ---- the first folder of a rank, and the rest
+
+module _ (rank : ℕ) (fs rest : FolderMap) (f : List ℕ × NameMap) (is : fs ≡ f ∷ rest) (l : AreFoldersLeft rank fs) where
+  held : AllHeld NamesBelow AreNames (f ∷ rest)
+  held = subst (λ (x : FolderMap). AllHeld NamesBelow AreNames x) is l.held
+
+  paths : AllKeys IsPath (in_rank rank (f ∷ rest))
+  paths = subst (λ (x : FolderMap). AllKeys IsPath (in_rank rank x)) is l.paths
+
+  pub first_names : (ns : NameMap) → ns ≡ f.1 → AreNamesLeft rank f.0 ns
+  first_names ns e =
+      subst (AreNamesLeft rank f.0) (sym e)
+      (record { held = held.0.lawful.held; paths = front_keys IsPath (in_folder rank f.0 f.1) (in_rank rank rest) paths })
+
+  pub more_folders : AreFoldersLeft rank rest
+  more_folders = record { held = held.1; paths = back_keys IsPath (in_folder rank f.0 f.1) (in_rank rank rest) paths }
+
+  pub first_names_some : (ns : NameMap) → ns ≡ f.1 → in_folder rank f.0 ns ≢ []
+  first_names_some ns e = subst (λ (x : NameMap). in_folder rank f.0 x ≢ []) (sym e) (in_folder_some rank f.0 f.1 held.0.not_least held.0.lawful)
+
+-- ---- the first rank, and the rest
+
+module _ (rs rest : RankMap) (r : ℕ × FolderMap) (is : rs ≡ r ∷ rest) (l : AreRanksLeft rs) where
+  ranks_held : AllHeld FoldersBelow AreFolders (r ∷ rest)
+  ranks_held = subst (λ (x : RankMap). AllHeld FoldersBelow AreFolders x) is l.held
+
+  rank_paths : AllKeys IsPath (listed (r ∷ rest))
+  rank_paths = subst (λ (x : RankMap). AllKeys IsPath (listed x)) is l.paths
+
+  pub first_folders : (fs : FolderMap) → fs ≡ r.1 → AreFoldersLeft r.0 fs
+  first_folders fs e =
+      subst (AreFoldersLeft r.0) (sym e)
+      (record { held = ranks_held.0.lawful.held; paths = front_keys IsPath (in_rank r.0 r.1) (listed rest) rank_paths })
+
+  pub more_ranks : AreRanksLeft rest
+  more_ranks = record { held = ranks_held.1; paths = back_keys IsPath (in_rank r.0 r.1) (listed rest) rank_paths }
+
+  pub first_folders_some : (fs : FolderMap) → fs ≡ r.1 → in_rank r.0 fs ≢ []
+  first_folders_some fs e = subst (λ (x : FolderMap). in_rank r.0 x ≢ []) (sym e) (in_rank_some r.0 r.1 ranks_held.0.not_least ranks_held.0.lawful)

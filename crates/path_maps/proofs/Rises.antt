@@ -1,0 +1,184 @@
+-- A join changes the paths of greater entries, and has as many more as there was nothing at.
+use Rattle.std.proofs.Common.{◌≡◌, ◌⊎◌, inl, inr, ℕ, ◌+◌, ◌≤◌, Bool, true, false, cond, List, [], ◌∷◌, ◌++◌, Option, Some, None, IsTrue, refl, sym, ap, subst, ◌∙◌, arith, map, length}
+use Rattle.std.specs.Prelude.{not, is_some, unwrap_or, count_by}
+use Rattle.std.proofs.lemmas.List.Sums.{sum_by-cons, count_by-le-length}
+use Rattle.std.proofs.lemmas.Bool.{and_parts}
+use Rattle.std.specs.declared.cmp.Ordering.{Ordering}
+use Rattle.std.specs.declared.cmp.Ordering.TheVariants.{Less, Equal, Greater}
+use Rattle.std.specs.Ordering.{eq_by_cmp, is_eq, is_lt, is_gt, ordering_reverse}
+use Rattle.std.specs.Cmp.{tied_itself}
+use Rattle.std.specs.FinMap as finmap
+use Rattle.std.specs.FinMap.Entries.{find, put, is_sorted, below_all, by_order}
+use Rattle.list_laws.specs.Truths.{to_T, from_T}
+use Rattle.list_laws.specs.Orderings.{is_less}
+use Rattle.load_path.specs.Paths.{PathParts, path_cmp}
+use Rattle.load_path.specs.PathLaws.{path_cmp_total, path_cmp-IsAntisymmetric}
+use Rattle.edit_sums.specs.Entries.{Entry, entry_cmp, IsBelow, larger}
+use Rattle.edit_sums.specs.EntryLaws.{entry_cmp_total, larger-None}
+use Rattle.edit_sums.specs.declared.entries.Edit.{Edit}
+use Rattle.edit_sums.specs.Sums.{EntryMap, is_other, changed_paths, edit_of, entry_of, edits_of, with_edit, sum_of, join}
+use Rattle.edit_sums.specs.SumLaws.{sum_of-edits_of, with_edit-of_join, join-nothing}
+use Rattle.edit_sums.specs.GreatestLaws.{get-join, get-sum_of, greatest_at-edits_of, same_path}
+use Rattle.path_maps.specs.SpreadLaws.{find_below}
+use Rattle.path_maps.specs.Changes.{is_rise, rises, additions}
+
+count_cons : {X : Type 0} (p : X → Bool) (x : X) (xs : List X) → count_by p (x ∷ xs) ≡ cond (p x) 1 0 + count_by p xs
+count_cons p x xs = sum_by-cons _ x xs
+
+nothing_more : (n : ℕ) → 0 + n ≡ n
+nothing_more n = omega arith
+
+itself_no_other : (x : Entry) → is_other (Some x) x ≡ false
+itself_no_other x = ap (λ r. not (is_eq r)) (tied_itself entry_cmp_total x)
+
+-- ---- one entry put in its place changes its path alone
+
+module _ (first : PathParts → Option Entry) (k : PathParts) (v : Entry) where
+  abbrev others : List (PathParts × Entry) → ℕ
+  others es = count_by (λ (p : PathParts × Entry). is_other (first p.0) p.1) es
+
+  put_changes : (es : List (PathParts × Entry)) → first k ≡ find path_cmp k es → others (put path_cmp k v es) ≡ cond (is_other (first k) v) 1 0 + others es
+  put_changes [] f = count_cons (λ (p : PathParts × Entry). is_other (first p.0) p.1) (k, v) []
+  put_changes (e ∷ es) f = by (path_cmp k e.0) refl (put_changes es)
+    where
+      by : (r : Ordering) → path_cmp k e.0 ≡ r → (first k ≡ find path_cmp k es → others (put path_cmp k v es) ≡ cond (is_other (first k) v) 1 0 + others es) → others (by_order r ((k, v) ∷ e ∷ es) ((e.0, v) ∷ es) (e ∷ put path_cmp k v es)) ≡ cond (is_other (first k) v) 1 0 + others (e ∷ es)
+      by Less o more = count_cons (λ (p : PathParts × Entry). is_other (first p.0) p.1) (k, v) (e ∷ es)
+      by Equal o more =
+          let here : k ≡ e.0 = path_cmp-IsAntisymmetric k e.0 o in
+          let was : first e.0 ≡ Some e.1 = ap first (sym here) ∙ f ∙ ap (λ r. cond (is_eq r) (Some e.1) (find path_cmp k es)) o in
+          let none : is_other (first e.0) e.1 ≡ false = ap (λ y. is_other y e.1) was ∙ itself_no_other e.1 in
+          let old : others (e ∷ es) ≡ others es = count_cons (λ (p : PathParts × Entry). is_other (first p.0) p.1) e es ∙ ap (λ b. cond b 1 0 + others es) none ∙ nothing_more (others es) in
+          count_cons (λ (p : PathParts × Entry). is_other (first p.0) p.1) (e.0, v) es ∙ (λ i. cond (is_other (first (sym here i)) v) 1 0 + sym old i)
+      by Greater o more =
+          let rest = more (f ∙ ap (λ r. cond (is_eq r) (Some e.1) (find path_cmp k es)) o) in
+          let one = count_cons (λ (p : PathParts × Entry). is_other (first p.0) p.1) e (put path_cmp k v es) in
+          let two = count_cons (λ (p : PathParts × Entry). is_other (first p.0) p.1) e es in
+          one ∙ ap (λ n. cond (is_other (first e.0) e.1) 1 0 + n) rest ∙ omega (arith, two)
+
+-- what is written is another entry just where it is greater
+written_other : (x : Option Entry) (y : Entry) → is_other x (unwrap_or (larger (Some y) x) y) ≡ is_rise x y
+written_other None y = refl
+written_other (Some x) y = by (entry_cmp y x) refl
+  where
+    by : (r : Ordering) → entry_cmp y x ≡ r → is_other (Some x) (unwrap_or (cond (is_gt r) (Some y) (Some x)) y) ≡ is_lt (entry_cmp x y)
+    by Less e = itself_no_other x ∙ sym (ap is_lt (entry_cmp_total.antisymm x y ∙ ap ordering_reverse e))
+    by Equal e = itself_no_other x ∙ sym (ap is_lt (entry_cmp_total.antisymm x y ∙ ap ordering_reverse e))
+    by Greater e =
+        let turned = entry_cmp_total.antisymm x y ∙ ap ordering_reverse e in
+        ap (λ r. not (is_eq r)) turned ∙ sym (ap is_lt turned)
+
+pub found_entry : (m : EntryMap) (q : PathParts) → finmap.get m q ≡ find path_cmp q (finmap.entries m)
+found_entry m q =
+    ap (λ (x : EntryMap). finmap.get x q) (sym (finmap.same_entries_map _ m (finmap.entries-from_sorted path_cmp (finmap.entries m) (finmap.entries_sorted m))))
+    ∙ finmap.get-from_sorted path_cmp (finmap.entries m) q (finmap.entries_sorted m)
+
+-- ---- entry by entry
+
+module _ (s : EntryMap) where
+  abbrev joined : List (PathParts × Entry) → EntryMap
+  joined es = join s (sum_of (map edit_of es))
+
+  greatest_none : (q : PathParts) (es : List (PathParts × Entry)) → IsTrue (below_all path_cmp q es) → IsTrue (is_sorted path_cmp es) → finmap.get (sum_of (map edit_of es)) q ≡ None
+  greatest_none q es b t =
+      ap (λ (x : EntryMap). finmap.get x q) (sum_of_sorted es t) ∙ finmap.get-from_sorted path_cmp es q (to_T _ t) ∙ find_below path_cmp q es b
+    where
+      sum_of_sorted : (es : List (PathParts × Entry)) → IsTrue (is_sorted path_cmp es) → sum_of (map edit_of es) ≡ finmap.from_sorted es
+      sum_of_sorted es t = ap (λ (x : List (PathParts × Entry)). sum_of (map edit_of x)) (sym (finmap.entries-from_sorted path_cmp es (to_T _ t))) ∙ sum_of-edits_of (finmap.from_sorted es)
+
+  module _ (e : PathParts × Entry) (es : List (PathParts × Entry)) (t : IsTrue (is_sorted path_cmp (e ∷ es))) where
+    untouched : finmap.get (joined es) e.0 ≡ finmap.get s e.0
+    untouched =
+        let p = and_parts _ _ t in
+        get-join s (sum_of (map edit_of es)) e.0 ∙ ap (larger (finmap.get s e.0)) (greatest_none e.0 es p.0 p.1) ∙ larger-None (finmap.get s e.0)
+
+    more : joined (e ∷ es) ≡ with_edit (joined es) (edit_of e)
+    more = sym (with_edit-of_join s (sum_of (map edit_of es)) (edit_of e))
+
+    pub more_changed : changed_paths s (joined (e ∷ es)) ≡ cond (is_rise (finmap.get s e.0) e.1) 1 0 + changed_paths s (joined es)
+    more_changed =
+        ap (changed_paths s) more
+        ∙ ap (λ (x : List (PathParts × Entry)). others (finmap.get s) e.0 e.1 x) (finmap.entries-insert path_cmp_total (joined es) e.0 _)
+        ∙ put_changes (finmap.get s) e.0 _ (finmap.entries (joined es)) (sym untouched ∙ found_there)
+        ∙ ap (λ b. cond b 1 0 + changed_paths s (joined es)) (ap (λ y. is_other (finmap.get s e.0) (unwrap_or (larger (Some e.1) y) e.1)) untouched ∙ written_other (finmap.get s e.0) e.1)
+      where
+        found_there : finmap.get (joined es) e.0 ≡ find path_cmp e.0 (finmap.entries (joined es))
+        found_there = found_entry (joined es) e.0
+
+    pub more_held : finmap.len (joined (e ∷ es)) ≡ cond (not (is_some (finmap.get s e.0))) 1 0 + finmap.len (joined es)
+    more_held =
+        ap (λ (x : EntryMap). finmap.len x) more ∙ finmap.len-insert path_cmp_total (joined es) e.0 _
+        ∙ ap (λ y. cond (is_some y) (finmap.len (joined es)) (finmap.len (joined es) + 1)) untouched
+        ∙ one (is_some (finmap.get s e.0)) (finmap.len (joined es))
+      where
+        one : (b : Bool) (n : ℕ) → cond b n (n + 1) ≡ cond (not b) 1 0 + n
+        one true n = omega arith
+        one false n = omega arith
+
+-- ---- all of them
+
+abbrev IsOneOf : PathParts × Entry → List (PathParts × Entry) → Type 0
+IsOneOf p [] = ⊥
+IsOneOf p (e ∷ es) = (e ≡ p) ⊎ IsOneOf p es
+
+own_below : (k : PathParts) (es : List (PathParts × Entry)) → IsTrue (below_all path_cmp k es) → (p : PathParts × Entry) → IsOneOf p es → eq_by_cmp path_cmp p.0 k ≡ false
+own_below k [] b p h = absurd h
+own_below k (e ∷ es) b p (inl h) = ap (λ (r : PathParts × Entry). eq_by_cmp path_cmp r.0 k) (sym h) ∙ ap is_eq (path_cmp_total.antisymm e.0 k ∙ ap ordering_reverse (is_less _ (and_parts _ _ b).0))
+own_below k (e ∷ es) b p (inr h) = own_below k es (and_parts _ _ b).1 p h
+
+find_own : (es : List (PathParts × Entry)) → IsTrue (is_sorted path_cmp es) → (p : PathParts × Entry) → IsOneOf p es → find path_cmp p.0 es ≡ Some p.1
+find_own [] s p h = absurd h
+find_own (e ∷ es) s p (inl h) = ap (λ (r : PathParts × Entry). cond (eq_by_cmp path_cmp r.0 e.0) (Some e.1) (find path_cmp r.0 es)) (sym h) ∙ ap (λ b. cond b (Some e.1) (find path_cmp e.0 es)) (same_path e.0) ∙ ap (λ (r : PathParts × Entry). Some r.1) h
+find_own (e ∷ es) s p (inr h) = ap (λ b. cond b (Some e.1) (find path_cmp p.0 es)) (own_below e.0 es (and_parts _ _ s).0 p h) ∙ find_own es (and_parts (below_all path_cmp e.0 es) _ s).1 p h
+
+none_other : (first : PathParts → Option Entry) (es : List (PathParts × Entry)) → ((p : PathParts × Entry) → IsOneOf p es → first p.0 ≡ Some p.1) → count_by (λ (p : PathParts × Entry). is_other (first p.0) p.1) es ≡ 0
+none_other first [] h = refl
+none_other first (e ∷ es) h =
+    count_cons _ e es ∙ ap (λ b. cond b 1 0 + count_by (λ (p : PathParts × Entry). is_other (first p.0) p.1) es) (ap (λ y. is_other y e.1) (h e (inl refl)) ∙ itself_no_other e.1)
+    ∙ nothing_more _ ∙ none_other first es (λ p a. h p (inr a))
+
+nothing_changed : (s : EntryMap) → changed_paths s s ≡ 0
+nothing_changed s = none_other (finmap.get s) (finmap.entries s) (λ p is. found_entry s p.0 ∙ find_own (finmap.entries s) (from_T _ (finmap.entries_sorted s)) p is)
+
+module _ (s : EntryMap) where
+  changed_by : (es : List (PathParts × Entry)) → IsTrue (is_sorted path_cmp es) → changed_paths s (joined s es) ≡ rises s es
+  changed_by [] t = ap (changed_paths s) (join-nothing s) ∙ nothing_changed s
+  changed_by (e ∷ es) t =
+      more_changed s e es t ∙ ap (λ n. cond (is_rise (finmap.get s e.0) e.1) 1 0 + n) (changed_by es (and_parts (below_all path_cmp e.0 es) _ t).1)
+      ∙ sym (count_cons _ e es)
+
+  held_by : (es : List (PathParts × Entry)) → IsTrue (is_sorted path_cmp es) → finmap.len (joined s es) ≡ additions s es + finmap.len s
+  held_by [] t = ap (λ (x : EntryMap). finmap.len x) (join-nothing s) ∙ sym (nothing_more (finmap.len s))
+  held_by (e ∷ es) t =
+      let rest = held_by es (and_parts (below_all path_cmp e.0 es) _ t).1 in
+      let one = count_cons (λ (p : PathParts × Entry). not (is_some (finmap.get s p.0))) e es in
+      more_held s e es t ∙ omega (arith, rest, one)
+
+  module _ (t : EntryMap) where
+    all_joined : joined s (finmap.entries t) ≡ join s t
+    all_joined = ap (join s) (sum_of-edits_of t)
+
+    -- a join changes as many paths as the other has greater entries
+    pub changed-join : changed_paths s (join s t) ≡ rises s (finmap.entries t)
+    changed-join = ap (changed_paths s) (sym all_joined) ∙ changed_by (finmap.entries t) (from_T _ (finmap.entries_sorted t))
+
+    -- and has as many more as there was nothing at
+    pub len-join : finmap.len (join s t) ≡ additions s (finmap.entries t) + finmap.len s
+    len-join = ap (λ (x : EntryMap). finmap.len x) (sym all_joined) ∙ held_by (finmap.entries t) (from_T _ (finmap.entries_sorted t))
+
+-- ---- counts that can't run over
+
+module _ (s : EntryMap) (n : ℕ) (p : PathParts × Entry) (rest all : List (PathParts × Entry)) where
+  pub room_changed : is_rise (finmap.get s p.0) p.1 ≡ true → n + rises s (p ∷ rest) ≡ rises s all → n + 1 ≤ length all
+  room_changed h e =
+      let one = count_cons (λ (x : PathParts × Entry). is_rise (finmap.get s x.0) x.1) p rest ∙ ap (λ b. cond b 1 0 + rises s rest) h in
+      let most = count_by-le-length (λ (x : PathParts × Entry). is_rise (finmap.get s x.0) x.1) all in
+      omega (arith, one, e, most)
+
+  pub room_added : finmap.get s p.0 ≡ None → n + additions s (p ∷ rest) ≡ additions s all → n + 1 ≤ length all
+  room_added h e =
+      let one = count_cons (λ (x : PathParts × Entry). not (is_some (finmap.get s x.0))) p rest ∙ ap (λ (y : Option Entry). cond (not (is_some y)) 1 0 + additions s rest) h in
+      let most = count_by-le-length (λ (x : PathParts × Entry). not (is_some (finmap.get s x.0))) all in
+      omega (arith, one, e, most)
+
+pub rise_none : (x : Option Entry) (y : Entry) → x ≡ None → is_rise x y ≡ true
+rise_none x y h = ap (λ (z : Option Entry). is_rise z y) h

@@ -1,0 +1,49 @@
+use Rattle.std.proofs.Common.{◌≡◌, ◌+◌, ap, sym, subst, ◌∙◌}
+use Rattle.std.specs.Prelude.{◌≤◌}
+use Rattle.edit_sums.specs.SumLaws.{store_below_refl, join-left}
+use Rattle.path_maps.proofs.Merges.{merged, merged_kept, merged_changes, part_kept, part_within, partly, rest_joined, rest_within, within_listed, within_fits, within_counted}
+use Rattle.path_maps.proofs.stores.Store.absorb.Goals as goal
+
+pub returns-in_default-clause-kept : goal.returns-in_default-clause-kept
+returns-in_default-clause-kept c = store_below_refl c.args.self.now
+
+pub returns-in_default-clause-within : goal.returns-in_default-clause-within
+returns-in_default-clause-within c = join-left c.args.self.now c.args.other
+
+pub invariant_of-self : goal.invariant_of-self
+invariant_of-self c =
+    rw c.max-self-inside.ensures
+    (merged_kept c.self.inside.ranks c.other.inside.ranks c.args.self.now c.args.other c.self.inside.len c.other.inside.len c.self.inside.high c.other.inside.high c.self.view_is c.other.view_is c.self.invariant c.other.invariant c.join_from.new.self c.join_from.ensures.valid c.in-Ok-join_from.ensures.ok c.in-Ok.len (c.in-Ok.ensures.sum ∙ ap (λ n. c.self.inside.len + n) c.count_changes-changes.ensures.added))
+
+pub count_entries-counts-requires-clause-paths : goal.count_entries-counts-requires-clause-paths
+count_entries-counts-requires-clause-paths c = within_listed c.self.inside.ranks c.other.inside.ranks c.args.self.now c.args.other c.self.inside.len c.other.inside.len c.self.inside.high c.other.inside.high c.self.view_is c.other.view_is c.self.invariant c.other.invariant c.join_from.new.self c.join_from.ensures.valid (part_within c.self.inside.ranks c.other.inside.ranks c.args.self.now c.args.other c.self.inside.len c.other.inside.len c.self.inside.high c.other.inside.high c.self.view_is c.other.view_is c.self.invariant c.other.invariant c.join_from.new.self c.join_from.ensures.valid (partly c.self.inside.ranks c.other.inside.ranks c.args.self.now c.args.other c.self.inside.len c.other.inside.len c.self.inside.high c.other.inside.high c.self.view_is c.other.view_is c.self.invariant c.other.invariant c.join_from.new.self c.join_from.ensures.valid c.in-Err.field-0.rest c.in-Err.ensures.rest_valid c.in-Err.ensures.refused))
+
+pub count_entries-counts-requires-clause-fits : goal.count_entries-counts-requires-clause-fits
+count_entries-counts-requires-clause-fits c = within_fits c.self.inside.ranks c.other.inside.ranks c.args.self.now c.args.other c.self.inside.len c.other.inside.len c.self.inside.high c.other.inside.high c.self.view_is c.other.view_is c.self.invariant c.other.invariant c.join_from.new.self c.join_from.ensures.valid (part_within c.self.inside.ranks c.other.inside.ranks c.args.self.now c.args.other c.self.inside.len c.other.inside.len c.self.inside.high c.other.inside.high c.self.view_is c.other.view_is c.self.invariant c.other.invariant c.join_from.new.self c.join_from.ensures.valid (partly c.self.inside.ranks c.other.inside.ranks c.args.self.now c.args.other c.self.inside.len c.other.inside.len c.self.inside.high c.other.inside.high c.self.view_is c.other.view_is c.self.invariant c.other.invariant c.join_from.new.self c.join_from.ensures.valid c.in-Err.field-0.rest c.in-Err.ensures.rest_valid c.in-Err.ensures.refused)) _ (subst (λ n. c.self.inside.len + n ≤ _) c.count_changes-changes.ensures.added c.in-Ok.ensures.within)
+
+pub count_entries-len-requires-clause-paths : goal.count_entries-len-requires-clause-paths
+count_entries-len-requires-clause-paths c = within_listed c.self.inside.ranks c.other.inside.ranks c.args.self.now c.args.other c.self.inside.len c.other.inside.len c.self.inside.high c.other.inside.high c.self.view_is c.other.view_is c.self.invariant c.other.invariant c.in-Err.field-0.rest c.in-Err.ensures.rest_valid (rest_within c.self.inside.ranks c.other.inside.ranks c.args.self.now c.args.other c.self.inside.len c.other.inside.len c.self.inside.high c.other.inside.high c.self.view_is c.other.view_is c.self.invariant c.other.invariant c.join_from.new.self c.join_from.ensures.valid c.in-Err.field-0.rest c.in-Err.ensures.rest_valid c.in-Err.ensures.refused)
+
+pub count_entries-len-requires-clause-fits : goal.count_entries-len-requires-clause-fits
+count_entries-len-requires-clause-fits c = within_fits c.self.inside.ranks c.other.inside.ranks c.args.self.now c.args.other c.self.inside.len c.other.inside.len c.self.inside.high c.other.inside.high c.self.view_is c.other.view_is c.self.invariant c.other.invariant c.in-Err.field-0.rest c.in-Err.ensures.rest_valid (rest_within c.self.inside.ranks c.other.inside.ranks c.args.self.now c.args.other c.self.inside.len c.other.inside.len c.self.inside.high c.other.inside.high c.self.view_is c.other.view_is c.self.invariant c.other.invariant c.join_from.new.self c.join_from.ensures.valid c.in-Err.field-0.rest c.in-Err.ensures.rest_valid c.in-Err.ensures.refused) _ (subst (λ n. c.self.inside.len + n ≤ _) c.count_changes-changes.ensures.added c.in-Ok.ensures.within)
+
+pub invariant_of-result : goal.invariant_of-result
+invariant_of-result c = within_counted c.self.inside.ranks c.other.inside.ranks c.args.self.now c.args.other c.self.inside.len c.other.inside.len c.self.inside.high c.other.inside.high c.self.view_is c.other.view_is c.self.invariant c.other.invariant c.in-Err.field-0.rest c.in-Err.ensures.rest_valid (rest_within c.self.inside.ranks c.other.inside.ranks c.args.self.now c.args.other c.self.inside.len c.other.inside.len c.self.inside.high c.other.inside.high c.self.view_is c.other.view_is c.self.invariant c.other.invariant c.join_from.new.self c.join_from.ensures.valid c.in-Err.field-0.rest c.in-Err.ensures.rest_valid c.in-Err.ensures.refused) c.count_entries-len.result.len c.count_entries-len.result.high c.count_entries-len.ensures.len c.count_entries-len.ensures.high
+
+pub invariant_of-self-in-Err : goal.invariant_of-self-in-Err
+invariant_of-self-in-Err c = within_counted c.self.inside.ranks c.other.inside.ranks c.args.self.now c.args.other c.self.inside.len c.other.inside.len c.self.inside.high c.other.inside.high c.self.view_is c.other.view_is c.self.invariant c.other.invariant c.join_from.new.self c.join_from.ensures.valid (part_within c.self.inside.ranks c.other.inside.ranks c.args.self.now c.args.other c.self.inside.len c.other.inside.len c.self.inside.high c.other.inside.high c.self.view_is c.other.view_is c.self.invariant c.other.invariant c.join_from.new.self c.join_from.ensures.valid (partly c.self.inside.ranks c.other.inside.ranks c.args.self.now c.args.other c.self.inside.len c.other.inside.len c.self.inside.high c.other.inside.high c.self.view_is c.other.view_is c.self.invariant c.other.invariant c.join_from.new.self c.join_from.ensures.valid c.in-Err.field-0.rest c.in-Err.ensures.rest_valid c.in-Err.ensures.refused)) c.count_entries-counts.result.len c.count_entries-counts.result.high c.count_entries-counts.ensures.len c.count_entries-counts.ensures.high
+
+pub returns-in-Ok-join_from-clause-ok : goal.returns-in-Ok-join_from-clause-ok
+returns-in-Ok-join_from-clause-ok c = merged c.self.inside.ranks c.other.inside.ranks c.args.self.now c.args.other c.self.inside.len c.other.inside.len c.self.inside.high c.other.inside.high c.self.view_is c.other.view_is c.self.invariant c.other.invariant c.join_from.new.self c.join_from.ensures.valid c.in-Ok-join_from.ensures.ok
+
+pub returns-in-Ok-join_from-clause-changed : goal.returns-in-Ok-join_from-clause-changed
+returns-in-Ok-join_from-clause-changed c = merged_changes c.self.inside.ranks c.other.inside.ranks c.args.self.now c.args.other c.self.inside.len c.other.inside.len c.self.inside.high c.other.inside.high c.self.view_is c.other.view_is c.self.invariant c.other.invariant c.join_from.new.self c.join_from.ensures.valid c.in-Ok-join_from.ensures.ok c.count_changes-changes.result.changed c.count_changes-changes.ensures.changed
+
+pub returns-in-Err-clause-kept : goal.returns-in-Err-clause-kept
+returns-in-Err-clause-kept c = part_kept c.self.inside.ranks c.other.inside.ranks c.args.self.now c.args.other c.self.inside.len c.other.inside.len c.self.inside.high c.other.inside.high c.self.view_is c.other.view_is c.self.invariant c.other.invariant c.join_from.new.self c.join_from.ensures.valid (partly c.self.inside.ranks c.other.inside.ranks c.args.self.now c.args.other c.self.inside.len c.other.inside.len c.self.inside.high c.other.inside.high c.self.view_is c.other.view_is c.self.invariant c.other.invariant c.join_from.new.self c.join_from.ensures.valid c.in-Err.field-0.rest c.in-Err.ensures.rest_valid c.in-Err.ensures.refused)
+
+pub returns-in-Err-clause-within : goal.returns-in-Err-clause-within
+returns-in-Err-clause-within c = part_within c.self.inside.ranks c.other.inside.ranks c.args.self.now c.args.other c.self.inside.len c.other.inside.len c.self.inside.high c.other.inside.high c.self.view_is c.other.view_is c.self.invariant c.other.invariant c.join_from.new.self c.join_from.ensures.valid (partly c.self.inside.ranks c.other.inside.ranks c.args.self.now c.args.other c.self.inside.len c.other.inside.len c.self.inside.high c.other.inside.high c.self.view_is c.other.view_is c.self.invariant c.other.invariant c.join_from.new.self c.join_from.ensures.valid c.in-Err.field-0.rest c.in-Err.ensures.rest_valid c.in-Err.ensures.refused)
+
+pub returns-in-Err-clause-rest : goal.returns-in-Err-clause-rest
+returns-in-Err-clause-rest c = rest_joined c.self.inside.ranks c.other.inside.ranks c.args.self.now c.args.other c.self.inside.len c.other.inside.len c.self.inside.high c.other.inside.high c.self.view_is c.other.view_is c.self.invariant c.other.invariant c.join_from.new.self c.join_from.ensures.valid c.in-Err.field-0.rest c.in-Err.ensures.rest_valid c.in-Err.ensures.refused

@@ -1,0 +1,41 @@
+//! What the entries of another store change.
+ghost use Rattle.std.specs.Prelude.{◌≡◌, ◌≤◌, length};
+ghost use Rattle.std.specs.FinMap as finmap;
+ghost use Rattle.path_maps.specs.Changes.{rises, additions};
+
+use crate::stores::Store;
+
+/// How many paths the entries of another store change, and at how many of them nothing is held.
+#[derive(Clone, Copy)]
+pub struct Changes {
+    pub changed: u64,
+    pub added: usize,
+}
+
+/// What joining another store changes. A search for each of its entries, without memory.
+pub fn count_changes(store: &Store, other: &Store) -> Changes
+    ensures changed { result.changed ≡ rises store.now (finmap.entries other.now) }
+    ensures added { result.added ≡ additions store.now (finmap.entries other.now) }
+{
+    let _most = other.len();
+    let mut others = other.entries();
+    let mut changes = Changes {
+        changed: 0,
+        added: 0,
+    };
+    while let Some(placed) = others.next_entry() {
+        let (rank, folder, name) = placed.parts();
+        match store.entry_at(rank, folder, name) {
+            None => {
+                changes.changed += 1;
+                changes.added += 1;
+            }
+            Some(entry) => {
+                if entry.cmp(placed.entry()).is_lt() {
+                    changes.changed += 1;
+                }
+            }
+        }
+    }
+    changes
+}
