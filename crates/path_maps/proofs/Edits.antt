@@ -33,9 +33,9 @@ pub nothing_kept : IsKept [] 0 0
 nothing_kept = record {
   ranks = record { sorted = refl; held = tt };
   counted = record {
-      paths = λ q h. absurd (none_held _ (ap (λ (s : EntryMap). finmap.get s q) nothing_is_empty ∙ finmap.get-empty path_cmp q) h);
-      counted = sym (ap (λ (s : EntryMap). finmap.len s) nothing_is_empty ∙ finmap.len-empty path_cmp Entry);
-      greatest = sym (ap high_of nothing_is_empty ∙ high_of-sum_of []);
+    paths = λ q h. absurd (none_held _ (ap (λ (s : EntryMap). finmap.get s q) nothing_is_empty ∙ finmap.get-empty path_cmp q) h);
+    counted = sym (ap (λ (s : EntryMap). finmap.len s) nothing_is_empty ∙ finmap.len-empty path_cmp Entry);
+    greatest = sym (ap high_of nothing_is_empty ∙ high_of-sum_of []);
   };
 }
 

@@ -87,6 +87,7 @@ ranks_one = maps_one nat_cmp FoldersBelow nat_cmp_total AreFolders nat_cmp-IsAnt
 pub flat_one : (a b : RankMap) → AreRanks a → AreRanks b → flat a ≡ flat b → a ≡ b
 flat_one a b is_a is_b e =
     let alike : (q : PathParts) → look_up a q ≡ look_up b q = λ q. sym (get-flat a is_a q) ∙ ap (λ (s : EntryMap). finmap.get s q) e ∙ get-flat b is_b q in
-    ranks_one a b is_a is_b
-    (ranks_from a b (λ q. subst (λ x. IsBelow (look_up a q) x) (alike q) (below_refl (look_up a q))),
-    ranks_from b a (λ q. subst (λ x. IsBelow (look_up b q) x) (sym (alike q)) (below_refl (look_up b q))))
+    ranks_one a b is_a is_b (
+      ranks_from a b (λ q. subst (λ x. IsBelow (look_up a q) x) (alike q) (below_refl (look_up a q))),
+      ranks_from b a (λ q. subst (λ x. IsBelow (look_up b q) x) (sym (alike q)) (below_refl (look_up b q))),
+    )

@@ -69,8 +69,8 @@ lengths (x ∷ xs) (y ∷ ys) s t h = by (path_cmp x.0 y.0) refl (lengths xs ys 
     by Less o rest all = absurd (none_some (find path_cmp x.0 (y ∷ ys)) (find_below path_cmp x.0 (y ∷ ys) (below_further x.0 y ys o below_y)) (h x.0 here))
     by Equal o rest all =
         let one = rest (λ q f. behind q y ys (eq_by_cmp path_cmp q y.0) refl
-            (λ e. apart x.0 q xs below_x f (ap (λ (p : PathParts). eq_by_cmp path_cmp p x.0) (tied q y.0 e) ∙ ap is_eq (path_cmp_total.antisymm y.0 x.0 ∙ ap ordering_reverse o)))
-            (h q (further q x xs (eq_by_cmp path_cmp q x.0) f))) in
+        (λ e. apart x.0 q xs below_x f (ap (λ (p : PathParts). eq_by_cmp path_cmp p x.0) (tied q y.0 e) ∙ ap is_eq (path_cmp_total.antisymm y.0 x.0 ∙ ap ordering_reverse o)))
+        (h q (further q x xs (eq_by_cmp path_cmp q x.0) f))) in
         omega (arith, one)
     by Greater o rest all =
         let less = path_cmp_total.antisymm y.0 x.0 ∙ ap ordering_reverse o in
@@ -85,7 +85,7 @@ held_above (Some x) (Some y) b h = refl
 pub len-below : (s t : EntryMap) → IsStoreBelow s t → finmap.len s ≤ finmap.len t
 len-below s t h =
     let one = lengths (finmap.entries s) (finmap.entries t) (from_T _ (finmap.entries_sorted s)) (from_T _ (finmap.entries_sorted t))
-        (λ q f. subst (λ (x : Option Entry). IsSome x) (found_entry t q) (held_above (finmap.get s q) (finmap.get t q) (h q) (subst (λ (x : Option Entry). IsSome x) (sym (found_entry s q)) f))) in
+    (λ q f. subst (λ (x : Option Entry). IsSome x) (found_entry t q) (held_above (finmap.get s q) (finmap.get t q) (h q) (subst (λ (x : Option Entry). IsSome x) (sym (found_entry s q)) f))) in
     let a = finmap.len-entries s in
     let b = finmap.len-entries t in
     omega (arith, one, a, b)

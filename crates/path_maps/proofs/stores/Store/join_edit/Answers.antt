@@ -27,6 +27,6 @@ pub returns-in_err-join_deep-clause-held : goal.returns-in_err-join_deep-clause-
 returns-in_err-join_deep-clause-held c held =
     let q : PathParts = record { rank = c.into_parts-rank.result.0; folder = c.into_parts-rank.result.1; name = c.into_parts-rank.result.2 } in
     let is_ok = c.in_err-join_deep.ensures.in_place tt
-        (held_there c.self.inside.ranks c.self.invariant.ranks c.args.self.now c.self.view_is q
-        (subst (λ (p : PathParts). IsSome (finmap.get c.args.self.now p)) (sym c.into_parts-rank.ensures.parts) held)) in
+    (held_there c.self.inside.ranks c.self.invariant.ranks c.args.self.now c.self.view_is q
+    (subst (λ (p : PathParts). IsSome (finmap.get c.args.self.now p)) (sym c.into_parts-rank.ensures.parts) held)) in
     cc (is_ok)
