@@ -2,7 +2,8 @@
 ghost use Rattle.std.specs.Prelude.{◌≡◌, ◌≤◌, ◌↔◌, ◌+◌, IsTrue, IsSome, IsOk, IfOk, OnOk, OnErr, IfErr, if◌then◌else◌};
 ghost use Rattle.std.specs.Option.{option_copied};
 ghost use Rattle.std.specs.FinMap as finmap;
-ghost use Rattle.edit_sums.specs.Sums.{changed_paths, high_of, join, with_edit, IsStoreBelow};
+ghost use Rattle.edit_sums.specs.Sums.{changed_paths, high_of, join, shown, sum_of, visible_at, with_edit, IsStoreBelow};
+ghost use Rattle.path_maps.specs.PathMaps.{AreRanks, flat};
 
 use crate::changes::count_changes;
 use crate::counts::{Counts, count_entries};
@@ -65,6 +66,17 @@ impl Store {
         }
     }
 
+    /// The sum of some edits: at each path the greatest of the edits there. O(n log n).
+    pub fn from_edits(alloc: Global, edits: &[Edit]) -> Result<Store, AllocError>
+        ensures sum { IfOk result (λ store. store ≡ sum_of edits.now) }
+    {
+        let mut store = Store::new(alloc);
+        for edit in edits {
+            store.join_edit(edit.try_clone()?)?;
+        }
+        Ok(store)
+    }
+
     /// The allocator that the store takes its memory from.
     pub fn allocator(&self) -> Global {
         self.ranks.allocator()
@@ -101,6 +113,33 @@ impl Store {
         let folders = self.ranks.get(&rank)?;
         let names = folders.get(folder)?;
         names.get(name)?.entry()
+    }
+
+    /// The visible content at a path: what is held there, if it is no removal. O(log n), without memory.
+    pub fn visible(&self, path: &Path) -> Option<&Content>
+        ensures visible { option_copied result ≡ visible_at self.now path.now }
+    {
+        content_shown(self.get(path)?)
+    }
+
+    /// The maps that the store is: they have its entries and no others. It takes no memory.
+    pub fn maps(&self) -> &RankMap
+        ensures maps { flat result.now ≡ self.now }
+        ensures ranks { AreRanks result.now }
+    {
+        &self.ranks
+    }
+
+    /// All paths held, in path order, those of removals too. It fails for want of memory alone, and copies no bytes.
+    pub fn list(&self) -> Result<Vec<Path>, AllocError>
+        ensures paths { IfOk result (λ paths. paths.items ≡ finmap.keys self.now) }
+    {
+        let mut paths = Vec::new(self.allocator());
+        let mut entries = self.entries();
+        while let Some(placed) = entries.next_entry() {
+            paths.push(placed.path()?)?;
+        }
+        Ok(paths)
     }
 
     /// All entries with their paths, one after another in path order, those of removals too.
@@ -237,4 +276,14 @@ fn sum_of_lens(len: usize, added: usize) -> Result<usize, AllocError>
     ensures within { IfOk result (λ sum. len + added ≤ usize.MAX) }
 {
     len.checked_add(added).ok_or(AllocError)
+}
+
+// The content of an entry that is no removal.
+fn content_shown(entry: &Entry) -> Option<&Content>
+    ensures shown { option_copied result ≡ shown entry.now }
+{
+    match &entry.content {
+        Content::Gone => None,
+        content => Some(content),
+    }
 }

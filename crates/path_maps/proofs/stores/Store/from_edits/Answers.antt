@@ -1,0 +1,14 @@
+use Rattle.std.proofs.Common.{◌≡◌, ◌++◌, ◌∷◌, [], ap, sym, ◌∙◌, take}
+use Rattle.std.proofs.lemmas.List.{take_more}
+use Rattle.edit_sums.specs.declared.entries.Edit.{Edit}
+use Rattle.edit_sums.specs.Sums.{EntryMap, sum_of, with_edit}
+use Rattle.edit_sums.specs.SumLaws.{sum_of-push}
+use Rattle.path_maps.proofs.stores.Store.from_edits.Goals as goal
+
+pub loop-edit-preserved : goal.loop-edit-preserved
+loop-edit-preserved c =
+    c.in_ok-join_edit.ensures.ok
+    ∙ ap (with_edit c.loop-edit.store) c.in_ok-try_clone.ensures.copy
+    ∙ ap (λ (s : EntryMap). with_edit s c.edit-item.result) c.loop-edit.invariant
+    ∙ sym (sum_of-push _ c.edit-item.result)
+    ∙ ap sum_of (sym (take_more c.args.edits.now c.loop-edit.edit-index c.edit-item.result c.loop-edit-test.true ∙ ap (λ (e : Edit). take c.loop-edit.edit-index c.args.edits.now ++ e ∷ []) (sym c.edit-item.is)))

@@ -1,0 +1,6 @@
+use Rattle.std.proofs.Common.{◌≡◌, take}
+use Rattle.edit_sums.specs.Sums.{sum_of}
+use Rattle.path_maps.proofs.stores.Store.from_edits.Given as goal
+
+abbrev pub invariant-loop-edit : goal.invariant-loop-edit
+invariant-loop-edit l = l.store ≡ sum_of (take l.edit-index l.edits)
