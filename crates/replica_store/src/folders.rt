@@ -22,7 +22,7 @@ fn from_folder<'a>(entries: &'a [(Path, Entry)], rank: u8, folder: &[u8]) -> &'a
     requires sorted { IsTrue (is_sorted path_cmp entries.now) }
     ensures held { result.now ≡ filter (λ p. not (is_lt (place_by rank folder.now p.0))) entries.now }
 {
-    let at = entries.partition_point(|pair| place(&pair.0, rank, folder).is_lt());
+    let at = entries.partition_point(|pair| folder_order(&pair.0, rank, folder).is_lt());
     &entries[at..]
 }
 
@@ -31,13 +31,13 @@ fn up_to_folder<'a>(entries: &'a [(Path, Entry)], rank: u8, folder: &[u8]) -> &'
     requires sorted { IsTrue (is_sorted path_cmp entries.now) }
     ensures held { result.now ≡ filter (λ p. is_le (place_by rank folder.now p.0)) entries.now }
 {
-    let at = entries.partition_point(|pair| place(&pair.0, rank, folder).is_le());
+    let at = entries.partition_point(|pair| folder_order(&pair.0, rank, folder).is_le());
     &entries[..at]
 }
 
 // Where a path stands: before a folder's paths, among them or behind them.
-fn place(path: &Path, rank: u8, folder: &[u8]) -> Ordering
-    ensures place { result ≡ place_by rank folder.now path.now }
+fn folder_order(path: &Path, rank: u8, folder: &[u8]) -> Ordering
+    ensures order { result ≡ place_by rank folder.now path.now }
 {
     path.rank().cmp(&rank).then(path.folder().cmp(&folder))
 }

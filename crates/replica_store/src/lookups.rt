@@ -21,15 +21,15 @@ pub fn pair_at<'a>(
     ensures found { option_copied result ≡ paired (path_at rank folder.now name.now)
         (find path_cmp (path_at rank folder.now name.now) entries.now) }
 {
-    match entries.binary_search_by(|pair| place(&pair.0, rank, folder, name)) {
+    match entries.binary_search_by(|pair| parts_order(&pair.0, rank, folder, name)) {
         Ok(at) => Some(&entries[at]),
         Err(_) => None,
     }
 }
 
 // Where a path stands: before the one of these parts, at it or behind it.
-fn place(path: &Path, rank: u8, folder: &[u8], name: &[u8]) -> Ordering
-    ensures place { result ≡ path_cmp path.now (path_at rank folder.now name.now) }
+fn parts_order(path: &Path, rank: u8, folder: &[u8], name: &[u8]) -> Ordering
+    ensures order { result ≡ path_cmp path.now (path_at rank folder.now name.now) }
 {
     let within = path.folder().cmp(&folder).then(path.name().cmp(&name));
     path.rank().cmp(&rank).then(within)

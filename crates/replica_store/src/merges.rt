@@ -77,7 +77,7 @@ fn drop_tied(rest: &mut VecDeque<(Path, Entry)>, path: &Path)
 }
 
 // Puts an entry at its path, in place of what is held there.
-fn place(
+fn put_entry(
     passed: &mut Vec<(Path, Entry)>,
     rest: &mut VecDeque<(Path, Entry)>,
     path: Path,
@@ -120,7 +120,7 @@ fn join_copies(
         pass_below(passed, rest, path);
         if rises(rest, path, entry) {
             let copy = path.try_clone()?;
-            place(passed, rest, copy, entry.try_clone()?);
+            put_entry(passed, rest, copy, entry.try_clone()?);
             changed += 1;
         }
     }
@@ -144,7 +144,7 @@ fn join_moved(
     while let Some((path, entry)) = other.pop_front() {
         pass_below(passed, rest, &path);
         if rises(rest, &path, &entry) {
-            place(passed, rest, path, entry);
+            put_entry(passed, rest, path, entry);
             changed += 1;
         }
     }

@@ -42,8 +42,8 @@ loop-path-preserved c =
     let m = subst (λ left. Merges c.args.rest.now.items c.args.other.now c.loop-path.passed.items c.loop-path.rest.items left c.loop-path.changed) at c.loop-path.invariant.merges in
     elim c.if-rises.branch [
       | then-rises+in_ok-copy+in_ok-try_clone w ↦
-          let placed = rw (w.in_ok-copy.ensures.copy, w.in_ok-try_clone.ensures.copy) at w.place.ensures.passed in
-          let pairs = rw (w.in_ok-copy.ensures.copy, w.in_ok-try_clone.ensures.copy) at w.place.ensures.pairs in
+          let placed = rw (w.in_ok-copy.ensures.copy, w.in_ok-try_clone.ensures.copy) at w.put_entry.ensures.passed in
+          let pairs = rw (w.in_ok-copy.ensures.copy, w.in_ok-try_clone.ensures.copy) at w.put_entry.ensures.pairs in
           rw (w.passed-is, w.rest-is, w.changed-is) (record {
             merges = merges_with _ _ _ _ item.0 item.1 _ _ m c.pass_below.new.passed.items c.pass_below.new.rest.items c.pass_below.ensures.pairs c.pass_below.ensures.below c.pass_below.ensures.next (sym w.if-rises.ensures.rises) _ _ placed pairs;
             room = omega arith;

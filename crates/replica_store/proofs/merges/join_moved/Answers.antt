@@ -21,7 +21,7 @@ pub loop-path-preserved-then-rises : goal.loop-path-preserved-then-rises
 loop-path-preserved-then-rises c =
     let m = subst (λ left. Merges c.args.rest.now.items c.args.other.items c.loop-path.passed.items c.loop-path.rest.items left c.loop-path.changed) c.in-Some.ensures.items c.loop-path.invariant.merges in
     record {
-      merges = merges_with _ _ _ _ c.in-Some.path c.in-Some.entry _ _ m c.pass_below.new.passed.items c.pass_below.new.rest.items c.pass_below.ensures.pairs c.pass_below.ensures.below c.pass_below.ensures.next (sym c.if-rises.ensures.rises) _ _ c.place.ensures.passed c.place.ensures.pairs;
+      merges = merges_with _ _ _ _ c.in-Some.path c.in-Some.entry _ _ m c.pass_below.new.passed.items c.pass_below.new.rest.items c.pass_below.ensures.pairs c.pass_below.ensures.below c.pass_below.ensures.next (sym c.if-rises.ensures.rises) _ _ c.put_entry.ensures.passed c.put_entry.ensures.pairs;
       room = omega (arith, c.in-Some.ensures.len);
       few = omega (arith, c.in-Some.ensures.len);
     }

@@ -2,7 +2,7 @@ use Rattle.std.proofs.Common.{ap, sym, ◌∙◌, ◌++◌, [], ◌∷◌, appen
 use Rattle.load_path.specs.Paths.{path_cmp}
 use Rattle.load_path.specs.PathLaws.{path_cmp_total}
 use Rattle.sorted_pairs.specs.PlaceLaws.{put_behind}
-use Rattle.replica_store.proofs.merges.place.Goals as goal
+use Rattle.replica_store.proofs.merges.put_entry.Goals as goal
 
 pub returns-clause-pairs : goal.returns-clause-pairs
 returns-clause-pairs c =
