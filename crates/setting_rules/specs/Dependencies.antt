@@ -1,4 +1,5 @@
 -- The units that a unit's settings name.
+-- Source: systemd.unit(5), "[Unit] Section Options"; that a template takes the instance or the prefix is this project's own.
 use Rattle.std.specs.Prelude.{if◌then◌else◌, Option, Some, None, Result, Ok, Err, List, codes, map}
 use Rattle.std.specs.List.{flat_map, filter_map}
 use Rattle.std.specs.Result.{result_ok}

@@ -1,4 +1,5 @@
 -- What one assignment does to the values of its key, and what was kept of the values before an assignment.
+-- Source: this project's own.
 use Rattle.std.specs.Prelude.{ℕ, Bool, ◌&&◌, not, if◌then◌else◌, Option, Some, None, is_some, List, [], ◌∷◌, ◌++◌}
 use Rattle.section_reader.specs.declared.assignments.Assignment.{Assignment}
 use Rattle.setting_rules.specs.declared.keys.SettingKey.{SettingKey}

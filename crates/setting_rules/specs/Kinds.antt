@@ -1,4 +1,5 @@
 -- The kinds of dependencies.
+-- Source: systemd.unit(5), "Mapping of unit properties to their inverses".
 use Rattle.std.specs.Prelude.{ℕ, Bool, true, false, Option, List, [], ◌∷◌, codes, find, filter}
 use Rattle.std.specs.List.{flat_map}
 use Rattle.std.specs.Str.{bytes_eq}

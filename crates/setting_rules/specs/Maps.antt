@@ -1,4 +1,5 @@
 -- The values of keys, as a list of pairs in which each key stands once.
+-- Source: this project's own.
 use Rattle.std.specs.Prelude.{ℕ, suc, Bool, ◌&&◌, if◌then◌else◌, Option, Some, None, List, [], ◌∷◌, map, find}
 use Rattle.std.specs.Str.{bytes_eq}
 use Rattle.setting_rules.specs.declared.keys.SettingKey.{SettingKey}

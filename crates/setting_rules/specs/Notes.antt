@@ -1,4 +1,5 @@
 -- How notes on settings are spelled.
+-- Source: this project's own.
 use Rattle.std.specs.Prelude.{ℕ, List, codes}
 use Rattle.setting_rules.specs.declared.notes.SettingNoteKind.{SettingNoteKind}
 use Rattle.setting_rules.specs.declared.notes.SettingNoteKind.TheVariants.{BadBoolean, BadEscape, BadName}

@@ -1,4 +1,5 @@
 -- The rows of a unit's settings: the values with the specifiers of its name expanded.
+-- Source: systemd.unit(5), "Specifiers".
 use Rattle.std.specs.Prelude.{Bool, if◌then◌else◌, is_none, List, [], map, filter}
 use Rattle.std.specs.List.{flat_map, filter_map}
 use Rattle.unit_name.specs.Names.{Name}

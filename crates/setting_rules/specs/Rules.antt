@@ -1,4 +1,5 @@
 -- How the values of a key count, and what booleans say.
+-- Source: systemd.unit(5), "[Unit] Section Options" and "Conditions and Asserts"; systemd.syntax(7), "Introduction", for booleans.
 use Rattle.std.specs.Prelude.{ℕ, Bool, true, false, ◌||◌, if◌then◌else◌, Option, Some, None, is_some, List, [], ◌∷◌, nat_eq, codes}
 use Rattle.std.specs.List.{starts_with}
 use Rattle.std.specs.Str.{bytes_eq, str_eq_ignore_ascii_case}

@@ -1,4 +1,5 @@
 -- The values that count, said of the whole list of a unit's assignments and of the last reset in it.
+-- Source: systemd.syntax(7), "Introduction", for empty values; systemd.unit(5), "Conditions and Asserts", for families.
 use Rattle.std.specs.Prelude.{◌-◌, Bool, true, false, ◌&&◌, not, if◌then◌else◌, is_some, is_none, List, [], ◌∷◌, map, filter, length, drop}
 use Rattle.std.specs.List.{list_any}
 use Rattle.section_reader.specs.declared.assignments.Assignment.{Assignment}

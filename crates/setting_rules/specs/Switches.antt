@@ -1,4 +1,5 @@
 -- Whether a unit refuses a manual start.
+-- Source: systemd.unit(5), "[Unit] Section Options".
 use Rattle.std.specs.Prelude.{◌-◌, Bool, false, Option, Some, None, unwrap_or, List, codes, length, slice_get}
 use Rattle.setting_rules.specs.declared.keys.SettingKey.{SettingKey}
 use Rattle.setting_rules.specs.Maps.{SettingMap, values_at}

@@ -1,4 +1,5 @@
 -- What the words of a dependency's values name.
+-- Source: systemd.unit(5), "[Unit] Section Options"; that quotes mean nothing is this project's own.
 use Rattle.std.specs.Prelude.{ℕ, Option, Some, if◌then◌else◌, List, filter}
 use Rattle.std.specs.List.{slice_split}
 use Rattle.unit_name.specs.declared.names.Shape.{Shape}
