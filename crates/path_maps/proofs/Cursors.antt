@@ -1,15 +1,15 @@
 -- What is left behind the first name, folder or rank.
-use Rattle.std.proofs.Common.{◌≡◌, ◌≢◌, ℕ, List, [], ◌∷◌, ◌++◌, Option, Some, None, refl, sym, ap, subst, ◌∙◌}
+use Rattle.std.proofs.Common.{◌≡◌, ◌≢◌, ℕ, List, [], ◌∷◌, ◌++◌, refl, sym, subst}
 use Rattle.join_law.specs.declared.versions.Versioned.{Versioned}
 use Rattle.join_law.specs.declared.versions.Versioned.TheVariants.{Never, At}
 use Rattle.join_law.specs.Order.{IsLeast}
-use Rattle.join_law.specs.VersionOrder.{IsUpTo, written}
+use Rattle.join_law.specs.VersionOrder.{IsUpTo}
 use Rattle.join_law.specs.VersionedLaws.{never_least}
-use Rattle.join_law.specs.Maps.{IsHeld, AllHeld}
+use Rattle.join_law.specs.Maps.{AllHeld}
 use Rattle.edit_sums.specs.declared.contents.Content.{Content}
 use Rattle.edit_sums.specs.Contents.{content_cmp}
 use Rattle.edit_sums.specs.Entries.{Entry}
-use Rattle.load_path.specs.Paths.{PathParts, IsPath}
+use Rattle.load_path.specs.Paths.{IsPath}
 use Rattle.path_maps.specs.Spread.{AllKeys}
 use Rattle.path_maps.specs.PathMaps.{NameMap, FolderMap, RankMap, NamesBelow, FoldersBelow, AreNames, AreFolders, at_name, in_folder, in_rank, listed}
 use Rattle.path_maps.specs.Cursors.{AreNamesLeft, AreFoldersLeft, AreRanksLeft}

@@ -1,10 +1,9 @@
 -- One edit more.
-use Rattle.std.proofs.Common.{◌≡◌, ◌⊎◌, inl, inr, ℕ, Bool, true, false, cond, List, [], ◌∷◌, Option, Some, None, IsTrue, IsSome, refl, sym, ap, subst, ◌∙◌, arith}
+use Rattle.std.proofs.Common.{◌≡◌, ℕ, Bool, true, false, cond, [], ◌∷◌, Option, Some, None, IsSome, refl, sym, ap, subst, ◌∙◌, arith}
 use Rattle.std.specs.Prelude.{max, length, ◌+◌}
-use Rattle.std.specs.Ordering.{eq_by_cmp, nat_cmp}
+use Rattle.std.specs.Ordering.{eq_by_cmp}
 use Rattle.std.specs.Cmp.Lexicographic.{nat_list_cmp_total}
 use Rattle.std.specs.FinMap as finmap
-use Rattle.std.specs.FinMap.Entries.{find}
 use Rattle.join_law.specs.declared.versions.Versioned.TheVariants.{At}
 use Rattle.join_law.specs.Order.{IsJoin}
 use Rattle.join_law.specs.VersionedLaws.{not_least}
@@ -19,7 +18,7 @@ use Rattle.edit_sums.specs.Sums.{EntryMap, entry_of, with_edit, sum_of, join, hi
 use Rattle.edit_sums.specs.SumLaws.{same_store, with_edit-join}
 use Rattle.edit_sums.specs.GreatestLaws.{get-with_edit, get-sum_of, tied}
 use Rattle.edit_sums.specs.CounterLaws.{high_of-join, high_of-sum_of}
-use Rattle.path_maps.specs.PathMaps.{RankMap, bytes_cmp, NamesBelow, FoldersBelow, RanksBelow, AreNames, AreFolders, AreRanks, flat}
+use Rattle.path_maps.specs.PathMaps.{RankMap, bytes_cmp, NamesBelow, RanksBelow, AreNames, AreFolders, AreRanks, flat}
 use Rattle.path_maps.specs.PathMapLaws.{flat-join}
 use Rattle.path_maps.specs.Kept.{IsCounted, IsKept}
 

@@ -1,5 +1,5 @@
 -- The list of all entries, and what is held.
-use Rattle.std.proofs.Common.{◌≡◌, ◌⊎◌, inl, inr, Bool, true, false, cond, List, [], ◌∷◌, Option, Some, None, IsSome, refl, sym, ap, subst, ◌∙◌, ℕ}
+use Rattle.std.proofs.Common.{◌≡◌, ◌⊎◌, inl, inr, Bool, true, false, cond, List, [], ◌∷◌, Option, Some, IsSome, refl, sym, ap, subst, ◌∙◌, ℕ}
 use Rattle.std.specs.Ordering.{eq_by_cmp}
 use Rattle.std.specs.FinMap as finmap
 use Rattle.std.specs.FinMap.Entries.{find}
@@ -11,7 +11,7 @@ use Rattle.edit_sums.specs.GreatestLaws.{same_path}
 use Rattle.path_maps.specs.Spread.{AllKeys}
 use Rattle.path_maps.specs.PathMaps.{RankMap, AreRanks, flat, listed}
 use Rattle.path_maps.specs.PathMapLaws.{listed_sorted, entries-flat}
-use Rattle.path_maps.specs.Kept.{IsCounted, IsKept}
+use Rattle.path_maps.specs.Kept.{IsKept}
 
 abbrev IsKeyOf : PathParts → List (PathParts × Entry) → Type 0
 IsKeyOf q [] = ⊥

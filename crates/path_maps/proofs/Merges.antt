@@ -1,14 +1,13 @@
 -- What a store keeps when another is joined, or is joined in part.
-use Rattle.std.proofs.Common.{◌≡◌, ◌⊎◌, inl, inr, ℕ, ◌+◌, ◌≤◌, Option, Some, None, IsSome, refl, sym, ap, subst, ◌∙◌, arith, length, List}
+use Rattle.std.proofs.Common.{◌≡◌, ◌⊎◌, inl, inr, ℕ, ◌+◌, ◌≤◌, Option, IsSome, sym, ap, subst, ◌∙◌, arith, length}
 use Rattle.std.specs.Prelude.{max}
 use Rattle.std.specs.FinMap as finmap
-use Rattle.std.specs.FinMap.Entries.{find}
 use Rattle.join_law.specs.Order.{IsJoin, IsBetween, IsPartialJoin}
-use Rattle.load_path.specs.Paths.{PathParts, IsPath, path_cmp}
-use Rattle.edit_sums.specs.Entries.{Entry, IsBelow, larger}
+use Rattle.load_path.specs.Paths.{PathParts, IsPath}
+use Rattle.edit_sums.specs.Entries.{Entry, larger}
 use Rattle.edit_sums.specs.EntryLaws.{larger_cases}
-use Rattle.edit_sums.specs.Sums.{EntryMap, join, high_of, changed_paths, greatest_counter, IsStoreBelow}
-use Rattle.edit_sums.specs.SumLaws.{store_below_refl, store_below_trans, store_below_antisym, join-left, join-right, join-least}
+use Rattle.edit_sums.specs.Sums.{EntryMap, join, changed_paths, greatest_counter, IsStoreBelow}
+use Rattle.edit_sums.specs.SumLaws.{store_below_trans, store_below_antisym, join-left, join-right, join-least}
 use Rattle.edit_sums.specs.GreatestLaws.{get-join}
 use Rattle.edit_sums.specs.CounterLaws.{high_of-join}
 use Rattle.path_maps.specs.Spread.{AllKeys}

@@ -1,5 +1,5 @@
 -- A join changes the paths of greater entries, and has as many more as there was nothing at.
-use Rattle.std.proofs.Common.{◌≡◌, ◌⊎◌, inl, inr, ℕ, ◌+◌, ◌≤◌, Bool, true, false, cond, List, [], ◌∷◌, ◌++◌, Option, Some, None, IsTrue, refl, sym, ap, subst, ◌∙◌, arith, map, length}
+use Rattle.std.proofs.Common.{◌≡◌, ◌⊎◌, inl, inr, ℕ, ◌+◌, ◌≤◌, Bool, true, false, cond, List, [], ◌∷◌, Option, Some, None, IsTrue, refl, sym, ap, ◌∙◌, arith, map, length}
 use Rattle.std.specs.Prelude.{not, is_some, unwrap_or, count_by}
 use Rattle.std.proofs.lemmas.List.Sums.{sum_by-cons, count_by-le-length}
 use Rattle.std.proofs.lemmas.Bool.{and_parts}
@@ -13,12 +13,11 @@ use Rattle.list_laws.specs.Truths.{to_T, from_T}
 use Rattle.list_laws.specs.Orderings.{is_less}
 use Rattle.load_path.specs.Paths.{PathParts, path_cmp}
 use Rattle.load_path.specs.PathLaws.{path_cmp_total, path_cmp-IsAntisymmetric}
-use Rattle.edit_sums.specs.Entries.{Entry, entry_cmp, IsBelow, larger}
+use Rattle.edit_sums.specs.Entries.{Entry, entry_cmp, larger}
 use Rattle.edit_sums.specs.EntryLaws.{entry_cmp_total, larger-None}
-use Rattle.edit_sums.specs.declared.entries.Edit.{Edit}
-use Rattle.edit_sums.specs.Sums.{EntryMap, is_other, changed_paths, edit_of, entry_of, edits_of, with_edit, sum_of, join}
+use Rattle.edit_sums.specs.Sums.{EntryMap, is_other, changed_paths, edit_of, with_edit, sum_of, join}
 use Rattle.edit_sums.specs.SumLaws.{sum_of-edits_of, with_edit-of_join, join-nothing}
-use Rattle.edit_sums.specs.GreatestLaws.{get-join, get-sum_of, greatest_at-edits_of, same_path}
+use Rattle.edit_sums.specs.GreatestLaws.{get-join, same_path}
 use Rattle.path_maps.specs.SpreadLaws.{find_below}
 use Rattle.path_maps.specs.Changes.{is_rise, rises, additions}
 

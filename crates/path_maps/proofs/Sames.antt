@@ -1,5 +1,5 @@
 -- Maps of maps that hold the same are the same.
-use Rattle.std.proofs.Common.{◌≡◌, ℕ, List, [], ◌∷◌, Option, Some, None, refl, sym, ap, subst, ◌∙◌}
+use Rattle.std.proofs.Common.{◌≡◌, ℕ, List, [], Option, Some, None, sym, ap, subst, ◌∙◌}
 use Rattle.std.specs.Ordering.{nat_cmp}
 use Rattle.std.specs.Cmp.{nat_cmp_total}
 use Rattle.std.specs.Cmp.Lexicographic.{nat_list_cmp_total}
@@ -9,10 +9,9 @@ use Rattle.std.specs.FinMap.Entries.{find}
 use Rattle.std.specs.declared.cmp.Ordering.TheVariants.{Equal}
 use Rattle.join_law.specs.declared.versions.Versioned.{Versioned}
 use Rattle.join_law.specs.declared.versions.Versioned.TheVariants.{Never, At}
-use Rattle.join_law.specs.Order.{IsLeast}
 use Rattle.join_law.specs.VersionOrder.{IsUpTo, written_at}
 use Rattle.join_law.specs.VersionedLaws.{never_least, up_to_itself, up_to_chain, both_up}
-use Rattle.join_law.specs.Maps.{MapBelow, OptionBelow, or_empty}
+use Rattle.join_law.specs.Maps.{OptionBelow, or_empty}
 use Rattle.join_law.specs.MapLaws.{map_itself, map_chain}
 use Rattle.join_law.specs.MapOneLaws.{maps_one}
 use Rattle.edit_sums.specs.declared.contents.Content.{Content}

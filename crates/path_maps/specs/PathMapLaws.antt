@@ -1,9 +1,9 @@
 -- What the map from paths to entries holds, and what joins of maps of maps are in it.
-use Rattle.std.specs.Prelude.{◌≡◌, ℕ, List, [], ◌∷◌, Option, Some, None, Bool, true, false, cond, refl, IsTrue, ◌↔◌}
+use Rattle.std.specs.Prelude.{◌≡◌, ℕ, List, [], ◌∷◌, Option, Some, None, true, false, cond, refl, IsTrue, ◌↔◌}
 use Rattle.std.specs.Option.{option_and_then}
 use Rattle.std.specs.Ordering.{nat_cmp, ordering_then, eq_by_cmp, is_eq}
-use Rattle.std.specs.Cmp.{nat_cmp_total, tied_itself, IsTotalOrder}
-use Rattle.std.specs.Cmp.Lexicographic.{slice_cmp, nat_list_cmp_total}
+use Rattle.std.specs.Cmp.{nat_cmp_total, tied_itself}
+use Rattle.std.specs.Cmp.Lexicographic.{nat_list_cmp_total}
 use Rattle.std.specs.FinMap as finmap
 use Rattle.std.specs.FinMap.{slice_cmp-IsAntisymmetric, nat_cmp-IsAntisymmetric}
 use Rattle.std.specs.FinMap.Entries.{find, is_sorted}
@@ -11,13 +11,12 @@ use Rattle.std.proofs.Common.{ap, sym, subst, ◌∙◌}
 use Rattle.std.specs.declared.cmp.Ordering.{Ordering}
 use Rattle.std.specs.declared.cmp.Ordering.TheVariants.{Less, Equal}
 use Rattle.list_laws.specs.Truths.{to_T}
-use Rattle.list_laws.specs.Orderings.{is_equal}
 use Rattle.join_law.specs.declared.versions.Versioned.{Versioned}
 use Rattle.join_law.specs.declared.versions.Versioned.TheVariants.{Never, At}
 use Rattle.join_law.specs.VersionOrder.{IsUpTo, written, written_at, versioned_max}
 use Rattle.join_law.specs.VersionedLaws.{up_to_itself, up_to_chain, max_joins}
 use Rattle.join_law.specs.Order.{IsJoin, IsBetween}
-use Rattle.join_law.specs.Maps.{IsMap, MapBelow, AllHeld, IsHeld, or_empty, map_union}
+use Rattle.join_law.specs.Maps.{AllHeld, or_empty, map_union}
 use Rattle.join_law.specs.MapLaws.{map_itself, map_chain}
 use Rattle.join_law.specs.UnionLaws.{union_joins}
 use Rattle.join_law.specs.LevelLaws.{level_below, level_join, level_between, level_bounds}
@@ -27,8 +26,8 @@ use Rattle.load_path.specs.PathLaws.{path_cmp-IsAntisymmetric}
 use Rattle.edit_sums.specs.declared.contents.Content.{Content}
 use Rattle.edit_sums.specs.Contents.{content_cmp}
 use Rattle.edit_sums.specs.ContentLaws.{content_cmp_total, content_cmp-IsAntisymmetric}
-use Rattle.edit_sums.specs.Entries.{Entry, IsBelow, larger}
-use Rattle.edit_sums.specs.Sums.{EntryMap, IsStoreBelow, join}
+use Rattle.edit_sums.specs.Entries.{IsBelow, larger}
+use Rattle.edit_sums.specs.Sums.{IsStoreBelow, join}
 use Rattle.edit_sums.specs.SumLaws.{same_store}
 use Rattle.edit_sums.specs.GreatestLaws.{get-join}
 use Rattle.path_maps.specs.Spread.{spread, AllKeys, AllValues}

@@ -1,4 +1,4 @@
-use Rattle.std.proofs.Common.{◌≡◌, ◌+◌, List, ◌∷◌, Option, ap, sym, subst, ◌∙◌, arith}
+use Rattle.std.proofs.Common.{◌≡◌, ◌+◌, List, Option, ap, sym, subst, ◌∙◌, arith}
 use Rattle.std.specs.FinMap as finmap
 use Rattle.std.specs.Ordering.{is_lt}
 use Rattle.load_path.specs.Paths.{PathParts}

@@ -1,4 +1,4 @@
-use Rattle.std.proofs.Common.{◌≡◌, ◌+◌, ap, sym, subst, ◌∙◌}
+use Rattle.std.proofs.Common.{◌+◌, ap, subst, ◌∙◌}
 use Rattle.std.specs.Prelude.{◌≤◌}
 use Rattle.edit_sums.specs.SumLaws.{store_below_refl, join-left}
 use Rattle.path_maps.proofs.Merges.{merged, merged_kept, merged_changes, part_kept, part_within, partly, rest_joined, rest_within, within_listed, within_fits, within_counted}

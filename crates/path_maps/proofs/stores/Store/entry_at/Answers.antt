@@ -1,9 +1,6 @@
-use Rattle.std.proofs.Common.{◌≡◌, ℕ, List, None, Some, ap, sym, ◌∙◌}
+use Rattle.std.proofs.Common.{ℕ, List, None, ap, sym, ◌∙◌}
 use Rattle.std.specs.Option.{option_copied}
-use Rattle.std.specs.Ordering.{nat_cmp}
-use Rattle.std.specs.FinMap.Entries.{find}
 use Rattle.load_path.specs.Paths.{PathParts}
-use Rattle.path_maps.specs.PathMaps.{FolderMap, NameMap, bytes_cmp}
 use Rattle.path_maps.proofs.LookUps.{no_rank, no_folder, no_name, at_name_of, held_is}
 use Rattle.path_maps.proofs.stores.Store.entry_at.Goals as goal
 

@@ -1,11 +1,7 @@
-use Rattle.std.proofs.Common.{◌≡◌, ap, sym, subst, ◌∙◌}
+use Rattle.std.proofs.Common.{sym, subst}
 use Rattle.std.specs.Prelude.{IsSome}
 use Rattle.std.specs.FinMap as finmap
 use Rattle.load_path.specs.Paths.{PathParts}
-use Rattle.edit_sums.specs.declared.entries.Edit.{Edit}
-use Rattle.edit_sums.specs.Sums.{EntryMap, with_edit}
-use Rattle.path_maps.specs.Kept.{IsCounted, IsKept}
-use Rattle.path_maps.specs.PathMaps.{flat}
 use Rattle.path_maps.proofs.Edits.{joined_edit, kept_edit}
 use Rattle.path_maps.proofs.LookUps.{held_there}
 use Rattle.path_maps.proofs.stores.Store.join_edit.Goals as goal
