@@ -10,8 +10,8 @@ ghost use Rattle.fleet_script.specs.Does.{if_any};
 ghost use Rattle.fleet_script.specs.Holds.{Continues, Executes, IsJoinedAt, kept_in};
 
 use crate::states::Shell;
-use delta_pieces::{Piece, delta_at, delta_for, digest, digest_at};
 use byte_strings::Bytes;
+use delta_pieces::{Piece, delta_at, delta_for, digest, digest_at};
 use load_path::Path;
 use replica_store::Replica;
 use script_answers::{merge_done, part_done};

@@ -7,8 +7,8 @@ ghost use Rattle.fleet_script.specs.Holds.{Continues, Executes, Goes, HasNoNode,
 ghost use Rattle.fleet_script.specs.Scripts.{AnswersLine};
 
 use crate::states::Shell;
-use edit_sums::Content;
 use byte_strings::Bytes;
+use edit_sums::Content;
 use load_path::Path;
 use replica_store::Replica;
 use script_answers::{list_files, put_done, refused};
@@ -158,7 +158,7 @@ impl Shell {
     fn execute<R: AllocGlobal>(&mut self, rt: &R, line: &[u8]) -> Result<Vec<u8>, Fault>
         ensures done { Goes (kept_in self.old) (kept_in self.new) (λ before outcome after.
             MatchResult (command_of line.now) (λ command. Does before command outcome after)
-                (λ refusal. Refuses before refusal outcome after)) result }
+            (λ refusal. Refuses before refusal outcome after)) result }
     {
         let alloc = rt.alloc();
         match parse(line)? {

@@ -28,7 +28,7 @@ pub fn scripts_are_honest()
     ensures sums { (lines : List (List ℕ)) (written : List ℕ) (world : ScriptWorld) →
         Run blank lines written world
         → (k : ℕ) (node : worlds.Node) → slice_get (state world).nodes k ≡ Some node →
-            node.store ≡ held world k }
+        node.store ≡ held world k }
 {}
 
 /// Each counter is at most the number of lines so far, of edits as of stores. So no command of a

@@ -1,6 +1,6 @@
 //! What the shell keeps.
-use delta_pieces::Piece;
 use byte_strings::Bytes;
+use delta_pieces::Piece;
 use replica_store::Replica;
 use std::collections::{BTreeMap, BTreeSet};
 

@@ -79,7 +79,7 @@ fn hex_digit(digit: u8) -> u8
 pub fn unescape(alloc: Global, text: &[u8]) -> Result<Option<Vec<u8>>, AllocError>
     ensures unescaped { IfOk result
         (λ found. MatchOption found (unescape text.now ≡ None) (λ bytes.
-            unescape text.now ≡ Some bytes.items)) }
+        unescape text.now ≡ Some bytes.items)) }
 {
     let mut bytes = Vec::new(alloc);
     let is_whole = push_unescaped(&mut bytes, text)?;

@@ -66,7 +66,12 @@ fn append_pair(
 fn map_text(alloc: Global, map: &Numbers) -> Result<Vec<u8>, CallFault> {
     let mut out = Vec::new(alloc);
     for (key, value) in map.pairs() {
-        append_pair(alloc, &mut out, format!(in alloc; "{key}")?.as_bytes(), value)?;
+        append_pair(
+            alloc,
+            &mut out,
+            format!(in alloc; "{key}")?.as_bytes(),
+            value,
+        )?;
     }
     if out.is_empty() {
         out.extend_from_slice(b"none")?;

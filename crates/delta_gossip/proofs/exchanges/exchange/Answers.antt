@@ -11,14 +11,14 @@ returns-in_err-first-clause-err c =
     on_err {P = AreBeingJoined c.args.a.now c.args.b.now c.merge.new.self c.args.b.now} _
     (record {
       first = record {
-          writer = c.in_err-first.ensures.writer;
-          kept = c.in_err-first.ensures.kept;
-          within = rw c.store.ensures.store at c.in_err-first.ensures.within;
+        writer = c.in_err-first.ensures.writer;
+        kept = c.in_err-first.ensures.kept;
+        within = rw c.store.ensures.store at c.in_err-first.ensures.within;
       };
       second = record {
-          writer = refl;
-          kept = store_below_refl c.args.b.now.store;
-          within = join-right c.args.a.now.store c.args.b.now.store;
+        writer = refl;
+        kept = store_below_refl c.args.b.now.store;
+        within = join-right c.args.a.now.store c.args.b.now.store;
       };
       again = rw c.store.ensures.store at c.in_err-first.ensures.again;
     })
@@ -28,16 +28,16 @@ returns-in_err-second-clause-err c =
     on_err {P = AreBeingJoined c.args.a.now c.args.b.now c.merge.new.self c.merge-2.new.self} _
     (record {
       first = record {
-          writer = ap (λ (r : Replicated). r.writer) c.in_ok-first.ensures.ok;
-          kept = rw (c.in_ok-first.ensures.ok, c.store.ensures.store) (join-left c.args.a.now.store c.args.b.now.store);
-          within = rw (c.in_ok-first.ensures.ok, c.store.ensures.store) (store_below_refl (join c.args.a.now.store c.args.b.now.store));
+        writer = ap (λ (r : Replicated). r.writer) c.in_ok-first.ensures.ok;
+        kept = rw (c.in_ok-first.ensures.ok, c.store.ensures.store) (join-left c.args.a.now.store c.args.b.now.store);
+        within = rw (c.in_ok-first.ensures.ok, c.store.ensures.store) (store_below_refl (join c.args.a.now.store c.args.b.now.store));
       };
       second = record {
-          writer = c.in_err-second.ensures.writer;
-          kept = c.in_err-second.ensures.kept;
-          within =
-              joined_within c.args.a.now c.args.b.now c.merge.new.self c.merge-2.new.self c.store.result.now c.store-2.result.now
-              c.store.ensures.store c.in_ok-first.ensures.ok c.store-2.ensures.store c.in_err-second.ensures.within;
+        writer = c.in_err-second.ensures.writer;
+        kept = c.in_err-second.ensures.kept;
+        within =
+            joined_within c.args.a.now c.args.b.now c.merge.new.self c.merge-2.new.self c.store.result.now c.store-2.result.now
+            c.store.ensures.store c.in_ok-first.ensures.ok c.store-2.ensures.store c.in_err-second.ensures.within;
       };
       again =
           joined_again c.args.a.now c.args.b.now c.merge.new.self c.merge-2.new.self c.store.result.now c.store-2.result.now
