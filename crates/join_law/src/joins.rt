@@ -51,7 +51,7 @@ pub trait Join: Drop {
     /// Joins copies of what another value has more than this one.
     ///
     /// It fails for want of memory alone, and not where this value has all of the other already.
-    /// This value then lies between what it was and the join, and the same call may be made again;
+    /// This value has then part of what the join adds, and calling again with the same gives the rest;
     /// where `other` is single, this value is unchanged.
     fn join_copy(&mut self, other: &Self) -> Result<(), AllocError>
         ensures ok { OnOk result (IsJoin below self.old other.now self.new) }

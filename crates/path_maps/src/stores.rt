@@ -192,7 +192,7 @@ impl Store {
     /// then it costs what is news and a search for each, or one pass over both, whichever is less. Copies of entries
     /// share their bytes.
     ///
-    /// Where memory is refused, the store lies between what it was and the join, and the same call may be made again.
+    /// Where memory is refused, the store has part of what the join adds, and calling again with the same gives the rest.
     pub fn merge(&mut self, other: &Store) -> Result<u64, AllocError>
         ensures ok { OnOk result (self.new ≡ join self.old other.now) }
         ensures changed { IfOk result (λ changed. changed ≡ changed_paths self.old self.new) }
