@@ -20,8 +20,10 @@ fn join_pair_copy<K: Key, V: Join>(
     requires map { IsMap K.cmp V.below V.is_valid pairs.old.items }
     requires held { IsHeld V.below V.is_valid value.now }
     ensures map { IsMap K.cmp V.below V.is_valid pairs.new.items }
-    ensures ok { OnOk result (IsJoin (MapBelow K.cmp V.below) pairs.old.items ((key.now, value.now) ∷ []) pairs.new.items) }
-    ensures refused { OnErr result (IsBetween (MapBelow K.cmp V.below) pairs.old.items ((key.now, value.now) ∷ []) pairs.new.items) }
+    ensures ok { OnOk result (IsJoin (MapBelow K.cmp V.below) pairs.old.items
+        ((key.now, value.now) ∷ []) pairs.new.items) }
+    ensures refused { OnErr result (IsBetween (MapBelow K.cmp V.below) pairs.old.items
+        ((key.now, value.now) ∷ []) pairs.new.items) }
     ensures single { OnErr result (V.is_single value.now → pairs.new.items ≡ pairs.old.items) }
     ensures known { MapBelow K.cmp V.below ((key.now, value.now) ∷ []) pairs.old.items → IsOk result }
 {
@@ -47,10 +49,12 @@ fn join_held_copy<K: Key, V: Join>(
 ) -> Result<bool, AllocError>
     requires map { IsMap K.cmp V.below V.is_valid pairs.old.items }
     ensures map { IsMap K.cmp V.below V.is_valid pairs.new.items }
-    ensures ok { IfOk result (λ held. OnTrue held (IsJoin (MapBelow K.cmp V.below) pairs.old.items ((key.now, value.now) ∷ []) pairs.new.items)) }
+    ensures ok { IfOk result (λ held. OnTrue held (IsJoin (MapBelow K.cmp V.below) pairs.old.items
+        ((key.now, value.now) ∷ []) pairs.new.items)) }
     ensures absent { IfOk result (λ held. OnFalse held (find K.cmp key.now pairs.old.items ≡ None)) }
     ensures unchanged { IfOk result (λ held. OnFalse held (pairs.new.items ≡ pairs.old.items)) }
-    ensures refused { OnErr result (IsBetween (MapBelow K.cmp V.below) pairs.old.items ((key.now, value.now) ∷ []) pairs.new.items) }
+    ensures refused { OnErr result (IsBetween (MapBelow K.cmp V.below) pairs.old.items
+        ((key.now, value.now) ∷ []) pairs.new.items) }
     ensures single { OnErr result (V.is_single value.now → pairs.new.items ≡ pairs.old.items) }
     ensures known { MapBelow K.cmp V.below ((key.now, value.now) ∷ []) pairs.old.items → IsOk result }
 {
@@ -73,7 +77,8 @@ fn join_each_copy<K: Key, V: Join>(
     requires other_map { IsMap K.cmp V.below V.is_valid other.now }
     ensures map { IsMap K.cmp V.below V.is_valid pairs.new.items }
     ensures ok { OnOk result (IsJoin (MapBelow K.cmp V.below) pairs.old.items other.now pairs.new.items) }
-    ensures refused { OnErr result (IsBetween (MapBelow K.cmp V.below) pairs.old.items other.now pairs.new.items) }
+    ensures refused { OnErr result (IsBetween (MapBelow K.cmp V.below) pairs.old.items other.now
+        pairs.new.items) }
     ensures single { OnErr result (IsSinglePair V.is_single other.now → pairs.new.items ≡ pairs.old.items) }
 {
     for pair in other {
@@ -92,7 +97,8 @@ fn join_new_copies<K: Key, V: Join>(
     requires other_map { IsMap K.cmp V.below V.is_valid other.now }
     ensures map { IsMap K.cmp V.below V.is_valid pairs.new.items }
     ensures ok { OnOk result (IsJoin (MapBelow K.cmp V.below) pairs.old.items other.now pairs.new.items) }
-    ensures refused { OnErr result (IsBetween (MapBelow K.cmp V.below) pairs.old.items other.now pairs.new.items) }
+    ensures refused { OnErr result (IsBetween (MapBelow K.cmp V.below) pairs.old.items other.now
+        pairs.new.items) }
     ensures single { OnErr result (IsSinglePair V.is_single other.now → pairs.new.items ≡ pairs.old.items) }
 {
     if other.len() <= 1 || other.len() < pairs.len() / 64 {
@@ -112,7 +118,8 @@ pub fn join_copies<K: Key, V: Join>(
     requires other_map { IsMap K.cmp V.below V.is_valid other.now }
     ensures map { IsMap K.cmp V.below V.is_valid pairs.new.items }
     ensures ok { OnOk result (IsJoin (MapBelow K.cmp V.below) pairs.old.items other.now pairs.new.items) }
-    ensures refused { OnErr result (IsBetween (MapBelow K.cmp V.below) pairs.old.items other.now pairs.new.items) }
+    ensures refused { OnErr result (IsBetween (MapBelow K.cmp V.below) pairs.old.items other.now
+        pairs.new.items) }
     ensures single { OnErr result (IsSinglePair V.is_single other.now → pairs.new.items ≡ pairs.old.items) }
     ensures known { MapBelow K.cmp V.below other.now pairs.old.items → IsOk result }
 {

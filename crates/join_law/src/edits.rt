@@ -19,9 +19,11 @@ pub fn join_pair<K: Key, V: Join>(
 ) -> Result<(), Rest<(K, V)>>
     requires { IsMap K.cmp V.below V.is_valid pairs.old.items }
     ensures map { IsMap K.cmp V.below V.is_valid pairs.new.items }
-    ensures ok { OnOk result (IsJoin (MapBelow K.cmp V.below) pairs.old.items ((key, value) ∷ []) pairs.new.items) }
+    ensures ok { OnOk result (IsJoin (MapBelow K.cmp V.below) pairs.old.items
+        ((key, value) ∷ []) pairs.new.items) }
     ensures key { IfErr result (λ fault. fault.rest.0 ≡ key) }
-    ensures refused { IfErr result (λ fault. IsPartialJoin (MapBelow K.cmp V.below) pairs.old.items ((key, value) ∷ []) pairs.new.items (fault.rest ∷ [])) }
+    ensures refused { IfErr result (λ fault. IsPartialJoin (MapBelow K.cmp V.below) pairs.old.items
+        ((key, value) ∷ []) pairs.new.items (fault.rest ∷ [])) }
     ensures left { IfErr result (λ fault. ¬ IsLeast V.below fault.rest.1) }
     ensures rest_valid { IfErr result (λ fault. V.is_valid fault.rest.1) }
     ensures single { IfErr result (λ _. V.is_single value → pairs.new.items ≡ pairs.old.items) }
@@ -51,9 +53,12 @@ fn join_each_pair<K: Key, V: Join>(pairs: &mut Vec<(K, V)>, other: &mut Vec<(K, 
     requires other_map { IsMap K.cmp V.below V.is_valid other.old.items }
     ensures map { IsMap K.cmp V.below V.is_valid pairs.new.items }
     ensures other_map { IsMap K.cmp V.below V.is_valid other.new.items }
-    ensures ok { OnTrue result (IsJoin (MapBelow K.cmp V.below) pairs.old.items other.old.items pairs.new.items) }
-    ensures refused { OnFalse result (IsPartialJoin (MapBelow K.cmp V.below) pairs.old.items other.old.items pairs.new.items other.new.items) }
-    ensures single { OnFalse result (IsSinglePair V.is_single other.old.items → pairs.new.items ≡ pairs.old.items) }
+    ensures ok { OnTrue result (IsJoin (MapBelow K.cmp V.below) pairs.old.items other.old.items
+        pairs.new.items) }
+    ensures refused { OnFalse result (IsPartialJoin (MapBelow K.cmp V.below) pairs.old.items other.old.items
+        pairs.new.items other.new.items) }
+    ensures single { OnFalse result (IsSinglePair V.is_single other.old.items →
+        pairs.new.items ≡ pairs.old.items) }
 {
     while let Some((key, value)) = other.pop() {
         if let Err(Rest { rest }) = join_pair(pairs, key, value) {
@@ -74,9 +79,12 @@ pub fn join_pairs<K: Key, V: Join>(pairs: &mut Vec<(K, V)>, other: &mut Vec<(K, 
     requires other_map { IsMap K.cmp V.below V.is_valid other.old.items }
     ensures map { IsMap K.cmp V.below V.is_valid pairs.new.items }
     ensures other_map { IsMap K.cmp V.below V.is_valid other.new.items }
-    ensures ok { OnTrue result (IsJoin (MapBelow K.cmp V.below) pairs.old.items other.old.items pairs.new.items) }
-    ensures refused { OnFalse result (IsPartialJoin (MapBelow K.cmp V.below) pairs.old.items other.old.items pairs.new.items other.new.items) }
-    ensures single { OnFalse result (IsSinglePair V.is_single other.old.items → pairs.new.items ≡ pairs.old.items) }
+    ensures ok { OnTrue result (IsJoin (MapBelow K.cmp V.below) pairs.old.items other.old.items
+        pairs.new.items) }
+    ensures refused { OnFalse result (IsPartialJoin (MapBelow K.cmp V.below) pairs.old.items other.old.items
+        pairs.new.items other.new.items) }
+    ensures single { OnFalse result (IsSinglePair V.is_single other.old.items →
+        pairs.new.items ≡ pairs.old.items) }
 {
     if pairs.is_empty() {
         mem::swap(pairs, other);

@@ -128,7 +128,8 @@ impl<K: Key, V: Join> JoinMap<K, V> {
     pub fn join_at(&mut self, key: K, value: V) -> Result<(), Rest<(K, V)>>
         ensures ok { OnOk result (IsJoin (MapBelow K.cmp V.below) self.old ((key, value) ∷ []) self.new) }
         ensures key { IfErr result (λ fault. fault.rest.0 ≡ key) }
-        ensures refused { IfErr result (λ fault. IsPartialJoin (MapBelow K.cmp V.below) self.old ((key, value) ∷ []) self.new (fault.rest ∷ [])) }
+        ensures refused { IfErr result (λ fault. IsPartialJoin (MapBelow K.cmp V.below) self.old
+            ((key, value) ∷ []) self.new (fault.rest ∷ [])) }
         ensures left { IfErr result (λ fault. ¬ IsLeast V.below fault.rest.1) }
         ensures rest_valid { IfErr result (λ fault. V.is_valid fault.rest.1) }
         ensures single { IfErr result (λ _. V.is_single value → self.new ≡ self.old) }

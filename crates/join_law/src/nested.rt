@@ -20,10 +20,13 @@ fn join_within<K: Key, L: Key, V: Join>(
     requires map { IsMap K.cmp (MapBelow L.cmp V.below) (IsMap L.cmp V.below V.is_valid) pairs.old.items }
     requires held { IsHeld V.below V.is_valid value }
     ensures map { IsMap K.cmp (MapBelow L.cmp V.below) (IsMap L.cmp V.below V.is_valid) pairs.new.items }
-    ensures ok { OnOk result (IsJoin (MapBelow K.cmp (MapBelow L.cmp V.below)) pairs.old.items ((key, (inner, value) ∷ []) ∷ []) pairs.new.items) }
-    ensures refused { OnErr result (IsBetween (MapBelow K.cmp (MapBelow L.cmp V.below)) pairs.old.items ((key, (inner, value) ∷ []) ∷ []) pairs.new.items) }
+    ensures ok { OnOk result (IsJoin (MapBelow K.cmp (MapBelow L.cmp V.below)) pairs.old.items
+        ((key, (inner, value) ∷ []) ∷ []) pairs.new.items) }
+    ensures refused { OnErr result (IsBetween (MapBelow K.cmp (MapBelow L.cmp V.below)) pairs.old.items
+        ((key, (inner, value) ∷ []) ∷ []) pairs.new.items) }
     ensures single { OnErr result (V.is_single value → pairs.new.items ≡ pairs.old.items) }
-    ensures in_place { V.joins_in_place → IsSome (find L.cmp inner (or_empty (find K.cmp key pairs.old.items))) → IsOk result }
+    ensures in_place { V.joins_in_place →
+        IsSome (find L.cmp inner (or_empty (find K.cmp key pairs.old.items))) → IsOk result }
 {
     match seek(pairs, &key) {
         Ok(at) => {
@@ -49,13 +52,19 @@ fn join_deep<K: Key, L: Key, M: Key, V: Join>(
     innermost: M,
     value: V,
 ) -> Result<(), AllocError>
-    requires map { IsMap K.cmp (MapBelow L.cmp (MapBelow M.cmp V.below)) (IsMap L.cmp (MapBelow M.cmp V.below) (IsMap M.cmp V.below V.is_valid)) pairs.old.items }
+    requires map { IsMap K.cmp (MapBelow L.cmp (MapBelow M.cmp V.below))
+        (IsMap L.cmp (MapBelow M.cmp V.below) (IsMap M.cmp V.below V.is_valid)) pairs.old.items }
     requires held { IsHeld V.below V.is_valid value }
-    ensures map { IsMap K.cmp (MapBelow L.cmp (MapBelow M.cmp V.below)) (IsMap L.cmp (MapBelow M.cmp V.below) (IsMap M.cmp V.below V.is_valid)) pairs.new.items }
-    ensures ok { OnOk result (IsJoin (MapBelow K.cmp (MapBelow L.cmp (MapBelow M.cmp V.below))) pairs.old.items ((key, (inner, (innermost, value) ∷ []) ∷ []) ∷ []) pairs.new.items) }
-    ensures refused { OnErr result (IsBetween (MapBelow K.cmp (MapBelow L.cmp (MapBelow M.cmp V.below))) pairs.old.items ((key, (inner, (innermost, value) ∷ []) ∷ []) ∷ []) pairs.new.items) }
+    ensures map { IsMap K.cmp (MapBelow L.cmp (MapBelow M.cmp V.below))
+        (IsMap L.cmp (MapBelow M.cmp V.below) (IsMap M.cmp V.below V.is_valid)) pairs.new.items }
+    ensures ok { OnOk result (IsJoin (MapBelow K.cmp (MapBelow L.cmp (MapBelow M.cmp V.below)))
+        pairs.old.items ((key, (inner, (innermost, value) ∷ []) ∷ []) ∷ []) pairs.new.items) }
+    ensures refused { OnErr result (IsBetween (MapBelow K.cmp (MapBelow L.cmp (MapBelow M.cmp V.below)))
+        pairs.old.items ((key, (inner, (innermost, value) ∷ []) ∷ []) ∷ []) pairs.new.items) }
     ensures single { OnErr result (V.is_single value → pairs.new.items ≡ pairs.old.items) }
-    ensures in_place { V.joins_in_place → IsSome (find M.cmp innermost (or_empty (find L.cmp inner (or_empty (find K.cmp key pairs.old.items))))) → IsOk result }
+    ensures in_place { V.joins_in_place →
+        IsSome (find M.cmp innermost (or_empty
+        (find L.cmp inner (or_empty (find K.cmp key pairs.old.items))))) → IsOk result }
 {
     match seek(pairs, &key) {
         Ok(at) => {
@@ -81,10 +90,13 @@ impl<K: Key, L: Key, V: Join> JoinMap<K, JoinMap<L, V>> {
     /// where the value is single, it is unchanged. Where both keys are held, it takes no memory but
     /// that of the value's join.
     pub fn join_within(&mut self, key: K, inner: L, value: V) -> Result<(), AllocError>
-        ensures ok { OnOk result (IsJoin (MapBelow K.cmp (MapBelow L.cmp V.below)) self.old ((key, (inner, value) ∷ []) ∷ []) self.new) }
-        ensures refused { OnErr result (IsBetween (MapBelow K.cmp (MapBelow L.cmp V.below)) self.old ((key, (inner, value) ∷ []) ∷ []) self.new) }
+        ensures ok { OnOk result (IsJoin (MapBelow K.cmp (MapBelow L.cmp V.below)) self.old
+            ((key, (inner, value) ∷ []) ∷ []) self.new) }
+        ensures refused { OnErr result (IsBetween (MapBelow K.cmp (MapBelow L.cmp V.below)) self.old
+            ((key, (inner, value) ∷ []) ∷ []) self.new) }
         ensures single { OnErr result (V.is_single value → self.new ≡ self.old) }
-        ensures in_place { V.joins_in_place → IsSome (find L.cmp inner (or_empty (find K.cmp key self.old))) → IsOk result }
+        ensures in_place { V.joins_in_place → IsSome (find L.cmp inner (or_empty (find K.cmp key self.old)))
+            → IsOk result }
         ensures map { IsMap K.cmp (MapBelow L.cmp V.below) (IsMap L.cmp V.below V.is_valid) self.new }
     {
         let pairs = &mut self.pairs;
@@ -103,11 +115,15 @@ impl<K: Key, L: Key, M: Key, V: Join> JoinMap<K, JoinMap<L, JoinMap<M, V>>> {
     /// where the value is single, it is unchanged. Where all three keys are held, it takes no memory
     /// but that of the value's join.
     pub fn join_deep(&mut self, key: K, inner: L, innermost: M, value: V) -> Result<(), AllocError>
-        ensures ok { OnOk result (IsJoin (MapBelow K.cmp (MapBelow L.cmp (MapBelow M.cmp V.below))) self.old ((key, (inner, (innermost, value) ∷ []) ∷ []) ∷ []) self.new) }
-        ensures refused { OnErr result (IsBetween (MapBelow K.cmp (MapBelow L.cmp (MapBelow M.cmp V.below))) self.old ((key, (inner, (innermost, value) ∷ []) ∷ []) ∷ []) self.new) }
+        ensures ok { OnOk result (IsJoin (MapBelow K.cmp (MapBelow L.cmp (MapBelow M.cmp V.below))) self.old
+            ((key, (inner, (innermost, value) ∷ []) ∷ []) ∷ []) self.new) }
+        ensures refused { OnErr result (IsBetween (MapBelow K.cmp (MapBelow L.cmp (MapBelow M.cmp V.below)))
+            self.old ((key, (inner, (innermost, value) ∷ []) ∷ []) ∷ []) self.new) }
         ensures single { OnErr result (V.is_single value → self.new ≡ self.old) }
-        ensures in_place { V.joins_in_place → IsSome (find M.cmp innermost (or_empty (find L.cmp inner (or_empty (find K.cmp key self.old))))) → IsOk result }
-        ensures map { IsMap K.cmp (MapBelow L.cmp (MapBelow M.cmp V.below)) (IsMap L.cmp (MapBelow M.cmp V.below) (IsMap M.cmp V.below V.is_valid)) self.new }
+        ensures in_place { V.joins_in_place → IsSome (find M.cmp innermost
+            (or_empty (find L.cmp inner (or_empty (find K.cmp key self.old))))) → IsOk result }
+        ensures map { IsMap K.cmp (MapBelow L.cmp (MapBelow M.cmp V.below))
+            (IsMap L.cmp (MapBelow M.cmp V.below) (IsMap M.cmp V.below V.is_valid)) self.new }
     {
         let pairs = &mut self.pairs;
         if value.is_bottom() {

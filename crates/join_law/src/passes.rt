@@ -39,9 +39,12 @@ fn place_copy<K: Key, V: Join>(
     requires below { AreBelow K.cmp key.now passed.old.items }
     requires next { IsNotBelow K.cmp key.now ahead.old.items }
     ensures map { IsMap K.cmp V.below V.is_valid (passed.new.items ++ ahead.new.items) }
-    ensures ok { OnOk result (IsJoin (MapBelow K.cmp V.below) (passed.old.items ++ ahead.old.items) ((key.now, value.now) ∷ []) (passed.new.items ++ ahead.new.items)) }
-    ensures refused { OnErr result (IsBetween (MapBelow K.cmp V.below) (passed.old.items ++ ahead.old.items) ((key.now, value.now) ∷ []) (passed.new.items ++ ahead.new.items)) }
-    ensures single { OnErr result (V.is_single value.now → passed.new.items ++ ahead.new.items ≡ passed.old.items ++ ahead.old.items) }
+    ensures ok { OnOk result (IsJoin (MapBelow K.cmp V.below) (passed.old.items ++ ahead.old.items)
+        ((key.now, value.now) ∷ []) (passed.new.items ++ ahead.new.items)) }
+    ensures refused { OnErr result (IsBetween (MapBelow K.cmp V.below) (passed.old.items ++ ahead.old.items)
+        ((key.now, value.now) ∷ []) (passed.new.items ++ ahead.new.items)) }
+    ensures single { OnErr result (V.is_single value.now → passed.new.items ++ ahead.new.items ≡
+        passed.old.items ++ ahead.old.items) }
     ensures below { (next : K) → K.cmp key.now next ≡ Less → AreBelow K.cmp next passed.new.items }
     ensures len { vec_len passed.new + deque_len ahead.new ≤ vec_len passed.old + deque_len ahead.old + 1 }
     ensures capacity { vec_capacity passed.old ≤ vec_capacity passed.new }
@@ -71,12 +74,16 @@ fn place_pair<K: Key, V: Join>(
     requires below { AreBelow K.cmp key passed.old.items }
     requires next { IsNotBelow K.cmp key ahead.old.items }
     ensures map { IsMap K.cmp V.below V.is_valid (passed.new.items ++ ahead.new.items) }
-    ensures ok { OnOk result (IsJoin (MapBelow K.cmp V.below) (passed.old.items ++ ahead.old.items) ((key, value) ∷ []) (passed.new.items ++ ahead.new.items)) }
+    ensures ok { OnOk result (IsJoin (MapBelow K.cmp V.below) (passed.old.items ++ ahead.old.items)
+        ((key, value) ∷ []) (passed.new.items ++ ahead.new.items)) }
     ensures key { IfErr result (λ fault. fault.rest.0 ≡ key) }
-    ensures refused { IfErr result (λ fault. IsPartialJoin (MapBelow K.cmp V.below) (passed.old.items ++ ahead.old.items) ((key, value) ∷ []) (passed.new.items ++ ahead.new.items) (fault.rest ∷ [])) }
+    ensures refused { IfErr result (λ fault. IsPartialJoin (MapBelow K.cmp V.below)
+        (passed.old.items ++ ahead.old.items) ((key, value) ∷ []) (passed.new.items ++ ahead.new.items)
+        (fault.rest ∷ [])) }
     ensures left { IfErr result (λ fault. ¬ IsLeast V.below fault.rest.1) }
     ensures rest_valid { IfErr result (λ fault. V.is_valid fault.rest.1) }
-    ensures single { IfErr result (λ _. V.is_single value → passed.new.items ++ ahead.new.items ≡ passed.old.items ++ ahead.old.items) }
+    ensures single { IfErr result (λ _. V.is_single value → passed.new.items ++ ahead.new.items ≡
+        passed.old.items ++ ahead.old.items) }
     ensures below { (next : K) → K.cmp key next ≡ Less → AreBelow K.cmp next passed.new.items }
     ensures len { vec_len passed.new + deque_len ahead.new ≤ vec_len passed.old + deque_len ahead.old + 1 }
     ensures capacity { vec_capacity passed.old ≤ vec_capacity passed.new }
@@ -106,9 +113,12 @@ fn pass_pairs<K: Key, V: Join>(
     requires other_map { IsMap K.cmp V.below V.is_valid other.old.items }
     ensures map { IsMap K.cmp V.below V.is_valid (passed.new.items ++ ahead.new.items) }
     ensures other_map { IsMap K.cmp V.below V.is_valid other.new.items }
-    ensures ok { OnTrue result (IsJoin (MapBelow K.cmp V.below) ahead.old.items other.old.items (passed.new.items ++ ahead.new.items)) }
-    ensures refused { OnFalse result (IsPartialJoin (MapBelow K.cmp V.below) ahead.old.items other.old.items (passed.new.items ++ ahead.new.items) other.new.items) }
-    ensures single { OnFalse result (IsSinglePair V.is_single other.old.items → passed.new.items ++ ahead.new.items ≡ ahead.old.items) }
+    ensures ok { OnTrue result (IsJoin (MapBelow K.cmp V.below) ahead.old.items other.old.items
+        (passed.new.items ++ ahead.new.items)) }
+    ensures refused { OnFalse result (IsPartialJoin (MapBelow K.cmp V.below) ahead.old.items other.old.items
+        (passed.new.items ++ ahead.new.items) other.new.items) }
+    ensures single { OnFalse result (IsSinglePair V.is_single other.old.items →
+        passed.new.items ++ ahead.new.items ≡ ahead.old.items) }
     ensures room { vec_len passed.new + deque_len ahead.new ≤ vec_capacity passed.new }
 {
     while let Some((key, value)) = other.pop_front() {
@@ -135,9 +145,12 @@ fn pass_copies<K: Key, V: Join>(
     requires map { IsMap K.cmp V.below V.is_valid ahead.old.items }
     requires other_map { IsMap K.cmp V.below V.is_valid other.now }
     ensures map { IsMap K.cmp V.below V.is_valid (passed.new.items ++ ahead.new.items) }
-    ensures ok { OnOk result (IsJoin (MapBelow K.cmp V.below) ahead.old.items other.now (passed.new.items ++ ahead.new.items)) }
-    ensures refused { OnErr result (IsBetween (MapBelow K.cmp V.below) ahead.old.items other.now (passed.new.items ++ ahead.new.items)) }
-    ensures single { OnErr result (IsSinglePair V.is_single other.now → passed.new.items ++ ahead.new.items ≡ ahead.old.items) }
+    ensures ok { OnOk result (IsJoin (MapBelow K.cmp V.below) ahead.old.items other.now
+        (passed.new.items ++ ahead.new.items)) }
+    ensures refused { OnErr result (IsBetween (MapBelow K.cmp V.below) ahead.old.items other.now
+        (passed.new.items ++ ahead.new.items)) }
+    ensures single { OnErr result (IsSinglePair V.is_single other.now →
+        passed.new.items ++ ahead.new.items ≡ ahead.old.items) }
     ensures room { vec_len passed.new + deque_len ahead.new ≤ vec_capacity passed.new }
 {
     for pair in other {
@@ -156,7 +169,8 @@ pub fn join_copies_in_one<K: Key, V: Join>(
     requires other_map { IsMap K.cmp V.below V.is_valid other.now }
     ensures map { IsMap K.cmp V.below V.is_valid pairs.new.items }
     ensures ok { OnOk result (IsJoin (MapBelow K.cmp V.below) pairs.old.items other.now pairs.new.items) }
-    ensures refused { OnErr result (IsBetween (MapBelow K.cmp V.below) pairs.old.items other.now pairs.new.items) }
+    ensures refused { OnErr result (IsBetween (MapBelow K.cmp V.below) pairs.old.items other.now
+        pairs.new.items) }
     ensures single { OnErr result (IsSinglePair V.is_single other.now → pairs.new.items ≡ pairs.old.items) }
 {
     let alloc = *pairs.allocator();
@@ -177,9 +191,12 @@ pub fn join_pairs_in_one<K: Key, V: Join>(pairs: &mut Vec<(K, V)>, other: &mut V
     requires some { 0 < vec_len other.old }
     ensures map { IsMap K.cmp V.below V.is_valid pairs.new.items }
     ensures other_map { IsMap K.cmp V.below V.is_valid other.new.items }
-    ensures ok { OnTrue result (IsJoin (MapBelow K.cmp V.below) pairs.old.items other.old.items pairs.new.items) }
-    ensures refused { OnFalse result (IsPartialJoin (MapBelow K.cmp V.below) pairs.old.items other.old.items pairs.new.items other.new.items) }
-    ensures single { OnFalse result (IsSinglePair V.is_single other.old.items → pairs.new.items ≡ pairs.old.items) }
+    ensures ok { OnTrue result (IsJoin (MapBelow K.cmp V.below) pairs.old.items other.old.items
+        pairs.new.items) }
+    ensures refused { OnFalse result (IsPartialJoin (MapBelow K.cmp V.below) pairs.old.items other.old.items
+        pairs.new.items other.new.items) }
+    ensures single { OnFalse result (IsSinglePair V.is_single other.old.items →
+        pairs.new.items ≡ pairs.old.items) }
 {
     let alloc = *pairs.allocator();
     let Some(room) = pairs.len().checked_add(other.len()) else {
