@@ -1,3 +1,4 @@
+pub mod Searches
 pub mod LookUps
 pub mod Edits
 pub mod Sames

@@ -1,38 +1,39 @@
 -- What three look-ups find, one after another.
-use Rattle.std.proofs.Common.{◌≡◌, Option, Some, None, IsSome, refl, sym, ap, subst, ◌∙◌}
+use Rattle.std.proofs.Common.{◌≡◌, ℕ, List, Option, Some, None, IsSome, Bor, filter, refl, sym, ap, subst, ◌∙◌}
+use Rattle.std.specs.Prelude.{MatchOption}
+use Rattle.std.specs.Option.{option_map, IfSome}
 use Rattle.std.specs.Ordering.{nat_cmp}
 use Rattle.std.specs.FinMap as finmap
 use Rattle.std.specs.FinMap.Entries.{find}
 use Rattle.join_law.specs.declared.versions.Versioned.{Versioned}
 use Rattle.join_law.specs.VersionOrder.{written, written_at}
 use Rattle.join_law.specs.Maps.{or_empty}
-use Rattle.load_path.specs.Paths.{PathParts}
+use Rattle.load_path.specs.Paths.{PathParts, IsPath}
 use Rattle.edit_sums.specs.declared.contents.Content.{Content}
 use Rattle.edit_sums.specs.Entries.{Entry}
 use Rattle.edit_sums.specs.Sums.{EntryMap}
-use Rattle.path_maps.specs.PathMaps.{NameMap, FolderMap, RankMap, AreRanks, bytes_cmp, look_up, flat}
+use Rattle.path_maps.specs.Spread.{AllKeys}
+use Rattle.path_maps.specs.PathMaps.{NameMap, RankMap, AreRanks, bytes_cmp, look_up, flat, listed, in_folder}
 use Rattle.path_maps.specs.PathMapLaws.{get-flat}
+use Rattle.path_maps.specs.Kept.{IsKept}
+use Rattle.path_maps.specs.Cursors.{or_nothing}
+use Rattle.path_maps.specs.Folders.{is_in, names_in}
+use Rattle.path_maps.specs.FolderLaws.{folder-listed, some_keys}
+use Rattle.path_maps.proofs.Listed.{listed_paths, listed_entries}
 
 module _ (m : RankMap) (q : PathParts) where
-  pub no_rank : find nat_cmp q.rank m ≡ None → look_up m q ≡ None
-  no_rank e = ap (λ (x : Option FolderMap). written_at (find bytes_cmp q.name (or_empty (find bytes_cmp q.folder (or_empty x))))) e
+  pub no_folder : find bytes_cmp q.folder (or_empty (find nat_cmp q.rank m)) ≡ None → look_up m q ≡ None
+  no_folder e = ap (λ (x : Option NameMap). written_at (find bytes_cmp q.name (or_empty x))) e
 
-  module _ (folders : FolderMap) (at_rank : find nat_cmp q.rank m ≡ Some folders) where
-    in_rank : look_up m q ≡ written_at (find bytes_cmp q.name (or_empty (find bytes_cmp q.folder folders)))
-    in_rank = ap (λ (x : Option FolderMap). written_at (find bytes_cmp q.name (or_empty (find bytes_cmp q.folder (or_empty x))))) at_rank
+  module _ (names : NameMap) (at_folder : find bytes_cmp q.folder (or_empty (find nat_cmp q.rank m)) ≡ Some names) where
+    of_folder : look_up m q ≡ written_at (find bytes_cmp q.name names)
+    of_folder = ap (λ (x : Option NameMap). written_at (find bytes_cmp q.name (or_empty x))) at_folder
 
-    pub no_folder : find bytes_cmp q.folder folders ≡ None → look_up m q ≡ None
-    no_folder e = in_rank ∙ ap (λ (x : Option NameMap). written_at (find bytes_cmp q.name (or_empty x))) e
+    pub no_name : find bytes_cmp q.name names ≡ None → look_up m q ≡ None
+    no_name e = of_folder ∙ ap written_at e
 
-    module _ (names : NameMap) (at_folder : find bytes_cmp q.folder folders ≡ Some names) where
-      pub at_folder_of : look_up m q ≡ written_at (find bytes_cmp q.name names)
-      at_folder_of = in_rank ∙ ap (λ (x : Option NameMap). written_at (find bytes_cmp q.name (or_empty x))) at_folder
-
-      pub no_name : find bytes_cmp q.name names ≡ None → look_up m q ≡ None
-      no_name e = at_folder_of ∙ ap written_at e
-
-      pub at_name_of : (v : Versioned Content) → find bytes_cmp q.name names ≡ Some v → look_up m q ≡ written v
-      at_name_of v e = at_folder_of ∙ ap written_at e
+    pub at_name_of : (v : Versioned Content) → find bytes_cmp q.name names ≡ Some v → look_up m q ≡ written v
+    at_name_of v e = of_folder ∙ ap written_at e
 
 -- what the look-ups find is held
 pub held_is : (m : RankMap) → AreRanks m → (s : EntryMap) → flat m ≡ s → (q : PathParts) (x : Option Entry) → look_up m q ≡ x → x ≡ finmap.get s q
@@ -45,3 +46,33 @@ there (Some v) h = refl
 -- where something is held, each look-up finds something
 pub held_there : (m : RankMap) → AreRanks m → (s : EntryMap) → flat m ≡ s → (q : PathParts) → IsSome (finmap.get s q) → IsSome (find bytes_cmp q.name (or_empty (find bytes_cmp q.folder (or_empty (find nat_cmp q.rank m)))))
 held_there m is s e q h = there _ (subst (λ (x : Option Entry). IsSome x) (sym (held_is m is s e q _ refl)) h)
+
+-- a path at which the look-ups find something is lawful
+pub lawful_there : (m : RankMap) (len high : ℕ) → IsKept m len high → (q : PathParts) (x : Entry) → look_up m q ≡ Some x → IsPath q
+lawful_there m len high k q x h = k.counted.paths q (subst (λ (o : Option Entry). IsSome o) (sym (get-flat m k.ranks q ∙ h)) refl)
+
+-- a folder that was looked for: there is none, or here it is with its names
+abbrev pub IsFound : RankMap → ℕ → List ℕ → Option (Bor (List ℕ) × Bor NameMap) → Type 0
+IsFound m rank folder x = MatchOption x (find bytes_cmp folder (or_empty (find nat_cmp rank m)) ≡ None) (λ f. (f.0.now ≡ folder) × (find bytes_cmp folder (or_empty (find nat_cmp rank m)) ≡ Some f.1.now))
+
+abbrev pub entries_of : ℕ → Option (Bor (List ℕ) × Bor NameMap) → List (PathParts × Entry)
+entries_of rank x = or_nothing (option_map (λ f. in_folder rank f.0.now f.1.now) x)
+
+module _ (m : RankMap) (rank : ℕ) (folder : List ℕ) where
+  found_names : (x : Option (Bor (List ℕ) × Bor NameMap)) → IsFound m rank folder x → entries_of rank x ≡ in_folder rank folder (names_in m rank folder)
+  found_names None h = sym (ap (λ (y : Option NameMap). in_folder rank folder (or_empty y)) h)
+  found_names (Some f) h = ap (λ (y : List ℕ). in_folder rank y f.1.now) h.0 ∙ sym (ap (λ (y : Option NameMap). in_folder rank folder (or_empty y)) h.1)
+
+  found_paths : (x : Option (Bor (List ℕ) × Bor NameMap)) → AllKeys IsPath (entries_of rank x) → IfSome x (λ f. AllKeys IsPath (in_folder rank f.0.now f.1.now))
+  found_paths None h = tt
+  found_paths (Some f) h = h
+
+  -- what a folder that was looked for has
+  pub found_entries : (s : EntryMap) → AreRanks m → flat m ≡ s → (x : Option (Bor (List ℕ) × Bor NameMap)) → IsFound m rank folder x → entries_of rank x ≡ filter (λ p. is_in rank folder p.0) (finmap.entries s)
+  found_entries s are e x h = found_names x h ∙ sym (folder-listed rank folder m are) ∙ ap (filter (λ p. is_in rank folder p.0)) (listed_entries m s are e)
+
+  pub found_lawful_paths : (len high : ℕ) → IsKept m len high → (x : Option (Bor (List ℕ) × Bor NameMap)) → IsFound m rank folder x → IfSome x (λ f. AllKeys IsPath (in_folder rank f.0.now f.1.now))
+  found_lawful_paths len high k x h =
+      found_paths x
+      (subst (AllKeys IsPath) (sym (found_names x h ∙ sym (folder-listed rank folder m k.ranks)))
+      (some_keys (is_in rank folder) IsPath (listed m) (listed_paths m len high k)))

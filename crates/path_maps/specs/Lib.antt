@@ -2,6 +2,8 @@ pub mod Spread
 pub mod SpreadLaws
 pub mod PathMaps
 pub mod PathMapLaws
+pub mod Folders
+pub mod FolderLaws
 pub mod Kept
 pub mod Cursors
 pub mod Changes

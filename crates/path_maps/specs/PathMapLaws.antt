@@ -46,23 +46,23 @@ all_keys-spread P part h (e ∷ es) = all_keys-append P (part e.0 e.1) (spread p
 abbrev IsAtName : ℕ → List ℕ → List ℕ → PathParts → Type 0
 IsAtName rank folder name q = q ≡ record { rank = rank; folder = folder; name = name }
 
-abbrev IsInFolder : ℕ → List ℕ → PathParts → Type 0
+abbrev pub IsInFolder : ℕ → List ℕ → PathParts → Type 0
 IsInFolder rank folder q = (q.rank ≡ rank) × (q.folder ≡ folder)
 
-abbrev IsInRank : ℕ → PathParts → Type 0
+abbrev pub IsInRank : ℕ → PathParts → Type 0
 IsInRank rank q = q.rank ≡ rank
 
 of_name : (rank : ℕ) (folder name : List ℕ) (v : Versioned Content) → AllKeys (IsAtName rank folder name) (at_name rank folder name v)
 of_name rank folder name Never = tt
 of_name rank folder name (At x) = (refl, tt)
 
-of_folder : (rank : ℕ) (folder : List ℕ) (names : NameMap) → AllKeys (IsInFolder rank folder) (in_folder rank folder names)
+pub of_folder : (rank : ℕ) (folder : List ℕ) (names : NameMap) → AllKeys (IsInFolder rank folder) (in_folder rank folder names)
 of_folder rank folder names =
     all_keys-spread (IsInFolder rank folder) (at_name rank folder)
     (λ k v. all_keys_weaker (IsAtName rank folder k) (IsInFolder rank folder) (λ q is. (ap (λ (p : PathParts). p.rank) is, ap (λ (p : PathParts). p.folder) is)) (at_name rank folder k v) (of_name rank folder k v))
     names
 
-of_rank : (rank : ℕ) (folders : FolderMap) → AllKeys (IsInRank rank) (in_rank rank folders)
+pub of_rank : (rank : ℕ) (folders : FolderMap) → AllKeys (IsInRank rank) (in_rank rank folders)
 of_rank rank folders =
     all_keys-spread (IsInRank rank) (in_folder rank)
     (λ k v. all_keys_weaker (IsInFolder rank k) (IsInRank rank) (λ q is. is.0) (in_folder rank k v) (of_folder rank k v)) folders
@@ -114,7 +114,7 @@ entries-flat m is = finmap.entries-from_sorted path_cmp (listed m) (to_T _ (list
 
 -- ---- what is found there
 
-found_lawful : {K V : Type 0} (R : K → K → Ordering) (below : V → V → Type 0) (valid : V → Type 0) (k : K) (es : List (K × V)) → AllHeld below valid es → (v : V) → find R k es ≡ Some v → valid v
+pub found_lawful : {K V : Type 0} (R : K → K → Ordering) (below : V → V → Type 0) (valid : V → Type 0) (k : K) (es : List (K × V)) → AllHeld below valid es → (v : V) → find R k es ≡ Some v → valid v
 found_lawful R below valid k [] h v e = cc (e)
 found_lawful R below valid k (x ∷ es) h v e =
     elim (eq_by_cmp R k x.0) as (λ b. cond b (Some x.1) (find R k es) ≡ Some v → valid v) [

@@ -24,8 +24,7 @@ pub fn count_changes(store: &Store, other: &Store) -> Changes
         added: 0,
     };
     while let Some(placed) = others.next_entry() {
-        let (rank, folder, name) = placed.parts();
-        match store.entry_at(rank, folder, name) {
+        match store.held_for(&placed) {
             None => {
                 changes.changed += 1;
                 changes.added += 1;

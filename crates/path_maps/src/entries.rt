@@ -1,8 +1,11 @@
 //! The entries of a store, one after another in path order: ranks, folders and names that are left.
-ghost use Rattle.std.specs.Prelude.{◌≡◌, ◌≢◌, ◌++◌, ◌∷◌, [], IfOk, IfSome, MatchOption};
+ghost use Rattle.std.specs.Prelude.{◌≡◌, ◌≢◌, ◌++◌, ◌∷◌, [], map, IfOk, IfSome, MatchOption};
 ghost use Rattle.load_path.specs.Paths.{IsPath};
 ghost use Rattle.path_maps.specs.Cursors.{or_nothing};
-ghost use Rattle.path_maps.specs.PathMaps.{listed};
+ghost use Rattle.std.specs.Option.{option_copied, option_map};
+ghost use Rattle.edit_sums.specs.Sums.{shown};
+ghost use Rattle.path_maps.specs.Folders.{path_at};
+ghost use Rattle.path_maps.specs.PathMaps.{in_folder, listed};
 ghost use Rattle.path_maps.specs.Spread.{AllKeys};
 
 use crate::stores::{FolderMap, NameMap, RankMap};
@@ -10,7 +13,7 @@ use byte_strings::Bytes;
 use edit_sums::{Content, Entry};
 use join_law::Versioned;
 use load_path::Path;
-use std::alloc::AllocError;
+use std::alloc::{AllocError, Global};
 use std::marker::Model;
 
 /// An entry with its path, lent.
@@ -34,12 +37,42 @@ impl<'a> Model for Placed<'a> {
 }
 
 impl<'a> Placed<'a> {
+    // An entry at a lawful path.
+    pub(crate) fn new(rank: u8, folder: &'a Bytes, name: &'a Bytes, entry: &'a Entry) -> Self
+        requires path { IsPath (path_at rank folder.now name.now) }
+        ensures placed { result ≡ (path_at rank folder.now name.now, entry.now) }
+    {
+        Placed {
+            rank,
+            folder,
+            name,
+            entry,
+        }
+    }
+
     /// Its path. It fails for want of memory alone, and copies no bytes.
     pub fn path(&self) -> Result<Path, AllocError>
         ensures path { IfOk result (λ path. path ≡ self.now.0) }
     {
         let folder = self.folder.try_clone()?;
         Ok(Path::from_parts(self.rank, folder, self.name.try_clone()?))
+    }
+
+    /// The name in its folder, which is the last component of its path. It takes no memory.
+    pub fn name(&self) -> &'a Bytes
+        ensures name { result.now ≡ self.now.0.name }
+    {
+        self.name
+    }
+
+    /// What is visible at its path: the entry's content, if it is no removal. It takes no memory.
+    pub fn visible(&self) -> Option<&'a Content>
+        ensures visible { option_copied result ≡ shown self.now.1 }
+    {
+        match &self.entry.content {
+            Content::Gone => None,
+            content => Some(content),
+        }
     }
 
     /// The parts of its path: rank, folder and name. It takes no memory.
@@ -88,12 +121,7 @@ impl<'a> NamesLeft<'a> {
         let entry = value.entry()?;
         let (rank, folder) = (self.rank, self.folder);
         self.names = rest;
-        Some(Placed {
-            rank,
-            folder,
-            name,
-            entry,
-        })
+        Some(Placed::new(rank, folder, name, entry))
     }
 }
 
@@ -205,6 +233,26 @@ impl<'a> Entries<'a> {
         }
     }
 
+    // Those of the names in a folder, whose paths are lawful; none, where there is no folder.
+    pub(crate) fn of_folder(rank: u8, found: Option<(&'a Bytes, &'a NameMap)>) -> Self
+        requires paths { IfSome found (λ f. AllKeys IsPath (in_folder rank f.0.now f.1.now)) }
+        ensures entries { result ≡ or_nothing (option_map (λ f. in_folder rank f.0.now f.1.now) found.entry) }
+    {
+        let names = match found {
+            None => None,
+            Some((folder, names)) => Some(NamesLeft {
+                rank,
+                folder,
+                names: names.pairs(),
+            }),
+        };
+        Entries {
+            names,
+            folders: None,
+            ranks: RanksLeft { ranks: &[] },
+        }
+    }
+
     /// Takes the first of them, if there is one. O(1), without memory.
     pub fn next_entry(&mut self) -> Option<Placed<'a>>
         ensures first { MatchOption result ((self.old ≡ []) × (self.new ≡ [])) (λ placed. self.old ≡ placed ∷ self.new) }
@@ -216,6 +264,17 @@ impl<'a> Entries<'a> {
         let placed = names.next_name()?;
         self.names = Some(names);
         Some(placed)
+    }
+
+    /// The paths of all of them. It fails for want of memory alone, and copies no bytes.
+    pub fn paths(mut self, alloc: Global) -> Result<Vec<Path>, AllocError>
+        ensures paths { IfOk result (λ paths. paths.items ≡ map (λ p. p.0) self.entry) }
+    {
+        let mut paths = Vec::new(alloc);
+        while let Some(placed) = self.next_entry() {
+            paths.push(placed.path()?)?;
+        }
+        Ok(paths)
     }
 }
 

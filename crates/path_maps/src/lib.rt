@@ -5,6 +5,7 @@
 mod changes;
 mod counts;
 mod entries;
+mod look_ups;
 mod stores;
 
 pub use entries::{Entries, Placed};

@@ -1,13 +1,15 @@
 //! Stores.
-ghost use Rattle.std.specs.Prelude.{◌≡◌, ◌≤◌, ◌↔◌, ◌+◌, IsTrue, IsSome, IsOk, IfOk, OnOk, OnErr, IfErr, if◌then◌else◌};
-ghost use Rattle.std.specs.Option.{option_copied};
+ghost use Rattle.std.specs.Prelude.{◌≡◌, ◌≤◌, ◌↔◌, ◌+◌, IsTrue, IsSome, IsOk, IfOk, OnOk, OnErr, IfErr, filter, if◌then◌else◌};
+ghost use Rattle.std.specs.Option.{option_copied, option_map, IfSome};
 ghost use Rattle.std.specs.FinMap as finmap;
-ghost use Rattle.edit_sums.specs.Sums.{changed_paths, high_of, join, shown, sum_of, visible_at, with_edit, IsStoreBelow};
+ghost use Rattle.edit_sums.specs.Sums.{changed_paths, high_of, join, sum_of, visible_at, with_edit, IsStoreBelow};
+ghost use Rattle.path_maps.specs.Folders.{is_in, path_at};
 ghost use Rattle.path_maps.specs.PathMaps.{AreRanks, flat};
 
 use crate::changes::count_changes;
 use crate::counts::{Counts, count_entries};
-use crate::entries::Entries;
+use crate::entries::{Entries, Placed};
+use crate::look_ups::{folder_at, pair_at};
 use byte_strings::Bytes;
 use edit_sums::{Content, Edit, Entry};
 use join_law::{Join, JoinMap, Rest, Versioned};
@@ -101,25 +103,45 @@ impl Store {
     pub fn get(&self, path: &Path) -> Option<&Entry>
         ensures held { option_copied result ≡ finmap.get self.now path.now }
     {
-        let (rank, folder, name) = path.parts();
-        self.entry_at(rank, folder, name)
+        let placed = self.placed_at(path.rank(), path.folder(), path.name())?;
+        Some(placed.entry())
     }
 
-    /// What is held at the path of these parts. O(log n), without memory.
-    pub fn entry_at(&self, rank: u8, folder: &Bytes, name: &Bytes) -> Option<&Entry>
-        ensures held { option_copied result ≡ finmap.get self.now (record
-            { rank = rank; folder = folder.now; name = name.now }) }
+    /// What is held at the path of these parts, with the path; the empty folder stands for none. O(log n), without
+    /// memory and without a path being built.
+    pub fn placed_at(&self, rank: u8, folder: &[u8], name: &[u8]) -> Option<Placed<'_>>
+        ensures path { IfSome result (λ placed. placed.0 ≡ path_at rank folder.now name.now) }
+        ensures held { option_map (λ placed. placed.1) result ≡ finmap.get self.now (path_at rank folder.now name.now) }
     {
-        let folders = self.ranks.get(&rank)?;
-        let names = folders.get(folder)?;
-        names.get(name)?.entry()
+        let (folder, names) = folder_at(&self.ranks, rank, folder)?;
+        let (name, value) = pair_at(names.pairs(), name)?;
+        let entry = value.entry()?;
+        Some(Placed::new(rank, folder, name, entry))
+    }
+
+    // What is held at the path of another store's entry.
+    pub(crate) fn held_for(&self, placed: &Placed) -> Option<&Entry>
+        ensures held { option_copied result ≡ finmap.get self.now placed.now.0 }
+    {
+        let (rank, folder, name) = placed.parts();
+        let held = self.placed_at(rank, folder.as_slice(), name.as_slice())?;
+        Some(held.entry())
     }
 
     /// The visible content at a path: what is held there, if it is no removal. O(log n), without memory.
     pub fn visible(&self, path: &Path) -> Option<&Content>
         ensures visible { option_copied result ≡ visible_at self.now path.now }
     {
-        content_shown(self.get(path)?)
+        self.visible_at(path.rank(), path.folder(), path.name())
+    }
+
+    /// The visible content at the path of these parts; the empty folder stands for none. O(log n), without memory and
+    /// without a path being built.
+    pub fn visible_at(&self, rank: u8, folder: &[u8], name: &[u8]) -> Option<&Content>
+        ensures visible { option_copied result ≡ visible_at self.now (path_at rank folder.now name.now) }
+    {
+        let placed = self.placed_at(rank, folder, name)?;
+        placed.visible()
     }
 
     /// The maps that the store is: they have its entries and no others. It takes no memory.
@@ -134,12 +156,24 @@ impl Store {
     pub fn list(&self) -> Result<Vec<Path>, AllocError>
         ensures paths { IfOk result (λ paths. paths.items ≡ finmap.keys self.now) }
     {
-        let mut paths = Vec::new(self.allocator());
-        let mut entries = self.entries();
-        while let Some(placed) = entries.next_entry() {
-            paths.push(placed.path()?)?;
-        }
-        Ok(paths)
+        self.entries().paths(self.allocator())
+    }
+
+    /// The paths held in a folder of the directory of a rank, in path order, those of removals too. The empty folder
+    /// has the paths of one component. It fails for want of memory alone, and copies no bytes.
+    ///
+    /// O(log n) and the paths given.
+    pub fn folder(&self, rank: u8, folder: &[u8]) -> Result<Vec<Path>, AllocError>
+        ensures paths { IfOk result (λ paths. paths.items ≡ filter (is_in rank folder.now) (finmap.keys self.now)) }
+    {
+        self.entries_in(rank, folder).paths(self.allocator())
+    }
+
+    /// The same with the entries, one after another, lent. O(log n), without memory.
+    pub fn entries_in(&self, rank: u8, folder: &[u8]) -> Entries<'_>
+        ensures entries { result ≡ filter (λ p. is_in rank folder.now p.0) (finmap.entries self.now) }
+    {
+        Entries::of_folder(rank, folder_at(&self.ranks, rank, folder))
     }
 
     /// All entries with their paths, one after another in path order, those of removals too.
@@ -276,14 +310,4 @@ fn sum_of_lens(len: usize, added: usize) -> Result<usize, AllocError>
     ensures within { IfOk result (λ sum. len + added ≤ usize.MAX) }
 {
     len.checked_add(added).ok_or(AllocError)
-}
-
-// The content of an entry that is no removal.
-fn content_shown(entry: &Entry) -> Option<&Content>
-    ensures shown { option_copied result ≡ shown entry.now }
-{
-    match &entry.content {
-        Content::Gone => None,
-        content => Some(content),
-    }
 }

@@ -1,0 +1,37 @@
+//! Look-ups by bytes that stand in no map: no key is built for them.
+ghost use Rattle.std.specs.Prelude.{◌≡◌, Some, None, IsTrue, MatchOption};
+ghost use Rattle.std.specs.Ordering.{nat_cmp};
+ghost use Rattle.std.specs.FinMap.{find, is_sorted};
+ghost use Rattle.join_law.specs.Maps.{or_empty};
+ghost use Rattle.path_maps.specs.PathMaps.{AreRanks, bytes_cmp};
+
+use crate::stores::{NameMap, RankMap};
+use byte_strings::Bytes;
+
+// The pair at a key of these bytes. O(log n), without memory.
+pub fn pair_at<'a, V>(pairs: &'a [(Bytes, V)], key: &[u8]) -> Option<&'a (Bytes, V)>
+    requires sorted { IsTrue (is_sorted bytes_cmp pairs.now) }
+    ensures found { MatchOption result (find bytes_cmp key.now pairs.now ≡ None)
+        (λ pair. (pair.now.0 ≡ key.now) × (find bytes_cmp key.now pairs.now ≡ Some pair.now.1)) }
+{
+    match pairs.binary_search_by(|pair| pair.0.as_slice().cmp(&key)) {
+        Ok(at) => Some(&pairs[at]),
+        Err(_) => None,
+    }
+}
+
+// The folder of these bytes, in the directory of a rank, and the names in it. O(log n), without memory.
+pub fn folder_at<'a>(
+    ranks: &'a RankMap,
+    rank: u8,
+    folder: &[u8],
+) -> Option<(&'a Bytes, &'a NameMap)>
+    requires ranks { AreRanks ranks.now }
+    ensures found { MatchOption result (find bytes_cmp folder.now (or_empty (find nat_cmp rank ranks.now)) ≡ None)
+        (λ pair. (pair.0.now ≡ folder.now)
+        × (find bytes_cmp folder.now (or_empty (find nat_cmp rank ranks.now)) ≡ Some pair.1.now)) }
+{
+    let folders = ranks.get(&rank)?;
+    let (folder, names) = pair_at(folders.pairs(), folder)?;
+    Some((folder, names))
+}
