@@ -1,3 +1,1 @@
-pub mod Merges
-pub mod Folders
 pub mod Replicas

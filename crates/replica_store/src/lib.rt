@@ -1,19 +1,14 @@
-//! Replicated stores: what a node holds of the edits of a whole fleet.
+//! Replicas: what a node holds of the edits of a whole fleet, and the number under which it writes.
 //!
-//! A store is a finite map from paths to entries. It is seen in contracts as that map, and is the
+//! A replica's store is a finite map from paths to entries. It is seen in contracts as that map, and is the
 //! sum of the edits that it took; stores are joined, and the join is their least upper bound
 //! (Shapiro, Preguica, Baquero, Zawirski, "Conflict-free Replicated Data Types", 2011).
 #![tactic(auto)]
 
-mod folders;
-mod lookups;
-mod merges;
 mod replicas;
-mod scans;
-mod stores;
 
 pub use edit_sums::{Content, ContentFault, Edit, Entry, FileBytes, LinkTarget};
 pub use join_law::{Rest, Version};
 pub use load_path::{Path, PathFault};
+pub use path_maps::{Entries, FolderMap, NameMap, Placed, RankMap, Store};
 pub use replicas::{EditFault, Replica};
-pub use stores::Store;

@@ -5,10 +5,10 @@ ghost use Rattle.edit_sums.specs.declared.contents.Content.TheVariants.{Gone};
 ghost use Rattle.edit_sums.specs.Sums.{changed_paths, high_of, join, visible_at, IsStoreBelow};
 ghost use Rattle.replica_store.specs.Replicas.{next_version, with_put};
 
-use crate::stores::Store;
 use edit_sums::{Content, Edit};
 use join_law::{Rest, Version};
 use load_path::Path;
+use path_maps::Store;
 use std::alloc::{AllocError, Global};
 use std::marker::Model;
 use thiserror::Error;
@@ -92,7 +92,7 @@ impl Replica {
     }
 
     /// Writes a content at a path, under the next version: `high` + 1 and the writer. A removal is
-    /// written whether or not anything is visible. A search and at most one shift of the entries.
+    /// written whether or not anything is visible. A search and at most one shift of entries in each of three maps.
     ///
     /// It is refused as `VersionsSpent` exactly where `high` is the greatest counter, and else for
     /// want of memory alone, and not even that at a path that is held. A refusal changes nothing.
@@ -144,9 +144,9 @@ impl Replica {
         self.put(path, Content::gone())
     }
 
-    /// Joins copies of what a store holds, and answers how many paths changed. Where nothing
-    /// changes, a search for each of its entries, without memory; else at most one growth, then one
-    /// pass over both.
+    /// Joins copies of what a store holds, and answers how many paths changed. A search for each of its entries; then
+    /// it costs what is news and a search for each, or one pass over both, whichever is less. Copies of entries share
+    /// their bytes.
     ///
     /// Where memory is refused, the store lies between what it was and the join, and the same call
     /// may be made again.
@@ -161,15 +161,18 @@ impl Replica {
         self.store.merge(other)
     }
 
-    /// Joins what a store holds, and answers how many paths changed. At most one growth, then one
-    /// pass over both.
+    /// Joins what a store holds, and answers how many paths changed. A search for each of its entries; then it costs
+    /// what is news and a search for each, or one pass over both, whichever is less.
     ///
-    /// Where memory is refused, nothing has changed and the store comes back.
+    /// Where memory is refused, the store lies between what it was and the join, and joining the rest that comes back
+    /// gives that join.
     pub fn absorb(&mut self, other: Store) -> Result<u64, Rest<Store>>
         ensures ok { OnOk result (self.new ≡ record self.old { store = join self.old.store other }) }
         ensures changed { IfOk result (λ changed. changed ≡ changed_paths self.old.store self.new.store) }
-        ensures err { OnErr result (self.new ≡ self.old) }
-        ensures rest { IfErr result (λ fault. fault.rest ≡ other) }
+        ensures kept { OnErr result (IsStoreBelow self.old.store self.new.store) }
+        ensures within { OnErr result (IsStoreBelow self.new.store (join self.old.store other)) }
+        ensures rest { IfErr result (λ fault. join self.new.store fault.rest ≡ join self.old.store other) }
+        ensures writer { self.new.writer ≡ self.old.writer }
     {
         self.store.absorb(other)
     }
