@@ -1,6 +1,7 @@
 -- Digests and pieces, seen as maps.
-use Rattle.std.proofs.lemmas.List.{map-append, take-append-drop}
-use Rattle.std.proofs.Common.{◌≡◌, ℕ, ◌++◌, take, drop, Bool, true, false, cond, None, List, [], ◌∷◌, IsTrue, length, map, refl, sym, ap, ◌∙◌}
+use Rattle.std.proofs.lemmas.List.{map-append, take-append-drop, length-drop}
+use Rattle.std.proofs.lemmas.Bool.Decides.{nat_tests}
+use Rattle.std.proofs.Common.{◌≡◌, ◌≤◌, ◌==◌, ◌↔◌, ℕ, arith, ◌++◌, take, drop, Bool, true, false, cond, None, List, [], ◌∷◌, IsTrue, length, map, refl, sym, ap, ◌∙◌}
 use Rattle.std.specs.Prelude.{filter}
 use Rattle.std.specs.FinMap as finmap
 use Rattle.std.specs.FinMap.{find, is_sorted, same_map}
@@ -42,16 +43,33 @@ filter_edits p (e ∷ es) =
       | false ↦ filter_edits p es
     ]
 
--- the entries that are newer are what is cut
-pub newer_is_cut : (piece s : EntryMap) (d : VersionMap) → finmap.entries piece ≡ filter (λ p. is_newer p.1.version (find path_cmp p.0 (finmap.entries d))) (finmap.entries s) → piece ≡ cut s d None
-newer_is_cut piece s d is =
-    sym (sum_of-edits_of piece) ∙
-    ap (λ es. sum_of (map edit_of es)) (is ∙ λ i. filter (λ (p : PathParts × Entry). is_newer p.1.version (sym (finmap.get-entries d p.0) i)) (finmap.entries s)) ∙
-    ap sum_of (filter_edits (is_wanted d None) (finmap.entries s))
-
 -- the first entries and the others, joined, are all of them
 pub parts_are_whole : (n : ℕ) (first second s : EntryMap) → finmap.entries first ≡ take n (finmap.entries s) → finmap.entries second ≡ drop n (finmap.entries s) → join first second ≡ s
 parts_are_whole n first second s f g =
     (λ i. sum_of (map edit_of (f i) ++ map edit_of (g i))) ∙
     ap sum_of (sym (map-append edit_of (take n (finmap.entries s)) (drop n (finmap.entries s))) ∙ ap (map edit_of) (take-append-drop n (finmap.entries s))) ∙
     sum_of-edits_of s
+
+-- entries in order are those of their sum
+pub entries-sum_of : (es : List (PathParts × Entry)) → IsTrue (is_sorted path_cmp es) → finmap.entries (sum_of (map edit_of es)) ≡ es
+entries-sum_of es s =
+    let there : finmap.entries (finmap.from_sorted es) ≡ es = finmap.entries-from_sorted path_cmp es (to_T _ s) in
+    ap (λ l. finmap.entries (sum_of (map edit_of l))) (sym there) ∙ ap finmap.entries (sum_of-edits_of (finmap.from_sorted es)) ∙ there
+
+-- the sum of the entries that are newer is what is cut
+pub newer_is_cut : (s : EntryMap) (d : VersionMap) (es : List (PathParts × Entry)) (vs : List (PathParts × Version)) → es ≡ finmap.entries s → vs ≡ finmap.entries d → sum_of (map edit_of (filter (λ p. is_newer p.1.version (find path_cmp p.0 vs)) es)) ≡ cut s d None
+newer_is_cut s d es vs held asked =
+    (λ i. sum_of (map edit_of (filter (λ (p : PathParts × Entry). is_newer p.1.version (find path_cmp p.0 (asked i))) (held i))))
+    ∙ (λ i. sum_of (map edit_of (filter (λ (p : PathParts × Entry). is_newer p.1.version (sym (finmap.get-entries d p.0) i)) (finmap.entries s))))
+    ∙ ap sum_of (filter_edits (is_wanted d None) (finmap.entries s))
+
+-- no more are left than there were
+pub all_left : (n : ℕ) (es : List (PathParts × Entry)) (m : ℕ) → m ≡ length es → length (drop n es) ≤ m
+all_left n es m all = let left = length-drop n es in omega (arith, left, all)
+
+pub empty_test : (n : ℕ) (es : List (PathParts × Entry)) → n ≡ length es → IsTrue (n == 0) ↔ (es ≡ [])
+empty_test n [] h = (λ t. refl, λ e. ap (λ k. k == 0) h)
+empty_test n (e ∷ es) h = (λ t. absurd (some t), λ e. cc (e))
+  where
+    some : IsTrue (n == 0) → ⊥
+    some t = let zero : n ≡ 0 = grind (arith, nat_tests) in omega (arith, zero, h)

@@ -1,15 +1,15 @@
 //! What a replica asks with.
 ghost use Rattle.std.specs.Prelude.{◌≡◌, Some, IsTrue, IfOk, OnOk, map};
+ghost use Rattle.std.specs.FinMap as finmap;
 ghost use Rattle.std.specs.FinMap.{is_sorted, put};
 ghost use Rattle.load_path.specs.Paths.{path_cmp};
 ghost use Rattle.edit_sums.specs.Sums.{EntryMap};
 ghost use Rattle.world_law.specs.Cuts.{cut, digest_of, only_at};
 
 use crate::digests::Digest;
-use edit_sums::Entry;
 use join_law::{Key, Version};
 use load_path::Path;
-use replica_store::Replica;
+use replica_store::{Replica, Store};
 use sorted_pairs::seek;
 use std::alloc::{AllocError, Global};
 
@@ -18,17 +18,19 @@ use std::alloc::{AllocError, Global};
 pub fn digest(alloc: Global, replica: &Replica) -> Result<Digest, AllocError>
     ensures digest { IfOk result (λ digest. digest ≡ digest_of replica.now.store) }
 {
-    let versions = versions_of(alloc, replica.store().entries())?;
+    let versions = versions_of(alloc, replica.store())?;
     Ok(Digest::from_versions(versions))
 }
 
 // Each path with its version.
-fn versions_of(alloc: Global, entries: &[(Path, Entry)]) -> Result<Vec<(Path, Version)>, AllocError>
-    ensures versions { IfOk result (λ versions. versions.items ≡ map (λ p. (p.0, p.1.version)) entries.now) }
+fn versions_of(alloc: Global, store: &Store) -> Result<Vec<(Path, Version)>, AllocError>
+    ensures versions { IfOk result (λ versions. versions.items ≡ map (λ p. (p.0, p.1.version))
+        (finmap.entries store.now)) }
 {
-    let mut versions = Vec::with_capacity(alloc, entries.len())?;
-    for (path, entry) in entries {
-        versions.push((path.try_clone()?, entry.version))?;
+    let mut versions = Vec::with_capacity(alloc, store.len())?;
+    let mut entries = store.entries();
+    while let Some(placed) = entries.next_entry() {
+        versions.push((placed.path()?, placed.entry().version))?;
     }
     Ok(versions)
 }

@@ -7,22 +7,22 @@ use crate::digests::Digest;
 use crate::newer::{newer_at, newer_entries};
 use crate::pieces::Piece;
 use load_path::Path;
-use replica_store::{Replica, Store};
+use replica_store::Replica;
 use std::alloc::{AllocError, Global};
 
 /// Copies of what a replica holds that is news to a digest: of a greater version than it has, or at
 /// a path that it doesn't have. Where no version stands for two edits, whoever asked with its own
 /// digest lacks nothing of the replica once it takes them.
 ///
-/// One pass over the entries and the versions together; only what is carried is copied. It fails
-/// for want of memory alone.
+/// One pass over the entries and the versions together; only what is carried is copied, and copies
+/// share their bytes. It fails for want of memory alone.
 pub fn delta_for(alloc: Global, replica: &Replica, asked: &Digest) -> Result<Piece, AllocError>
     ensures cut { IfOk result (λ piece. piece ≡ cut replica.now.store asked.now None) }
     ensures whole { IfOk result (λ piece. (s : EntryMap) → asked.now ≡ digest_of s →
         IsHonest (edits_of s ++ edits_of replica.now.store) → join s piece ≡ join s replica.now.store) }
 {
     let newer = newer_entries(alloc, replica.store().entries(), asked.versions())?;
-    Ok(Piece::from_store(Store::from_entries(newer)))
+    Ok(Piece::from_store(newer))
 }
 
 /// The same at these paths alone, which are read as a set.

@@ -8,6 +8,7 @@
 #![tactic(auto)]
 
 mod asks;
+mod copies;
 mod cuts;
 mod digests;
 mod newer;

@@ -1,52 +1,53 @@
 //! What is newer than what was asked with.
-ghost use Rattle.std.specs.Prelude.{◌≡◌, ◌≢◌, [], ◌∷◌, Some, IsTrue, IfOk, OnOk, filter};
+ghost use Rattle.std.specs.Prelude.{◌≡◌, ◌≢◌, [], ◌∷◌, Some, IsTrue, IfOk, OnOk, filter, map};
 ghost use Rattle.std.specs.declared.cmp.Ordering.TheVariants.{Less};
 ghost use Rattle.std.specs.FinMap.{is_sorted, find};
 ghost use Rattle.load_path.specs.Paths.{PathParts, path_cmp};
-ghost use Rattle.edit_sums.specs.Sums.{join};
+ghost use Rattle.edit_sums.specs.Sums.{edit_of, join, sum_of};
 ghost use Rattle.sorted_pairs.specs.Places.{IsNotBelow};
 ghost use Rattle.world_law.specs.Cuts.{cut, is_newer};
 
 use crate::digests::Digest;
+use crate::copies::join_copy;
 use edit_sums::{Edit, Entry};
-use join_law::{Key, Version};
+use join_law::Version;
 use load_path::Path;
-use replica_store::Store;
+use replica_store::{Entries, Placed, Store};
 use std::alloc::{AllocError, Global};
 
 // Copies of the entries that are newer. One pass over entries and versions together.
 pub fn newer_entries(
     alloc: Global,
-    entries: &[(Path, Entry)],
+    mut entries: Entries<'_>,
     versions: &[(Path, Version)],
-) -> Result<Vec<(Path, Entry)>, AllocError>
-    requires sorted { IsTrue (is_sorted path_cmp entries.now) }
+) -> Result<Store, AllocError>
+    requires sorted { IsTrue (is_sorted path_cmp entries) }
     requires versions_sorted { IsTrue (is_sorted path_cmp versions.now) }
-    ensures newer { IfOk result (λ newer. newer.items ≡ filter (λ p. is_newer p.1.version
-        (find path_cmp p.0 versions.now)) entries.now) }
+    ensures newer { IfOk result (λ newer. newer ≡ sum_of (map edit_of (filter (λ p. is_newer p.1.version
+        (find path_cmp p.0 versions.now)) entries.entry))) }
 {
-    let mut newer = Vec::new(alloc);
+    let mut newer = Store::new(alloc);
     let mut left = versions;
-    for (path, entry) in entries {
-        left = from_path(left, path);
-        if is_newer(entry.version, version_at(left, path)) {
-            newer.push((path.try_clone()?, entry.try_clone()?))?;
+    while let Some(placed) = entries.next_entry() {
+        left = from_path(left, &placed);
+        if is_newer(placed.entry().version, version_at(left, &placed)) {
+            join_copy(&mut newer, &placed)?;
         }
     }
     Ok(newer)
 }
 
-// The versions whose paths are not below the given one. Linear in those that are.
-fn from_path<'a>(versions: &'a [(Path, Version)], path: &Path) -> &'a [(Path, Version)]
+// The versions whose paths are not below that of an entry. Linear in those that are.
+fn from_path<'a>(versions: &'a [(Path, Version)], placed: &Placed) -> &'a [(Path, Version)]
     requires sorted { IsTrue (is_sorted path_cmp versions.now) }
     ensures sorted { IsTrue (is_sorted path_cmp result.now) }
-    ensures next { IsNotBelow path_cmp path.now result.now }
-    ensures held { (q : PathParts) → path_cmp q path.now ≢ Less → find path_cmp q result.now ≡ find path_cmp
+    ensures next { IsNotBelow path_cmp placed.now.0 result.now }
+    ensures held { (q : PathParts) → path_cmp q placed.now.0 ≢ Less → find path_cmp q result.now ≡ find path_cmp
         q versions.now }
 {
     let mut left = versions;
     while let Some((next, further)) = left.split_first() {
-        if !next.0.cmp(path).is_lt() {
+        if !placed.order_of(&next.0).is_lt() {
             return left;
         }
         left = further;
@@ -54,14 +55,14 @@ fn from_path<'a>(versions: &'a [(Path, Version)], path: &Path) -> &'a [(Path, Ve
     left
 }
 
-// The version at a path that no other path is below.
-fn version_at(versions: &[(Path, Version)], path: &Path) -> Option<Version>
+// The version at the path of an entry, which no other path is below.
+fn version_at(versions: &[(Path, Version)], placed: &Placed) -> Option<Version>
     requires sorted { IsTrue (is_sorted path_cmp versions.now) }
-    requires next { IsNotBelow path_cmp path.now versions.now }
-    ensures version { result ≡ find path_cmp path.now versions.now }
+    requires next { IsNotBelow path_cmp placed.now.0 versions.now }
+    ensures version { result ≡ find path_cmp placed.now.0 versions.now }
 {
     let next = versions.first()?;
-    if next.0.cmp(path).is_eq() {
+    if placed.order_of(&next.0).is_eq() {
         Some(next.1)
     } else {
         None

@@ -5,6 +5,7 @@ ghost use Rattle.edit_sums.specs.Sums.{join, sum_of};
 ghost use Rattle.world_law.specs.Cuts.{only_at};
 
 use crate::digests::Digest;
+use crate::copies::gather;
 use crate::newer::newer_at;
 use edit_sums::Edit;
 use join_law::Rest;
@@ -68,14 +69,14 @@ impl Piece {
     pub fn len(&self) -> usize
         ensures len { result ≡ length (finmap.entries self.now) }
     {
-        self.store.entries().len()
+        self.store.len()
     }
 
     /// Whether it carries nothing. O(1), without memory.
     pub fn is_empty(&self) -> bool
         ensures empty { IsTrue result ↔ (finmap.entries self.now ≡ []) }
     {
-        self.store.entries().is_empty()
+        self.len() == 0
     }
 
     /// Copies of what it carries at these paths, which are read as a set. For each path a search,
@@ -91,7 +92,7 @@ impl Piece {
     }
 
     /// Its first `at` entries in path order, and the others. Where it has no more than `at`, the
-    /// second part is empty. One pass; no entry is copied.
+    /// second part is empty. A search for each entry; the parts share the bytes of its entries.
     ///
     /// Where memory is refused, the piece comes back.
     pub fn split(self, at: usize) -> Result<(Piece, Piece), Rest<Piece>>
@@ -100,16 +101,9 @@ impl Piece {
         ensures joined { IfOk result (λ parts. join parts.0 parts.1 ≡ self) }
         ensures rest { IfErr result (λ fault. fault.rest ≡ self) }
     {
-        let mut front = self.store.into_entries();
-        let at = at.min(front.len());
-        match front.split_off(at) {
-            Ok(back) => Ok((
-                Piece::from_store(Store::from_entries(front)),
-                Piece::from_store(Store::from_entries(back)),
-            )),
-            Err(_) => Err(Rest {
-                rest: Piece::from_store(Store::from_entries(front)),
-            }),
+        match parts_of(&self.store, at) {
+            Ok((front, back)) => Ok((Piece::from_store(front), Piece::from_store(back))),
+            Err(_) => Err(Rest { rest: self }),
         }
     }
 
@@ -121,4 +115,15 @@ impl Piece {
             store: self.store.try_clone()?,
         })
     }
+}
+
+// Copies of the first entries, and of the others.
+fn parts_of(store: &Store, at: usize) -> Result<(Store, Store), AllocError>
+    ensures first { IfOk result (λ parts. finmap.entries parts.0 ≡ take at (finmap.entries store.now)) }
+    ensures second { IfOk result (λ parts. finmap.entries parts.1 ≡ drop at (finmap.entries store.now)) }
+{
+    let mut entries = store.entries();
+    let front = gather(store.allocator(), &mut entries, at)?;
+    let back = gather(store.allocator(), &mut entries, store.len())?;
+    Ok((front, back))
 }

@@ -1,27 +1,30 @@
 //! How a replica takes a piece.
 ghost use Rattle.std.specs.Prelude.{◌≡◌, IfOk, OnOk, OnErr, IfErr};
-ghost use Rattle.edit_sums.specs.Sums.{changed_paths, join};
+ghost use Rattle.edit_sums.specs.Sums.{changed_paths, join, IsStoreBelow};
 
 use crate::pieces::Piece;
 use join_law::Rest;
 use replica_store::Replica;
 
-/// Memory was refused, and nothing was taken.
+/// Memory was refused, and the replica took part of the piece, or nothing.
 #[derive(Debug, Drop)]
 pub struct TakeFault {
-    /// The piece, given back.
+    /// What is left to be taken.
     pub rest: Piece,
 }
 
-/// Joins what a piece carries, and answers how many paths changed. At most one growth, then one
-/// pass over both.
+/// Joins what a piece carries, and answers how many paths changed. A search for each of its entries;
+/// then it costs what is news and a search for each, or one pass over both, whichever is less.
 ///
-/// Where memory is refused, nothing has changed and the piece comes back.
+/// Where memory is refused, the replica's store lies between what it was and the join, and taking
+/// the rest that comes back gives that join.
 pub fn take(replica: &mut Replica, piece: Piece) -> Result<u64, TakeFault>
     ensures ok { OnOk result (replica.new ≡ record replica.old { store = join replica.old.store piece }) }
     ensures changed { IfOk result (λ changed. changed ≡ changed_paths replica.old.store replica.new.store) }
-    ensures err { OnErr result (replica.new ≡ replica.old) }
-    ensures rest { IfErr result (λ fault. fault.rest ≡ piece) }
+    ensures kept { OnErr result (IsStoreBelow replica.old.store replica.new.store) }
+    ensures within { OnErr result (IsStoreBelow replica.new.store (join replica.old.store piece)) }
+    ensures rest { IfErr result (λ fault. join replica.new.store fault.rest ≡ join replica.old.store piece) }
+    ensures writer { replica.new.writer ≡ replica.old.writer }
 {
     match replica.absorb(piece.into_store()) {
         Ok(changed) => Ok(changed),

@@ -209,6 +209,16 @@ impl Content {
             Content::File(file) => file.bytes(),
         }
     }
+    /// An equal content, which shares its bytes. It fails for want of memory alone.
+    pub fn try_clone(&self) -> Result<Content, AllocError>
+        ensures copy { IfOk result (λ copy. copy ≡ self.now) }
+    {
+        match self {
+            Content::Gone => Ok(Content::Gone),
+            Content::Link(target) => Ok(Content::Link(target.try_clone()?)),
+            Content::File(file) => Ok(Content::File(file.try_clone()?)),
+        }
+    }
 }
 
 impl PartialEq for Content {
@@ -274,10 +284,6 @@ impl Key for Content {
     ghost exact = { content_cmp-IsAntisymmetric };
 
     fn try_clone(&self) -> Result<Content, AllocError> {
-        match self {
-            Content::Gone => Ok(Content::Gone),
-            Content::Link(target) => Ok(Content::Link(target.try_clone()?)),
-            Content::File(file) => Ok(Content::File(file.try_clone()?)),
-        }
+        Content::try_clone(self)
     }
 }

@@ -1,5 +1,5 @@
 //! Where a content stands.
-ghost use Rattle.std.specs.Prelude.{◌≡◌, ◌<◌, ◌⊎◌, ◌||◌, ◌++◌, not, length, Err, IsErr, IsTrue, OnOk, OnErr};
+ghost use Rattle.std.specs.Prelude.{◌≡◌, ◌<◌, ◌⊎◌, ◌||◌, ◌++◌, not, length, Err, IsErr, IsTrue, IfOk, OnOk, OnErr};
 ghost use Rattle.load_path.specs.Paths.{directory_of, has_folder, is_component, path_of, text_of, IsPath};
 
 use crate::texts::{Parts, directory};
@@ -156,6 +156,17 @@ impl Path {
         }
         out.extend_from_slice(name)
     }
+
+    /// An equal path, which shares its bytes. It fails for want of memory alone.
+    pub fn try_clone(&self) -> Result<Path, AllocError>
+        ensures copy { IfOk result (λ copy. copy ≡ self.now) }
+    {
+        Ok(Path {
+            rank: self.rank,
+            folder: self.folder.try_clone()?,
+            name: self.name.try_clone()?,
+        })
+    }
 }
 
 impl Key for Path {
@@ -164,10 +175,6 @@ impl Key for Path {
     ghost exact = { path_cmp-IsAntisymmetric };
 
     fn try_clone(&self) -> Result<Path, AllocError> {
-        Ok(Path {
-            rank: self.rank,
-            folder: self.folder.try_clone()?,
-            name: self.name.try_clone()?,
-        })
+        Path::try_clone(self)
     }
 }

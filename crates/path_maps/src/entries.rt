@@ -1,6 +1,6 @@
 //! The entries of a store, one after another in path order: ranks, folders and names that are left.
 ghost use Rattle.std.specs.Prelude.{◌≡◌, ◌≢◌, ◌++◌, ◌∷◌, [], map, IfOk, IfSome, MatchOption};
-ghost use Rattle.load_path.specs.Paths.{IsPath};
+ghost use Rattle.load_path.specs.Paths.{IsPath, path_cmp};
 ghost use Rattle.path_maps.specs.Cursors.{or_nothing};
 ghost use Rattle.std.specs.Option.{option_copied, option_map};
 ghost use Rattle.edit_sums.specs.Sums.{shown};
@@ -14,6 +14,7 @@ use edit_sums::{Content, Entry};
 use join_law::Versioned;
 use load_path::Path;
 use std::alloc::{AllocError, Global};
+use std::cmp::Ordering;
 use std::marker::Model;
 
 /// An entry with its path, lent.
@@ -80,6 +81,15 @@ impl<'a> Placed<'a> {
         ensures parts { record { rank = result.0; folder = result.1.now; name = result.2.now } ≡ self.now.0 }
     {
         (self.rank, self.folder, self.name)
+    }
+
+    /// Where a path stands: before the path of this entry, at it, or behind it. It takes no memory.
+    pub fn order_of(&self, path: &Path) -> Ordering
+        ensures order { result ≡ path_cmp path.now self.now.0 }
+    {
+        let within = path.folder().cmp(&self.folder.as_slice());
+        let within = within.then(path.name().cmp(&self.name.as_slice()));
+        path.rank().cmp(&self.rank).then(within)
     }
 
     /// The entry. It takes no memory.

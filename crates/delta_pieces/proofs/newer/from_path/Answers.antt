@@ -14,8 +14,8 @@ loop-next-preserved c =
     let next = c.in-Some.next.now in
     let further = c.in-Some.further.now in
     let is = c.in-Some.ensures.cases.0 in
-    let below : path_cmp next.0 c.args.path.now ≡ Less = is_less _ (ap is_lt (sym c.cmp.ensures) ∙ sym c.is_lt.ensures ∙ c.if-not-is_lt.false) in
+    let below : path_cmp next.0 c.args.placed.now.0 ≡ Less = is_less _ (ap is_lt (sym c.order_of.ensures.order) ∙ sym c.is_lt.ensures ∙ c.if-not-is_lt.false) in
     record {
       sorted = (and_parts (below_all path_cmp next.0 further) _ (subst (λ (l : List (PathParts × Version)). IsTrue (is_sorted path_cmp l)) is c.loop-next.invariant.sorted)).1;
-      held = λ q not_below. sym (find_past c.args.path.now q next further below not_below) ∙ ap (find path_cmp q) (sym is) ∙ c.loop-next.invariant.held q not_below;
+      held = λ q not_below. sym (find_past c.args.placed.now.0 q next further below not_below) ∙ ap (find path_cmp q) (sym is) ∙ c.loop-next.invariant.held q not_below;
     }

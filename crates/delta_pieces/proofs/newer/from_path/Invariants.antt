@@ -7,7 +7,7 @@ use Rattle.delta_pieces.proofs.newer.from_path.Given as goal
 abbrev pub invariant-loop-next : goal.invariant-loop-next
 invariant-loop-next l = record {
   sorted : IsTrue (is_sorted path_cmp l.left);
-  held : (q : PathParts) → path_cmp q l.path ≢ Less → find path_cmp q l.left ≡ find path_cmp q l.versions;
+  held : (q : PathParts) → path_cmp q l.placed.0 ≢ Less → find path_cmp q l.left ≡ find path_cmp q l.versions;
 }
 
 abbrev pub decreases-loop-next : goal.decreases-loop-next

@@ -1,0 +1,6 @@
+use Rattle.std.proofs.Common.{ap, ◌∙◌}
+use Rattle.std.specs.FinMap as finmap
+use Rattle.delta_pieces.proofs.pieces.Piece.len.Goals as goal
+
+pub returns : goal.returns
+returns c = record { len = c.len.ensures.len ∙ ap finmap.len c.self.view_is ∙ finmap.len-entries c.args.self.now }
