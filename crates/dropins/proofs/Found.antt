@@ -1,6 +1,6 @@
 -- What a folder's paths say of a file name.
-use Rattle.std.proofs.Common.{◌≡◌, ℕ, Bool, true, false, cond, ◌&&◌, ◌||◌, ◌==◌, Option, Some, None, is_some, List, [], ◌∷◌, filter, refl, ap, sym, ◌∙◌, eq-eqb}
-use Rattle.std.specs.Option.{option_and_then}
+use Rattle.std.proofs.Common.{◌≡◌, ℕ, Bool, true, false, cond, ◌&&◌, ◌||◌, ◌==◌, Option, Some, None, is_some, List, [], ◌∷◌, filter, map, inl, inr, refl, ap, sym, ◌∙◌, eq-eqb}
+use Rattle.std.specs.Option.{option_and_then, option_or}
 use Rattle.std.specs.List.{list_any}
 use Rattle.std.specs.Str.{bytes_eq}
 use Rattle.std.specs.Ordering.{eq_by_cmp, is_eq}
@@ -12,14 +12,16 @@ use Rattle.std.proofs.lemmas.Slice.Eq.{bytes_eq-Decides}
 use Rattle.load_path.specs.Paths.{PathParts, path_cmp}
 use Rattle.load_path.specs.PathLaws.{path_cmp_total, path_cmp-IsAntisymmetric}
 use Rattle.edit_sums.specs.Entries.{Entry}
-use Rattle.edit_sums.specs.Sums.{EntryMap, shown}
-use Rattle.replica_store.specs.Folders.{is_in}
+use Rattle.edit_sums.specs.Sums.{EntryMap, edit_of, shown}
+use Rattle.edit_sums.specs.GreatestLaws.{get_from_edits_of}
+use Rattle.list_laws.specs.Members.{IsAmong}
+use Rattle.path_maps.specs.Folders.{is_in}
 use Rattle.dropins.specs.declared.precedence.Candidate.{Candidate}
 use Rattle.dropins.specs.declared.precedence.Search.{Search}
 use Rattle.dropins.specs.Taken.{as_found, candidate_at}
 use Rattle.list_laws.specs.FirstSaid.{first_said}
 use Rattle.list_laws.specs.Orderings.{is_equal}
-use Rattle.dropins.specs.Walks.{path}
+use Rattle.dropins.specs.Walks.{path, said_for}
 use Rattle.dropins.proofs.Firsts.{said_among}
 
 module _ (r : ℕ) (d f : List ℕ) where
@@ -63,8 +65,23 @@ module _ (r : ℕ) (d f : List ℕ) where
   none_held x (Some e) = refl
 
   -- the paths of a folder say what stands at the path of a file name there
-  pub folder_says : (s : EntryMap) (x : Search) → first_said (λ p. cond (bytes_eq p.name f) (candidate_at s x p) None) (filter (is_in r d) (finmap.keys s)) ≡ candidate_at s x (path r d f)
+  folder_says : (s : EntryMap) (x : Search) → first_said (λ p. cond (bytes_eq p.name f) (candidate_at s x p) None) (filter (is_in r d) (finmap.keys s)) ≡ candidate_at s x (path r d f)
   folder_says s x =
       among s x (finmap.keys s)
       ∙ ap (λ b. cond b (candidate_at s x (path r d f)) None) (sym (contains_key-keys s (path r d f)))
       ∙ none_held x (finmap.get s (path r d f))
+
+  -- entries of the store say what stands at their paths
+  entries_say : (s : EntryMap) (x : Search) (es : List (PathParts × Entry)) → ((p : PathParts × Entry) → IsAmong (edit_of p) (map edit_of es) → finmap.get s p.0 ≡ Some p.1)
+      → first_said (said_for x f) (filter (λ p. is_in r d p.0) es) ≡ first_said (λ p. cond (bytes_eq p.name f) (candidate_at s x p) None) (filter (is_in r d) (map (λ p. p.0) es))
+  entries_say s x [] held = refl
+  entries_say s x (p ∷ es) held =
+      let rest = entries_say s x es (λ q h. held q (inr h)) in
+      let same : said_for x f p ≡ cond (bytes_eq p.0.name f) (candidate_at s x p.0) None = ap (λ o. cond (bytes_eq p.0.name f) (option_and_then (as_found x p.0) (option_and_then shown o)) None) (sym (held p (inl refl))) in
+      elim (is_in r d p.0) as (λ b. first_said (said_for x f) (cond b (p ∷ filter (λ q. is_in r d q.0) es) (filter (λ q. is_in r d q.0) es)) ≡ first_said (λ q. cond (bytes_eq q.name f) (candidate_at s x q) None) (cond b (p.0 ∷ filter (is_in r d) (map (λ q. q.0) es)) (filter (is_in r d) (map (λ q. q.0) es)))) [
+        | true ↦ (λ i. option_or (same i) (rest i))
+        | false ↦ rest
+      ]
+
+  pub folder_entries_say : (s : EntryMap) (x : Search) → first_said (said_for x f) (filter (λ p. is_in r d p.0) (finmap.entries s)) ≡ candidate_at s x (path r d f)
+  folder_entries_say s x = entries_say s x (finmap.entries s) (λ p h. get_from_edits_of (edit_of p) s h) ∙ folder_says s x

@@ -20,3 +20,15 @@ placed m k f new v w n a e = n ∙ ap (λ b. cond b (Some v) (get name_cmp m f))
     step : (b : Bool) → bytes_eq k f ≡ b → cond b (Some v) (get name_cmp m f) ≡ option_or (get name_cmp m f) (cond b w None)
     step true h = sym e ∙ sym (ap (λ o. option_or o w) (none_is (get name_cmp m f) (ap (λ x. is_some (get name_cmp m x)) (sym ((bytes_eq-Decides k f).0 h)) ∙ a)))
     step false h = sym (or_none (get name_cmp m f))
+
+some_is : (o w : Option Candidate) → is_some o ≡ true → o ≡ option_or o w
+some_is None w h = cc (h)
+some_is (Some x) w h = refl
+
+-- what is taken stays
+pub stays : (m : BTreeMap (List ℕ) Candidate) (k f : List ℕ) (w : Option Candidate) → is_some (get name_cmp m k) ≡ true → get name_cmp m f ≡ option_or (get name_cmp m f) (cond (bytes_eq k f) w None)
+stays m k f w a = step (bytes_eq k f) refl
+  where
+    step : (b : Bool) → bytes_eq k f ≡ b → get name_cmp m f ≡ option_or (get name_cmp m f) (cond b w None)
+    step true h = some_is (get name_cmp m f) w (ap (λ x. is_some (get name_cmp m x)) (sym ((bytes_eq-Decides k f).0 h)) ∙ a)
+    step false h = sym (or_none (get name_cmp m f))

@@ -1,16 +1,27 @@
 -- What is taken for a file name, found by walking through ranks and folders: words for private clauses.
 -- Source: this project's own.
-use Rattle.std.specs.Prelude.{ℕ, Option, List, [], ◌∷◌, ◌++◌}
+use Rattle.std.specs.Prelude.{ℕ, Option, None, if◌then◌else◌, List, [], ◌∷◌, ◌++◌}
+use Rattle.std.specs.Option.{option_and_then}
+use Rattle.std.specs.Str.{bytes_eq}
+use Rattle.edit_sums.specs.Entries.{Entry}
 use Rattle.list_laws.specs.FirstSaid.{first_said}
 use Rattle.load_path.specs.Paths.{PathParts}
-use Rattle.edit_sums.specs.Sums.{EntryMap}
+use Rattle.edit_sums.specs.Sums.{EntryMap, shown}
 use Rattle.dropins.specs.declared.precedence.Candidate.{Candidate}
 use Rattle.dropins.specs.declared.precedence.Candidate.TheVariants.{Mask, At}
 use Rattle.dropins.specs.declared.precedence.Search.{Search}
-use Rattle.dropins.specs.Taken.{candidate_at}
+use Rattle.dropins.specs.Taken.{as_found, candidate_at}
 
 abbrev pub path : ℕ → List ℕ → List ℕ → PathParts
 path r d f = record { rank = r; folder = d; name = f }
+
+-- the candidate that an entry is, with its path
+abbrev pub entry_as_found : Search → PathParts × Entry → Option Candidate
+entry_as_found x p = option_and_then (as_found x p.0) (shown p.1)
+
+-- the same where its file name is this one
+abbrev pub said_for : Search → List ℕ → PathParts × Entry → Option Candidate
+said_for x f p = if bytes_eq p.0.name f then entry_as_found x p else None
 
 -- the candidate of a file name in a directory's first folder that has one
 abbrev pub taken_in : EntryMap → Search → List (List ℕ) → List ℕ → ℕ → Option Candidate

@@ -4,8 +4,8 @@ ghost use Rattle.std.specs.Str.{bytes_eq};
 ghost use Rattle.std.specs.Option.{option_or};
 ghost use Rattle.std.specs.BTreeMap.{get, IsOrdered};
 ghost use Rattle.unit_name.specs.Names.{name_cmp};
-ghost use Rattle.dropins.specs.Taken.{is_conf, is_null, content_as_drop_in, as_drop_in, as_link, as_found, candidate_at, file_name, dirs_with, IsTaken};
-ghost use Rattle.dropins.specs.Walks.{path, taken_in, taken, unmasked};
+ghost use Rattle.dropins.specs.Taken.{is_conf, is_null, as_drop_in, as_link, candidate_at, file_name, dirs_with, IsTaken};
+ghost use Rattle.dropins.specs.Walks.{entry_as_found, path, said_for, taken_in, taken, unmasked};
 ghost use Rattle.std.specs.List.{Contains};
 ghost use Rattle.std.specs.List.Sorted.{IsStrictlySortedBy};
 ghost use Rattle.load_path.specs.Paths.{PathParts};
@@ -13,7 +13,7 @@ ghost use Rattle.dropins.specs.declared.precedence.Candidate.TheVariants.{At};
 
 use crate::folder_lists::folders;
 use byte_strings::Bytes;
-use replica_store::{Content, LinkTarget, Path, Store};
+use replica_store::{Content, LinkTarget, Path, Placed, Store};
 use std::alloc::{AllocError, Global};
 use std::collections::BTreeMap;
 use unit_name::UnitName;
@@ -69,14 +69,13 @@ fn taken(alloc: Global, store: &Store, search: Search, dirs: &[Bytes]) -> Result
 {
     let mut takes = BTreeMap::new(alloc);
     for rank in 0..RANKS {
-        take_rank(alloc, store, &mut takes, search, rank, dirs)?;
+        take_rank(store, &mut takes, search, rank, dirs)?;
     }
     Ok(takes)
 }
 
 // Takes the candidates of one rank.
 fn take_rank(
-    alloc: Global,
     store: &Store,
     takes: &mut Takes,
     search: Search,
@@ -87,14 +86,13 @@ fn take_rank(
         (get name_cmp takes.old f) (taken_in store.now search dirs.now f rank)) }
 {
     for dir in dirs {
-        take_folder(alloc, store, takes, search, rank, dir.as_slice())?;
+        take_folder(store, takes, search, rank, dir.as_slice())?;
     }
     Ok(())
 }
 
 // Takes the candidates of one folder.
 fn take_folder(
-    alloc: Global,
     store: &Store,
     takes: &mut Takes,
     search: Search,
@@ -104,80 +102,73 @@ fn take_folder(
     ensures taken { OnOk result ((f : List ℕ) → get name_cmp takes.new f ≡ option_or
         (get name_cmp takes.old f) (candidate_at store.now search (path rank dir.now f))) }
 {
-    for path in store.folder(rank, dir)? {
-        take_path(alloc, store, takes, search, path)?;
+    let mut entries = store.entries_in(rank, dir);
+    while let Some(placed) = entries.next_entry() {
+        take_entry(takes, search, &placed)?;
     }
     Ok(())
 }
 
-// Takes the candidate at a path, unless its file name is taken.
-fn take_path(
-    alloc: Global,
-    store: &Store,
-    takes: &mut Takes,
-    search: Search,
-    path: Path,
-) -> Result<(), AllocError>
+// Takes the candidate that an entry is, unless its file name is taken.
+fn take_entry(takes: &mut Takes, search: Search, placed: &Placed) -> Result<(), AllocError>
     ensures taken { OnOk result ((f : List ℕ) → get name_cmp takes.new f ≡ option_or
-        (get name_cmp takes.old f) (if bytes_eq path.name f then candidate_at store.now search path else
-        None)) }
+        (get name_cmp takes.old f) (said_for search f placed.now)) }
 {
-    let name = Bytes::from_slice(alloc, path.name())?;
-    if let Some(candidate) = candidate_at(store, search, path) {
-        if !takes.contains_key(&name) {
-            takes.insert(name, candidate)?;
-        }
+    if takes.contains_key(placed.name()) {
+        return Ok(());
+    }
+    if let Some(candidate) = candidate_of(search, placed)? {
+        takes.insert(placed.name().try_clone()?, candidate)?;
     }
     Ok(())
 }
 
-// The candidate that is visible at a path.
-fn candidate_at(store: &Store, search: Search, path: Path) -> Option<Candidate>
-    ensures candidate { result ≡ candidate_at store.now search path }
+// The candidate that an entry is.
+fn candidate_of(search: Search, placed: &Placed) -> Result<Option<Candidate>, AllocError>
+    ensures candidate { IfOk result (λ candidate. candidate ≡ entry_as_found search placed.now) }
 {
-    let content = store.visible(&path)?;
+    let Some(content) = placed.visible() else {
+        return Ok(None);
+    };
     match search {
-        Search::DropIns => as_drop_in(path, content),
-        Search::Links => as_link(path, content),
+        Search::DropIns => as_drop_in(placed, content),
+        Search::Links => as_link(placed, content),
     }
 }
 
-fn as_drop_in(path: Path, content: &Content) -> Option<Candidate>
-    ensures candidate { result ≡ as_drop_in path content.now }
+fn as_drop_in(placed: &Placed, content: &Content) -> Result<Option<Candidate>, AllocError>
+    ensures candidate { IfOk result (λ candidate. candidate ≡ as_drop_in placed.now.0 content.now) }
 {
-    if !is_conf(path.name()) {
-        return None;
+    if !is_conf(placed.name().as_slice()) {
+        return Ok(None);
     }
     match content {
-        Content::Gone => None,
+        Content::Gone => Ok(None),
         Content::File(file) => {
             if file.bytes().is_empty() {
-                Some(Candidate::Mask)
-            } else {
-                Some(Candidate::At(path))
+                return Ok(Some(Candidate::Mask));
             }
+            Ok(Some(Candidate::At(placed.path()?)))
         }
         Content::Link(target) => {
             if is_null(target) {
-                Some(Candidate::Mask)
-            } else {
-                None
+                return Ok(Some(Candidate::Mask));
             }
+            Ok(None)
         }
     }
 }
 
-fn as_link(path: Path, content: &Content) -> Option<Candidate>
-    ensures candidate { result ≡ as_link path content.now }
+fn as_link(placed: &Placed, content: &Content) -> Result<Option<Candidate>, AllocError>
+    ensures candidate { IfOk result (λ candidate. candidate ≡ as_link placed.now.0 content.now) }
 {
     match content {
-        Content::Gone | Content::File(_) => None,
+        Content::Gone | Content::File(_) => Ok(None),
         Content::Link(target) => {
             if is_null(target) {
-                Some(Candidate::Mask)
-            } else {
-                Some(Candidate::At(path))
+                return Ok(Some(Candidate::Mask));
             }
+            Ok(Some(Candidate::At(placed.path()?)))
         }
     }
 }

@@ -16,7 +16,7 @@ use Rattle.load_path.specs.Paths.{PathParts, path_cmp}
 use Rattle.load_path.specs.PathLaws.{path_cmp-IsAntisymmetric}
 use Rattle.edit_sums.specs.Entries.{Entry}
 use Rattle.edit_sums.specs.Sums.{EntryMap, shown}
-use Rattle.replica_store.specs.Folders.{is_in}
+use Rattle.path_maps.specs.Folders.{is_in}
 use Rattle.unit_name.specs.declared.names.Shape.{Shape as UnitShape}
 use Rattle.unit_name.specs.declared.names.Shape.TheVariants.{Plain, Template, Instance}
 use Rattle.unit_name.specs.Names.{Name, name_cmp, is_name, IsName, shape, instance}

@@ -1,2 +1,3 @@
+pub mod EntrySays
 pub mod Steps
 pub mod Gathering

@@ -10,7 +10,7 @@ use Rattle.load_path.specs.Paths.{PathParts}
 use Rattle.edit_sums.specs.declared.contents.Content.{Content}
 use Rattle.edit_sums.specs.declared.contents.Content.TheVariants.{Gone, Link, File}
 use Rattle.edit_sums.specs.Sums.{EntryMap, visible_at}
-use Rattle.replica_store.specs.Folders.{path_at}
+use Rattle.path_maps.specs.Folders.{path_at}
 use Rattle.unit_name.specs.declared.kinds.Kind.{Kind as UnitKind}
 use Rattle.unit_name.specs.declared.kinds.Kind.TheVariants.{Service, Socket, Device, Mount, Automount, Swap, Target as TargetKind, Path, Timer, Slice, Scope}
 use Rattle.unit_name.specs.declared.names.Shape.{Shape as UnitShape}

@@ -1,11 +1,9 @@
 //! The choice of a unit's main file.
 ghost use Rattle.std.specs.Prelude.{◌≡◌, IfOk};
-ghost use Rattle.replica_store.specs.Folders.{path_at};
 ghost use Rattle.fragment_choice.specs.Choices.{choice, own_choice, says, content_says, link_says};
 
 use crate::links::{last_component, target_says};
-use join_law::Key;
-use replica_store::{Content, Path, Store};
+use replica_store::{Content, Path, Placed, Store};
 use std::alloc::{AllocError, Global};
 use thiserror::Error;
 use unit_name::{NameFault, UnitName};
@@ -87,29 +85,28 @@ fn says(
 ) -> Result<Option<Choice>, AllocError>
     ensures said { IfOk result (λ said. said ≡ says store.now name.now own.now rank) }
 {
-    match store.visible_at(rank, b"", own.bytes()) {
+    match store.placed_at(rank, b"", own.bytes()) {
         None => Ok(None),
-        Some((path, content)) => content_says(alloc, name, own, path, content),
+        Some(placed) => entry_says(alloc, name, own, &placed),
     }
 }
 
-// What a content says at a path of the own name.
-fn content_says(
+// What an entry says at a path of the own name.
+fn entry_says(
     alloc: Global,
     name: &UnitName,
     own: &UnitName,
-    path: &Path,
-    content: &Content,
+    placed: &Placed,
 ) -> Result<Option<Choice>, AllocError>
-    ensures said { IfOk result (λ said. said ≡ content_says name.now own.now path.now content.now) }
+    ensures said { IfOk result (λ said. said ≡ content_says name.now own.now placed.now.0 placed.now.1.content) }
 {
-    match content {
+    match &placed.entry().content {
         Content::Gone => Ok(None),
         Content::File(file) => {
             if file.bytes().is_empty() {
                 return Ok(Some(Choice::Masked));
             }
-            Ok(Some(Choice::Fragment(path.try_clone()?)))
+            Ok(Some(Choice::Fragment(placed.path()?)))
         }
         Content::Link(target) => {
             if target.bytes() == b"/dev/null".as_slice() {

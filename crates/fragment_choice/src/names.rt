@@ -106,7 +106,7 @@ fn is_link(store: &Store, rank: u8, own: &[u8]) -> bool
 {
     matches!(
         store.visible_at(rank, b"", own),
-        Some((_, Content::Link(_)))
+        Some(Content::Link(_))
     )
 }
 

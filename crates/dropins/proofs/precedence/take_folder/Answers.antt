@@ -1,14 +1,28 @@
-use Rattle.std.proofs.Common.{◌∙◌, ap, None, cond}
+use Rattle.std.proofs.Common.{◌∙◌, ap, sym}
 use Rattle.std.specs.BTreeMap.{get}
 use Rattle.std.specs.Option.{option_or}
-use Rattle.std.specs.Str.{bytes_eq}
 use Rattle.unit_name.specs.Names.{name_cmp}
-use Rattle.dropins.specs.Taken.{candidate_at}
-use Rattle.list_laws.specs.FirstSaid.{first_said}
-use Rattle.dropins.proofs.Found.{folder_says}
+use Rattle.list_laws.specs.FirstSaid.{first_said, or_assoc, or_none}
+use Rattle.dropins.specs.Walks.{said_for}
+use Rattle.dropins.proofs.Found.{folder_entries_say}
 use Rattle.dropins.proofs.precedence.take_folder.Goals as goal
 
-pub loop-path-init : goal.loop-path-init
-loop-path-init c f =
-    ap (λ ps. option_or (get name_cmp c.args.takes.now f) (first_said (λ p. cond (bytes_eq p.name f) (candidate_at c.args.store.now c.args.search p) None) ps)) (c.into_iter-path-iterator.ensures.into_iter_gives.0 ∙ c.in_ok-path-items.ensures.paths)
-    ∙ ap (option_or (get name_cmp c.args.takes.now f)) (folder_says c.args.rank c.args.dir.now f c.args.store.now c.args.search)
+pub loop-placed-init : goal.loop-placed-init
+loop-placed-init c f =
+    ap (λ es. option_or (get name_cmp c.args.takes.now f) (first_said (said_for c.args.search f) es)) c.entries_in-entries.ensures.entries
+    ∙ ap (option_or (get name_cmp c.args.takes.now f)) (folder_entries_say c.args.rank c.args.dir.now f c.args.store.now c.args.search)
+
+pub loop-placed-preserved : goal.loop-placed-preserved
+loop-placed-preserved c f =
+    let rest = first_said (said_for c.args.search f) c.next_entry.new.self in
+    ap (λ o. option_or o rest) (c.in_ok-take_entry.ensures.taken f) ∙ or_assoc (get name_cmp c.loop-placed.takes f) (said_for c.args.search f c.in-Some.placed) rest
+    ∙ ap (λ es. option_or (get name_cmp c.loop-placed.takes f) (first_said (said_for c.args.search f) es)) (sym c.in-Some.ensures.first)
+    ∙ c.loop-placed.invariant f
+
+pub returns : goal.returns
+returns c = record {
+  taken = λ f.
+      sym (or_none (get name_cmp c.loop-placed.takes f))
+      ∙ ap (λ es. option_or (get name_cmp c.loop-placed.takes f) (first_said (said_for c.args.search f) es)) (sym c.in_default.ensures.first.0)
+      ∙ c.loop-placed.invariant f;
+}

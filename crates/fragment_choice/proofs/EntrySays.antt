@@ -1,0 +1,23 @@
+-- What an entry says is what is visible says.
+use Rattle.std.proofs.Common.{◌≡◌, ℕ, Some, None, refl, ap, ◌∙◌}
+use Rattle.std.specs.Option.{option_and_then}
+use Rattle.std.specs.FinMap as finmap
+use Rattle.join_law.specs.declared.versions.Version.{Version}
+use Rattle.edit_sums.specs.declared.contents.Content.{Content}
+use Rattle.edit_sums.specs.declared.contents.Content.TheVariants.{Gone, Link, File}
+use Rattle.edit_sums.specs.Entries.{Entry}
+use Rattle.edit_sums.specs.Sums.{EntryMap, shown}
+use Rattle.unit_name.specs.Names.{Name}
+use Rattle.fragment_choice.specs.Choices.{content_says, own_path, says}
+
+module _ (s : EntryMap) (n o : Name) (rank : ℕ) where
+  pub nothing_says : None ≡ finmap.get s (own_path o rank) → None ≡ says s n o rank
+  nothing_says e = ap (λ x. option_and_then (content_says n o (own_path o rank)) (option_and_then shown x)) e
+
+  pub entry_says : (x : Entry) → Some x ≡ finmap.get s (own_path o rank) → content_says n o (own_path o rank) x.content ≡ says s n o rank
+  entry_says x e = by x.version x.content ∙ ap (λ y. option_and_then (content_says n o (own_path o rank)) (option_and_then shown y)) e
+    where
+      by : (v : Version) (c : Content) → content_says n o (own_path o rank) c ≡ option_and_then (content_says n o (own_path o rank)) (shown (record { version = v; content = c }))
+      by v Gone = refl
+      by v (Link target) = refl
+      by v (File bytes) = refl
