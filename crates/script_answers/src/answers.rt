@@ -3,10 +3,9 @@ ghost use Rattle.std.specs.Prelude.{◌≡◌, ◌∷◌, ◌++◌, IfOk, OnOk, 
 ghost use Rattle.std.specs.List.{flat_map};
 ghost use Rattle.script_answers.specs.Texts.{refusal_name, refusal_values, error_line, ok_line, changed_line, entries_line, entry_line, files_text, content_text, version_text};
 
-use edit_sums::{Content, Entry};
+use edit_sums::Content;
 use join_law::Version;
-use load_path::Path;
-use replica_store::Store;
+use replica_store::{Placed, Store};
 use script_commands::Refusal;
 use std::alloc::{AllocError, Global};
 use std::fmt::Write;
@@ -134,12 +133,12 @@ fn append_version(
 fn append_entry(
     out: &mut Vec<u8>,
     scratch: &mut String,
-    path: &Path,
-    entry: &Entry,
+    placed: &Placed,
 ) -> Result<(), AllocError>
-    ensures appended { OnOk result (out.new.items ≡ out.old.items ++ entry_line (path.now, entry.now)) }
+    ensures appended { OnOk result (out.new.items ≡ out.old.items ++ entry_line placed.now) }
 {
-    path.append_to(out)?;
+    let entry = placed.entry();
+    placed.path()?.append_to(out)?;
     out.push(b' ')?;
     append_version(out, scratch, entry.version)?;
     out.push(b' ')?;
@@ -155,8 +154,9 @@ pub fn list_files(alloc: Global, store: &Store) -> Result<Vec<u8>, AllocError>
 {
     let mut out = Vec::new(alloc);
     let mut scratch = String::new(alloc);
-    for (path, entry) in store.entries() {
-        append_entry(&mut out, &mut scratch, path, entry)?;
+    let mut entries = store.entries();
+    while let Some(placed) = entries.next_entry() {
+        append_entry(&mut out, &mut scratch, &placed)?;
     }
     out.extend_from_slice(b"end\n")?;
     Ok(out)

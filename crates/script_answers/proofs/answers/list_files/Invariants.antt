@@ -1,7 +1,11 @@
-use Rattle.std.proofs.Common.{◌≡◌, take}
+use Rattle.std.proofs.Common.{◌≡◌, ◌++◌, length}
 use Rattle.std.specs.List.{flat_map}
+use Rattle.std.specs.FinMap as finmap
 use Rattle.script_answers.specs.Texts.{entry_line}
 use Rattle.script_answers.proofs.answers.list_files.Given as goal
 
-abbrev pub invariant-loop-path : goal.invariant-loop-path
-invariant-loop-path l = l.out.items ≡ flat_map entry_line (take l.path-index l.path-items)
+abbrev pub invariant-loop-placed : goal.invariant-loop-placed
+invariant-loop-placed l = l.out.items ++ flat_map entry_line l.entries ≡ flat_map entry_line (finmap.entries l.store)
+
+abbrev pub decreases-loop-placed : goal.decreases-loop-placed
+decreases-loop-placed l = length l.entries
