@@ -3,7 +3,7 @@
 //! An edit is `COUNTER.WRITER:PATH` for a removal, with `=TEXT` behind it for a file and with `>TARGET` for a link. In a
 //! list of edits the version may be left out: each that has none is then later than those before it.
 use crate::calls::{CallFault, Words, append_path, append_text, number_of, path_of, text_of};
-use replica_store::{Content, ContentFault, Edit, Entry, Path, Store, Version};
+use replica_store::{Content, ContentFault, Edit, Entries, Path, Placed, Store, Version};
 use std::alloc::{AllocError, Global};
 
 // The parts of a word before and behind the first byte of a kind.
@@ -132,33 +132,34 @@ pub fn append_edit(alloc: Global, out: &mut Vec<u8>, edit: &Edit) -> Result<(), 
     append_content(out, &edit.content)
 }
 
-// Writes an entry with its path.
-fn append_entry(
+/// Writes an entry with its path.
+pub fn append_placed(alloc: Global, out: &mut Vec<u8>, placed: &Placed) -> Result<(), AllocError> {
+    append_version(alloc, out, placed.entry().version)?;
+    out.push(b':')?;
+    append_path(out, &placed.path()?)?;
+    append_content(out, &placed.entry().content)
+}
+
+/// Writes entries, each behind a space but the first; `nothing` where there are none.
+pub fn append_entries(
     alloc: Global,
     out: &mut Vec<u8>,
-    path: &Path,
-    entry: &Entry,
+    mut entries: Entries<'_>,
 ) -> Result<(), AllocError> {
-    append_version(alloc, out, entry.version)?;
-    out.push(b':')?;
-    append_path(out, path)?;
-    append_content(out, &entry.content)
+    let Some(first) = entries.next_entry() else {
+        return out.extend_from_slice(b"nothing");
+    };
+    append_placed(alloc, out, &first)?;
+    while let Some(placed) = entries.next_entry() {
+        out.push(b' ')?;
+        append_placed(alloc, out, &placed)?;
+    }
+    Ok(())
 }
 
 /// Writes all that a store holds, in path order, each entry behind a space but the first.
 pub fn append_store(alloc: Global, out: &mut Vec<u8>, store: &Store) -> Result<(), AllocError> {
-    if store.entries().is_empty() {
-        return out.extend_from_slice(b"nothing");
-    }
-    let mut is_first = true;
-    for (path, entry) in store.entries() {
-        if !is_first {
-            out.push(b' ')?;
-        }
-        is_first = false;
-        append_entry(alloc, out, path, entry)?;
-    }
-    Ok(())
+    append_entries(alloc, out, store.entries())
 }
 
 /// What a store holds, as an answer.

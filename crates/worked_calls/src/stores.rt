@@ -1,7 +1,7 @@
 //! Calls on stores.
-use crate::calls::{CallFault, Words, append_path};
+use crate::calls::{CallFault, Words};
 use crate::edits::{
-    append_content, append_paths, append_store, append_version, edit_of, store, told,
+    append_content, append_entries, append_paths, append_placed, append_store, append_version, edit_of, store, told,
 };
 use replica_store::{Content, Entry, Path, Store};
 use std::alloc::Global;
@@ -16,6 +16,7 @@ pub fn answer(alloc: Global, words: &mut Words) -> Result<Vec<u8>, CallFault> {
         b"absorb" => absorbed(alloc, words),
         b"same" => same(alloc, words),
         b"high" => high(alloc, words),
+        b"len" => sizes(alloc, words),
         other => looked_up(alloc, other, words),
     }
 }
@@ -26,6 +27,8 @@ fn looked_up(alloc: Global, call: &[u8], words: &mut Words) -> Result<Vec<u8>, C
         b"get" => got(alloc, words),
         b"visible" => visible(alloc, words),
         b"visible_at" => visible_at(alloc, words),
+        b"placed_at" => placed_at(alloc, words),
+        b"entries_in" => entries_in(alloc, words),
         b"list" => listed(alloc, &store(alloc, words)?.list()?),
         b"folder" => folder(alloc, words),
         _ => Err(CallFault::Line),
@@ -118,24 +121,46 @@ fn rank(words: &mut Words) -> Result<u8, CallFault> {
     u8::try_from(words.number()?).map_err(|_| CallFault::Line)
 }
 
-// The path of these parts, and what is visible there.
+// What is visible at the path of these parts.
 fn visible_at(alloc: Global, words: &mut Words) -> Result<Vec<u8>, CallFault> {
     let rank = rank(words)?;
     let folder = words.text()?;
     let name = words.text()?;
     let store = store(alloc, words)?;
-    placed_told(alloc, store.visible_at(rank, &folder, &name))
+    content_told(alloc, store.visible_at(rank, &folder, &name))
 }
 
-// A path with its content, or nothing.
-fn placed_told(alloc: Global, placed: Option<(&Path, &Content)>) -> Result<Vec<u8>, CallFault> {
-    let Some((path, content)) = placed else {
+// What is held at the path of these parts, with its name.
+fn placed_at(alloc: Global, words: &mut Words) -> Result<Vec<u8>, CallFault> {
+    let rank = rank(words)?;
+    let folder = words.text()?;
+    let name = words.text()?;
+    let store = store(alloc, words)?;
+    let Some(placed) = store.placed_at(rank, &folder, &name) else {
         return Ok(Vec::from_slice(alloc, b"nothing")?);
     };
-    let mut out = Vec::new(alloc);
-    append_path(&mut out, path)?;
-    append_content(&mut out, content)?;
+    let mut out = Vec::from_slice(alloc, placed.name().as_slice())?;
+    out.push(b' ')?;
+    append_placed(alloc, &mut out, &placed)?;
     Ok(out)
+}
+
+// The entries of a folder.
+fn entries_in(alloc: Global, words: &mut Words) -> Result<Vec<u8>, CallFault> {
+    let rank = rank(words)?;
+    let folder = words.text()?;
+    let store = store(alloc, words)?;
+    let mut out = Vec::new(alloc);
+    append_entries(alloc, &mut out, store.entries_in(rank, &folder))?;
+    Ok(out)
+}
+
+// How many paths a store holds, and in how many directories they stand.
+fn sizes(alloc: Global, words: &mut Words) -> Result<Vec<u8>, CallFault> {
+    let store = store(alloc, words)?;
+    let paths = store.len();
+    let directories = store.maps().len();
+    Ok(format!(in alloc; "{paths} in {directories}")?.into_bytes())
 }
 
 // The paths of a folder.
