@@ -1,7 +1,7 @@
 -- Digests and pieces, seen as maps.
 use Rattle.std.proofs.lemmas.List.{map-append, take-append-drop, length-drop}
 use Rattle.std.proofs.lemmas.Bool.Decides.{nat_tests}
-use Rattle.std.proofs.Common.{◌≡◌, ◌≤◌, ◌==◌, ◌↔◌, ℕ, arith, ◌++◌, take, drop, Bool, true, false, cond, None, List, [], ◌∷◌, IsTrue, length, map, refl, sym, ap, ◌∙◌}
+use Rattle.std.proofs.Common.{◌≡◌, ◌≤◌, ◌==◌, ◌↔◌, ℕ, arith, ◌++◌, take, drop, Bool, true, false, cond, Option, Some, None, Bor, List, [], ◌∷◌, IsTrue, length, map, refl, sym, ap, ◌∙◌}
 use Rattle.std.specs.Prelude.{filter}
 use Rattle.std.specs.FinMap as finmap
 use Rattle.std.specs.FinMap.{find, is_sorted, same_map}
@@ -13,6 +13,8 @@ use Rattle.edit_sums.specs.declared.entries.Edit.{Edit}
 use Rattle.edit_sums.specs.Sums.{EntryMap, edit_of, sum_of, join}
 use Rattle.edit_sums.specs.SumLaws.{sum_of-edits_of}
 use Rattle.world_law.specs.Cuts.{VersionMap, digest_of, is_newer, is_wanted, cut}
+use Rattle.world_law.specs.CutLaws.{get-digest_of}
+use Rattle.std.specs.Option.{option_copied, option_map}
 use Rattle.list_laws.specs.Truths.{to_T}
 
 -- the map of sorted versions
@@ -57,11 +59,22 @@ entries-sum_of es s =
     ap (λ l. finmap.entries (sum_of (map edit_of l))) (sym there) ∙ ap finmap.entries (sum_of-edits_of (finmap.from_sorted es)) ∙ there
 
 -- the sum of the entries that are newer is what is cut
+pub news_is_cut : (s : EntryMap) (d : VersionMap) → sum_of (map edit_of (filter (λ p. is_newer p.1.version (finmap.get d p.0)) (finmap.entries s))) ≡ cut s d None
+news_is_cut s d = ap sum_of (filter_edits (is_wanted d None) (finmap.entries s))
+
 pub newer_is_cut : (s : EntryMap) (d : VersionMap) (es : List (PathParts × Entry)) (vs : List (PathParts × Version)) → es ≡ finmap.entries s → vs ≡ finmap.entries d → sum_of (map edit_of (filter (λ p. is_newer p.1.version (find path_cmp p.0 vs)) es)) ≡ cut s d None
 newer_is_cut s d es vs held asked =
     (λ i. sum_of (map edit_of (filter (λ (p : PathParts × Entry). is_newer p.1.version (find path_cmp p.0 (asked i))) (held i))))
     ∙ (λ i. sum_of (map edit_of (filter (λ (p : PathParts × Entry). is_newer p.1.version (sym (finmap.get-entries d p.0) i)) (finmap.entries s))))
-    ∙ ap sum_of (filter_edits (is_wanted d None) (finmap.entries s))
+    ∙ news_is_cut s d
+
+-- the version that is held, in place of the digest's
+pub version_held : (s : EntryMap) (q : PathParts) (held : Option (Bor Entry)) → option_copied held ≡ finmap.get s q → option_map (λ x. x.now.version) held ≡ finmap.get (digest_of s) q
+version_held s q held is = by held ∙ ap (option_map (λ (x : Entry). x.version)) is ∙ sym (get-digest_of s q)
+  where
+    by : (held : Option (Bor Entry)) → option_map (λ x. x.now.version) held ≡ option_map (λ (x : Entry). x.version) (option_copied held)
+    by None = refl
+    by (Some x) = refl
 
 -- no more are left than there were
 pub all_left : (n : ℕ) (es : List (PathParts × Entry)) (m : ℕ) → m ≡ length es → length (drop n es) ≤ m

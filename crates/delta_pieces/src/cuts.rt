@@ -4,7 +4,7 @@ ghost use Rattle.edit_sums.specs.Sums.{EntryMap, IsHonest, edits_of, join};
 ghost use Rattle.world_law.specs.Cuts.{cut, digest_of};
 
 use crate::digests::Digest;
-use crate::newer::{newer_at, newer_entries};
+use crate::newer::{newer_at, newer_entries, newer_than};
 use crate::pieces::Piece;
 use load_path::Path;
 use replica_store::Replica;
@@ -25,7 +25,19 @@ pub fn delta_for(alloc: Global, replica: &Replica, asked: &Digest) -> Result<Pie
     Ok(Piece::from_store(newer))
 }
 
-/// The same at these paths alone, which are read as a set.
+/// The same for another replica's own digest, which isn't made: copies of what the first holds that is news to the
+/// second.
+///
+/// One pass over the first, and one look in the second for each of its entries. It fails for want of memory alone.
+pub fn delta_between(alloc: Global, from: &Replica, to: &Replica) -> Result<Piece, AllocError>
+    ensures cut { IfOk result (λ piece. piece ≡ cut from.now.store (digest_of to.now.store) None) }
+    ensures whole { IfOk result (λ piece. IsHonest (edits_of to.now.store ++ edits_of from.now.store) →
+        join to.now.store piece ≡ join to.now.store from.now.store) }
+{
+    Ok(Piece::from_store(newer_than(alloc, from.store(), to.store())?))
+}
+
+/// What is cut for a digest at these paths alone, which are read as a set.
 ///
 /// For each path a search in the store and one in the digest, and at most one shift of what was
 /// found before, none where the paths rise. An entry that is carried is copied as often as its path

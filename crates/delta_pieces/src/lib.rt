@@ -16,7 +16,7 @@ mod pieces;
 mod takes;
 
 pub use asks::{digest, digest_at};
-pub use cuts::{delta_at, delta_for};
+pub use cuts::{delta_at, delta_between, delta_for};
 pub use digests::Digest;
 pub use join_law::Rest;
 pub use pieces::Piece;

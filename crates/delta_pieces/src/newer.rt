@@ -1,18 +1,19 @@
 //! What is newer than what was asked with.
-ghost use Rattle.std.specs.Prelude.{◌≡◌, ◌≢◌, [], ◌∷◌, Some, IsTrue, IfOk, OnOk, filter, map};
+ghost use Rattle.std.specs.Prelude.{◌≡◌, ◌≢◌, [], ◌∷◌, Some, None, IsTrue, IfOk, OnOk, filter, map};
+ghost use Rattle.std.specs.Option.{option_map};
 ghost use Rattle.std.specs.declared.cmp.Ordering.TheVariants.{Less};
 ghost use Rattle.std.specs.FinMap.{is_sorted, find};
 ghost use Rattle.load_path.specs.Paths.{PathParts, path_cmp};
 ghost use Rattle.edit_sums.specs.Sums.{edit_of, join, sum_of};
 ghost use Rattle.sorted_pairs.specs.Places.{IsNotBelow};
-ghost use Rattle.world_law.specs.Cuts.{cut, is_newer};
+ghost use Rattle.world_law.specs.Cuts.{cut, digest_of, is_newer};
 
-use crate::digests::Digest;
 use crate::copies::join_copy;
+use crate::digests::Digest;
 use edit_sums::{Edit, Entry};
 use join_law::Version;
 use load_path::Path;
-use replica_store::{Entries, Placed, Store};
+use replica_store::{Entries, Finger, Placed, Store};
 use std::alloc::{AllocError, Global};
 
 // Copies of the entries that are newer. One pass over entries and versions together.
@@ -66,6 +67,33 @@ fn version_at(versions: &[(Path, Version)], placed: &Placed) -> Option<Version>
         Some(next.1)
     } else {
         None
+    }
+}
+
+// Copies of the entries of one store that are newer than what another holds. One pass over the first, and one look in
+// the other for each of its entries.
+pub fn newer_than(alloc: Global, store: &Store, other: &Store) -> Result<Store, AllocError>
+    ensures cut { IfOk result (λ newer. newer ≡ cut store.now (digest_of other.now) None) }
+{
+    let mut newer = Store::new(alloc);
+    let mut finger = Finger::new();
+    let mut entries = store.entries();
+    while let Some(placed) = entries.next_entry() {
+        let held = other.held_for(&placed, &mut finger);
+        if is_news(placed.entry(), held) {
+            join_copy(&mut newer, &placed)?;
+        }
+    }
+    Ok(newer)
+}
+
+// Whether an entry is newer than what is held, or nothing is.
+fn is_news(entry: &Entry, held: Option<&Entry>) -> bool
+    ensures news { result ≡ is_newer entry.now.version (option_map (λ x. x.now.version) held.entry) }
+{
+    match held {
+        None => true,
+        Some(held) => entry.version.cmp(&held.version).is_gt(),
     }
 }
 

@@ -4,8 +4,8 @@ ghost use Rattle.std.specs.FinMap as finmap;
 ghost use Rattle.edit_sums.specs.Sums.{join, sum_of};
 ghost use Rattle.world_law.specs.Cuts.{only_at};
 
-use crate::digests::Digest;
 use crate::copies::gather;
+use crate::digests::Digest;
 use crate::newer::newer_at;
 use edit_sums::Edit;
 use join_law::Rest;

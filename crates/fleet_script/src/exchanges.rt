@@ -11,7 +11,7 @@ ghost use Rattle.fleet_script.specs.Holds.{Continues, Executes, IsJoinedAt, kept
 
 use crate::states::Shell;
 use byte_strings::Bytes;
-use delta_pieces::{Piece, delta_at, delta_for, digest, digest_at};
+use delta_pieces::{Piece, delta_at, delta_between, digest_at};
 use load_path::Path;
 use replica_store::Replica;
 use script_answers::{merge_done, part_done};
@@ -134,8 +134,7 @@ impl Shell {
             (digest_of (slice_index_or self.now.nodes.items to d).store) (if_any paths.now)) }
     {
         if paths.is_empty() {
-            let asked = digest(alloc, &self.nodes[to])?;
-            return delta_for(alloc, &self.nodes[from], &asked);
+            return delta_between(alloc, &self.nodes[from], &self.nodes[to]);
         }
         let asked = digest_at(alloc, &self.nodes[to], paths)?;
         delta_at(alloc, &self.nodes[from], &asked, paths)

@@ -16,8 +16,8 @@ use Rattle.load_path.specs.PathLaws.{path_cmp_total, path_cmp-IsAntisymmetric}
 use Rattle.edit_sums.specs.Entries.{Entry, entry_cmp, larger}
 use Rattle.edit_sums.specs.EntryLaws.{entry_cmp_total, larger-None}
 use Rattle.edit_sums.specs.Sums.{EntryMap, is_other, changed_paths, edit_of, with_edit, sum_of, join}
-use Rattle.edit_sums.specs.SumLaws.{sum_of-edits_of, with_edit-of_join, join-nothing}
-use Rattle.edit_sums.specs.GreatestLaws.{get-join, same_path}
+use Rattle.edit_sums.specs.SumLaws.{same_store, sum_of-edits_of, with_edit-of_join, join-nothing}
+use Rattle.edit_sums.specs.GreatestLaws.{get-join, get-with_edit, same_path, tied}
 use Rattle.path_maps.specs.SpreadLaws.{find_below}
 use Rattle.path_maps.specs.Changes.{is_rise, rises, additions}
 
@@ -135,7 +135,7 @@ none_other first (e ∷ es) h =
     count_cons _ e es ∙ ap (λ b. cond b 1 0 + count_by (λ (p : PathParts × Entry). is_other (first p.0) p.1) es) (ap (λ y. is_other y e.1) (h e (inl refl)) ∙ itself_no_other e.1)
     ∙ nothing_more _ ∙ none_other first es (λ p a. h p (inr a))
 
-nothing_changed : (s : EntryMap) → changed_paths s s ≡ 0
+pub nothing_changed : (s : EntryMap) → changed_paths s s ≡ 0
 nothing_changed s = none_other (finmap.get s) (finmap.entries s) (λ p is. found_entry s p.0 ∙ find_own (finmap.entries s) (from_T _ (finmap.entries_sorted s)) p is)
 
 module _ (s : EntryMap) where
@@ -163,6 +163,44 @@ module _ (s : EntryMap) where
     -- and has as many more as there was nothing at
     pub len-join : finmap.len (join s t) ≡ additions s (finmap.entries t) + finmap.len s
     len-join = ap (λ (x : EntryMap). finmap.len x) (sym all_joined) ∙ held_by (finmap.entries t) (from_T _ (finmap.entries_sorted t))
+
+-- ---- where nothing is greater, nothing is joined
+
+module _ (s : EntryMap) where
+  not_greater : (x : Option Entry) (y : Entry) → is_rise x y ≡ false → larger (Some y) x ≡ x
+  not_greater None y h = cc (h)
+  not_greater (Some x) y h = by (entry_cmp y x) refl
+    where
+      by : (r : Ordering) → entry_cmp y x ≡ r → cond (is_gt r) (Some y) (Some x) ≡ Some x
+      by Less e = refl
+      by Equal e = refl
+      by Greater e = let wrong = sym (ap is_lt (entry_cmp_total.antisymm x y ∙ ap ordering_reverse e)) ∙ h in cc (wrong)
+
+  edit_known : (e : PathParts × Entry) → is_rise (finmap.get s e.0) e.1 ≡ false → with_edit s (edit_of e) ≡ s
+  edit_known e h = same_store _ _ (λ q. get-with_edit s (edit_of e) q ∙ by q (eq_by_cmp path_cmp q e.0) refl)
+    where
+      by : (q : PathParts) (b : Bool) → eq_by_cmp path_cmp q e.0 ≡ b → cond (eq_by_cmp path_cmp q e.0) (larger (Some e.1) (finmap.get s q)) (finmap.get s q) ≡ finmap.get s q
+      by q true t =
+          ap (λ b. cond b (larger (Some e.1) (finmap.get s q)) (finmap.get s q)) t
+          ∙ not_greater (finmap.get s q) e.1 (ap (λ (k : PathParts). is_rise (finmap.get s k) e.1) (tied q e.0 t) ∙ h)
+      by q false t = ap (λ b. cond b (larger (Some e.1) (finmap.get s q)) (finmap.get s q)) t
+
+  known_all : (es : List (PathParts × Entry)) → IsTrue (is_sorted path_cmp es) → rises s es ≡ 0 → joined s es ≡ s
+  known_all [] t none = join-nothing s
+  known_all (e ∷ es) t none = by (is_rise (finmap.get s e.0) e.1) refl (known_all es (and_parts (below_all path_cmp e.0 es) _ t).1)
+    where
+      one : rises s (e ∷ es) ≡ cond (is_rise (finmap.get s e.0) e.1) 1 0 + rises s es
+      one = count_cons _ e es
+
+      by : (b : Bool) → is_rise (finmap.get s e.0) e.1 ≡ b → (rises s es ≡ 0 → joined s es ≡ s) → joined s (e ∷ es) ≡ s
+      by true h more_known = let count = sym none ∙ one ∙ ap (λ b. cond b 1 0 + rises s es) h in absurd (omega (arith, count))
+      by false h more_known =
+          let count = sym none ∙ one ∙ ap (λ b. cond b 1 0 + rises s es) h in
+          let rest : rises s es ≡ 0 = omega (arith, count) in
+          more s e es t ∙ ap (λ m. with_edit m (edit_of e)) (more_known rest) ∙ edit_known e h
+
+  pub join_known : (t : EntryMap) → rises s (finmap.entries t) ≡ 0 → s ≡ join s t
+  join_known t none = sym (sym (all_joined s t) ∙ known_all (finmap.entries t) (from_T _ (finmap.entries_sorted t)) none)
 
 -- ---- counts that can't run over
 

@@ -1,14 +1,17 @@
 -- What a binary search by bytes finds among pairs in order.
-use Rattle.std.proofs.Common.{◌≡◌, ℕ, zero, suc, List, [], ◌∷◌, length, get_or, Some, None, Result, Ok, Err, IfOk, IfErr, IsTrue, sym}
+use Rattle.std.proofs.Common.{◌≡◌, ◌<◌, ℕ, zero, suc, List, [], ◌∷◌, length, get_or, Some, None, Result, Ok, Err, IfOk, IfErr, IsTrue, sym, ap, ◌∙◌}
+use Rattle.std.proofs.lemmas.List.{get_or_default}
 use Rattle.std.specs.List.Sorted.{IsSearchInRange, IsBinarySearchResult}
+use Rattle.std.specs.Cmp.{tied_itself}
 use Rattle.std.specs.Cmp.Lexicographic.{nat_list_cmp_total}
 use Rattle.std.specs.FinMap.{slice_cmp-IsAntisymmetric, nat_cmp-IsAntisymmetric}
 use Rattle.std.specs.FinMap.Entries.{find, is_sorted}
 use Rattle.std.specs.declared.cmp.Ordering.TheVariants.{Equal}
-use Rattle.sorted_pairs.specs.Places.{IsAt, IsGap}
+use Rattle.sorted_pairs.specs.Places.{IsAt}
 use Rattle.sorted_pairs.specs.PlaceLaws.{find_at, find_gap}
 use Rattle.sorted_pairs.specs.SearchLaws.{search_finds}
 use Rattle.path_maps.specs.PathMaps.{bytes_cmp}
+use Rattle.path_maps.specs.Folders.{IsPlaceOf}
 
 module _ {V : Type 0} (k : List ℕ) where
   tied_at : (es : List (List ℕ × V)) (i : ℕ) (d : List ℕ × V) → IsAt bytes_cmp k es i → bytes_cmp k (get_or es i d).0 ≡ Equal
@@ -16,14 +19,20 @@ module _ {V : Type 0} (k : List ℕ) where
   tied_at (e ∷ es) zero d a = a
   tied_at (e ∷ es) (suc i) d a = tied_at es i d a.1
 
+  -- a key that stands at a place is found there
+  pub place_is : (es : List (List ℕ × V)) (i : ℕ) → IsTrue (is_sorted bytes_cmp es) → i < length es → ((d : List ℕ × V) → bytes_cmp (get_or es i d).0 k ≡ Equal) → IsPlaceOf k es i
+  place_is es i s lt tied d =
+      let a = (search_finds bytes_cmp nat_list_cmp_total k es (Ok i) s lt tied).0 in
+      (sym (slice_cmp-IsAntisymmetric nat_cmp-IsAntisymmetric k _ (tied_at es i d a)), find_at bytes_cmp k es i d a)
+
   -- what an answer of the search says
-  abbrev pub Found : List (List ℕ × V) → Result ℕ ℕ → Type 0
-  Found es (Ok i) = (d : List ℕ × V) → ((get_or es i d).0 ≡ k) × (find bytes_cmp k es ≡ Some (get_or es i d).1)
-  Found es (Err i) = find bytes_cmp k es ≡ None
+  pub places : (es : List (List ℕ × V)) (r : Result ℕ ℕ) → IsTrue (is_sorted bytes_cmp es) → IsSearchInRange r (length es) → IsBinarySearchResult (λ (e : List ℕ × V). bytes_cmp e.0 k) es r
+      → IfOk r (λ i. i < length es) × IfOk r (IsPlaceOf k es) × IfErr r (λ _. find bytes_cmp k es ≡ None)
+  places es (Ok i) s range found = (range, place_is es i s range found, tt)
+  places es (Err i) s range found = (tt, tt, find_gap bytes_cmp k nat_list_cmp_total es i s (search_finds bytes_cmp nat_list_cmp_total k es (Err i) s range found).1)
 
-  found_by : (es : List (List ℕ × V)) (r : Result ℕ ℕ) → IsTrue (is_sorted bytes_cmp es) → IfOk r (IsAt bytes_cmp k es) → IfErr r (IsGap bytes_cmp k es) → Found es r
-  found_by es (Ok i) s a g = λ d. (sym (slice_cmp-IsAntisymmetric nat_cmp-IsAntisymmetric k _ (tied_at es i d a)), find_at bytes_cmp k es i d a)
-  found_by es (Err i) s a g = find_gap bytes_cmp k nat_list_cmp_total es i s g
-
-  pub searched : (es : List (List ℕ × V)) (r : Result ℕ ℕ) → IsTrue (is_sorted bytes_cmp es) → IsSearchInRange r (length es) → IsBinarySearchResult (λ (e : List ℕ × V). bytes_cmp e.0 k) es r → Found es r
-  searched es r s range found = let h = search_finds bytes_cmp nat_list_cmp_total k es r s range found in found_by es r s h.0 h.1
+  -- the pair at a place, whose key is this one, is found
+  pub same_is : (es : List (List ℕ × V)) (i : ℕ) (d : List ℕ × V) → IsTrue (is_sorted bytes_cmp es) → i < length es → d ≡ get_or es i d → d.0 ≡ k → find bytes_cmp k es ≡ Some d.1
+  same_is es i d s lt at same =
+      let tied : bytes_cmp d.0 k ≡ Equal = ap (λ (x : List ℕ). bytes_cmp x k) same ∙ tied_itself nat_list_cmp_total k in
+      (place_is es i s lt (λ b. ap (λ p. bytes_cmp p.0 k) (get_or_default es i b d lt ∙ sym at) ∙ tied) d).1 ∙ ap (λ p. Some p.1) (sym at)

@@ -1,6 +1,6 @@
 -- Paths by their parts, and the paths of a folder.
 -- Source: this project's own.
-use Rattle.std.specs.Prelude.{ℕ, Bool, ◌==◌, ◌&&◌, List}
+use Rattle.std.specs.Prelude.{◌≡◌, ℕ, Bool, ◌==◌, ◌&&◌, Some, List, slice_index_or}
 use Rattle.std.specs.Str.{bytes_eq}
 use Rattle.std.specs.FinMap.{find}
 use Rattle.std.specs.Ordering.{nat_cmp}
@@ -19,3 +19,7 @@ is_in rank folder path = (path.rank == rank) && bytes_eq path.folder folder
 -- the names of a folder: two look-ups
 abbrev pub names_in : RankMap → ℕ → List ℕ → NameMap
 names_in m rank folder = or_empty (find bytes_cmp folder (or_empty (find nat_cmp rank m)))
+
+-- a key stands at this place
+abbrev pub IsPlaceOf : {V : Type 0} → List ℕ → List (List ℕ × V) → ℕ → Type 0
+IsPlaceOf {V} key pairs at = (d : List ℕ × V) → ((slice_index_or pairs at d).0 ≡ key) × (find bytes_cmp key pairs ≡ Some (slice_index_or pairs at d).1)

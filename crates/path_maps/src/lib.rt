@@ -5,8 +5,10 @@
 mod changes;
 mod counts;
 mod entries;
+mod fingers;
 mod look_ups;
 mod stores;
 
 pub use entries::{Entries, Placed};
+pub use fingers::Finger;
 pub use stores::{FolderMap, NameMap, RankMap, Store};

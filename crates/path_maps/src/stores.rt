@@ -9,7 +9,8 @@ ghost use Rattle.path_maps.specs.PathMaps.{AreRanks, flat};
 use crate::changes::count_changes;
 use crate::counts::{Counts, count_entries};
 use crate::entries::{Entries, Placed};
-use crate::look_ups::{folder_at, pair_at};
+use crate::fingers::Finger;
+use crate::look_ups::{folder_at, folder_near, pair_at, pair_near};
 use byte_strings::Bytes;
 use edit_sums::{Content, Edit, Entry};
 use join_law::{Join, JoinMap, Rest, Versioned};
@@ -119,13 +120,16 @@ impl Store {
         Some(Placed::new(rank, folder, name, entry))
     }
 
-    // What is held at the path of another store's entry.
-    pub(crate) fn held_for(&self, placed: &Placed) -> Option<&Entry>
+    /// What is held at the path of an entry, maybe of another store. It takes no memory, and a comparison or two where
+    /// the finger points at the path or before it, else O(log n).
+    pub fn held_for(&self, placed: &Placed, finger: &mut Finger) -> Option<&Entry>
         ensures held { option_copied result ≡ finmap.get self.now placed.now.0 }
     {
         let (rank, folder, name) = placed.parts();
-        let held = self.placed_at(rank, folder.as_slice(), name.as_slice())?;
-        Some(held.entry())
+        let folder = folder.as_slice();
+        let (_, names) = folder_near(&self.ranks, rank, folder, &mut finger.folder)?;
+        let (_, value) = pair_near(names.pairs(), name.as_slice(), &mut finger.name)?;
+        value.entry()
     }
 
     /// The visible content at a path: what is held there, if it is no removal. O(log n), without memory.
@@ -222,9 +226,9 @@ impl Store {
         Ok(())
     }
 
-    /// Joins copies of what another store holds, and answers how many paths changed. A search for each of its entries;
-    /// then it costs what is news and a search for each, or one pass over both, whichever is less. Copies of entries
-    /// share their bytes.
+    /// Joins copies of what another store holds, and answers how many paths changed. One look at each of its entries;
+    /// where there is news, the join then costs what is news and a search for each, or one pass over both, whichever is
+    /// less. Copies of entries share their bytes.
     ///
     /// Where memory is refused, the store has part of what the join adds, and calling again with the same gives the rest.
     pub fn merge(&mut self, other: &Store) -> Result<u64, AllocError>
@@ -235,6 +239,9 @@ impl Store {
         ensures again { OnErr result (join self.new other.now ≡ join self.old other.now) }
     {
         let changes = count_changes(self, other);
+        if changes.changed == 0 {
+            return Ok(0);
+        }
         let len = sum_of_lens(self.len, changes.added)?;
         match self.ranks.join_copy(&other.ranks) {
             Ok(()) => {
@@ -251,8 +258,8 @@ impl Store {
         }
     }
 
-    /// Joins what another store holds, and answers how many paths changed. A search for each of its entries; then it
-    /// costs what is news and a search for each, or one pass over both, whichever is less.
+    /// Joins what another store holds, and answers how many paths changed. One look at each of its entries; where there
+    /// is news, the join then costs what is news and a search for each, or one pass over both, whichever is less.
     ///
     /// Where memory is refused, the store lies between what it was and the join, and joining the rest that comes back
     /// gives that join.
@@ -264,6 +271,9 @@ impl Store {
         ensures rest { IfErr result (λ fault. join self.new fault.rest ≡ join self.old other) }
     {
         let changes = count_changes(self, &other);
+        if changes.changed == 0 {
+            return Ok(0);
+        }
         let Ok(len) = sum_of_lens(self.len, changes.added) else {
             return Err(Rest { rest: other });
         };

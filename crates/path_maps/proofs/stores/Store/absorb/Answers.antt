@@ -1,7 +1,8 @@
-use Rattle.std.proofs.Common.{◌+◌, ap, subst, ◌∙◌}
+use Rattle.std.proofs.Common.{◌+◌, ap, subst, sym, ◌∙◌}
 use Rattle.std.specs.Prelude.{◌≤◌}
 use Rattle.edit_sums.specs.SumLaws.{store_below_refl, join-left}
 use Rattle.path_maps.proofs.Merges.{merged, merged_kept, merged_changes, part_kept, part_within, partly, rest_joined, rest_within, within_listed, within_fits, within_counted}
+use Rattle.path_maps.proofs.Rises.{join_known, nothing_changed}
 use Rattle.path_maps.proofs.stores.Store.absorb.Goals as goal
 
 pub returns-in_default-clause-kept : goal.returns-in_default-clause-kept
@@ -47,3 +48,9 @@ returns-in-Err-clause-within c = part_within c.self.inside.ranks c.other.inside.
 
 pub returns-in-Err-clause-rest : goal.returns-in-Err-clause-rest
 returns-in-Err-clause-rest c = rest_joined c.self.inside.ranks c.other.inside.ranks c.args.self.now c.args.other c.self.inside.len c.other.inside.len c.self.inside.high c.other.inside.high c.self.view_is c.other.view_is c.self.invariant c.other.invariant c.join_from.new.self c.join_from.ensures.valid c.in-Err.field-0.rest c.in-Err.ensures.rest_valid c.in-Err.ensures.refused
+
+pub returns-then-changes-eq0-clause-ok : goal.returns-then-changes-eq0-clause-ok
+returns-then-changes-eq0-clause-ok c = join_known c.args.self.now c.args.other (sym c.count_changes-changes.ensures.changed ∙ c.if-changes-eq0.true)
+
+pub returns-then-changes-eq0-clause-changed : goal.returns-then-changes-eq0-clause-changed
+returns-then-changes-eq0-clause-changed c = sym (nothing_changed c.args.self.now)

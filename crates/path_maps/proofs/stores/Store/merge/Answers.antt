@@ -1,7 +1,8 @@
-use Rattle.std.proofs.Common.{◌+◌, ap, subst, ◌∙◌}
+use Rattle.std.proofs.Common.{◌+◌, ap, subst, sym, ◌∙◌}
 use Rattle.std.specs.Prelude.{Result, Ok, Err, OnErr, ◌≤◌}
 use Rattle.edit_sums.specs.SumLaws.{store_below_refl, join-left}
 use Rattle.path_maps.proofs.Merges.{merged, merged_kept, merged_changes, part_kept, part_within, part_again, within_listed, within_fits, within_counted}
+use Rattle.path_maps.proofs.Rises.{join_known, nothing_changed}
 use Rattle.path_maps.proofs.stores.Store.merge.Goals as goal
 
 on_err : {T E P : Type 0} (r : Result T E) → P → OnErr r P
@@ -59,3 +60,9 @@ pub returns-in-Err-clause-again : goal.returns-in-Err-clause-again
 returns-in-Err-clause-again c =
     part_again c.self.inside.ranks c.other.inside.ranks c.args.self.now c.args.other.now c.self.inside.len c.other.inside.len c.self.inside.high c.other.inside.high c.self.view_is c.other.view_is c.self.invariant c.other.invariant c.join_copy.new.self
     c.in-Err.ensures.valid c.in-Err.ensures.refused
+
+pub returns-then-changes-eq0-clause-ok : goal.returns-then-changes-eq0-clause-ok
+returns-then-changes-eq0-clause-ok c = join_known c.args.self.now c.args.other.now (sym c.count_changes-changes.ensures.changed ∙ c.if-changes-eq0.true)
+
+pub returns-then-changes-eq0-clause-changed : goal.returns-then-changes-eq0-clause-changed
+returns-then-changes-eq0-clause-changed c = sym (nothing_changed c.args.self.now)
