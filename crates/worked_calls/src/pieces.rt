@@ -2,7 +2,7 @@
 use crate::calls::{CallFault, Words, append_path};
 use crate::edits::{append_store, append_version, edits, paths, told};
 use crate::stores::changed;
-use delta_pieces::{Digest, Piece, delta_at, delta_for, digest, digest_at, take};
+use delta_pieces::{Digest, Piece, delta_at, delta_between, delta_for, digest, digest_at, take};
 use replica_store::Replica;
 use std::alloc::{AllocError, Global};
 
@@ -15,6 +15,7 @@ pub fn answer(alloc: Global, words: &mut Words) -> Result<Vec<u8>, CallFault> {
         b"only" => only(alloc, words),
         b"delta" => delta(alloc, words),
         b"delta_at" => delta_at_some(alloc, words),
+        b"between" => between(alloc, words),
         b"take" => taken(alloc, words),
         _ => Err(CallFault::Line),
     }
@@ -103,7 +104,14 @@ fn delta(alloc: Global, words: &mut Words) -> Result<Vec<u8>, CallFault> {
     counted(alloc, &delta_for(alloc, &held, &asked)?)
 }
 
-// The same at some paths.
+// What one replica has that another lacks.
+fn between(alloc: Global, words: &mut Words) -> Result<Vec<u8>, CallFault> {
+    let from = holder(alloc, words)?;
+    let to = holder(alloc, words)?;
+    counted(alloc, &delta_between(alloc, &from, &to)?)
+}
+
+// What is cut for a digest at some paths.
 fn delta_at_some(alloc: Global, words: &mut Words) -> Result<Vec<u8>, CallFault> {
     let paths = paths(alloc, words)?;
     let held = holder(alloc, words)?;
