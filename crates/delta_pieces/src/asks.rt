@@ -7,7 +7,7 @@ ghost use Rattle.edit_sums.specs.Sums.{EntryMap};
 ghost use Rattle.world_law.specs.Cuts.{cut, digest_of, only_at};
 
 use crate::digests::Digest;
-use join_law::{Key, Version};
+use join_law::Version;
 use load_path::Path;
 use replica_store::{Replica, Store};
 use sorted_pairs::seek;

@@ -4,7 +4,7 @@ ghost use Rattle.std.specs.FinMap as finmap;
 ghost use Rattle.std.specs.FinMap.{is_sorted};
 ghost use Rattle.load_path.specs.Paths.{path_cmp};
 
-use join_law::{Key, Version};
+use join_law::Version;
 use load_path::Path;
 use sorted_pairs::seek;
 use std::alloc::{AllocError, Global};

@@ -2,7 +2,6 @@
 #![tactic(auto)]
 
 use fleet_script::{ShellFault, run};
-use join_law::Key;
 use replica_store::{Content, ContentFault, EditFault, Path, PathFault, Replica};
 use script_pipes::Watched;
 use std::alloc::{AllocError, Global};

@@ -15,8 +15,6 @@ use Rattle.std.proofs.lemmas.List.Elements.{filter-append}
 use Rattle.std.proofs.lemmas.Map.Text.{is_eq-slice_cmp}
 use Rattle.list_laws.specs.Orderings.{is_equal}
 use Rattle.join_law.specs.Maps.{or_empty}
-use Rattle.load_path.specs.Paths.{PathParts}
-use Rattle.edit_sums.specs.Entries.{Entry}
 use Rattle.path_maps.specs.Spread.{spread, AllKeys}
 use Rattle.path_maps.specs.SpreadLaws.{find_below, all_keys_weaker}
 use Rattle.path_maps.specs.PathMaps.{NameMap, FolderMap, RankMap, AreRanks, FoldersBelow, AreFolders, bytes_cmp, in_folder, in_rank, listed}

@@ -2,7 +2,6 @@
 use crate::calls::{CallFault, Words, append_path, append_text};
 use crate::orders::{append_signs, same_word};
 use byte_strings::Bytes;
-use join_law::Key;
 use load_path::{Path, PathFault};
 use std::alloc::{AllocError, Global};
 

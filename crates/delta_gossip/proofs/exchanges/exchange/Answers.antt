@@ -1,4 +1,4 @@
-use Rattle.std.proofs.Common.{◌≡◌, ◌∙◌, ap, refl, sym, subst}
+use Rattle.std.proofs.Common.{ap, refl}
 use Rattle.edit_sums.specs.Sums.{join}
 use Rattle.replica_store.specs.Replicas.{Replicated}
 use Rattle.edit_sums.specs.SumLaws.{store_below_refl, join-left, join-right}

@@ -1,4 +1,3 @@
-use Rattle.std.proofs.Common.{ap, ◌∙◌, map}
 use Rattle.std.specs.FinMap as finmap
 use Rattle.path_maps.specs.FolderLaws.{keys_passed}
 use Rattle.path_maps.specs.Folders.{is_in}

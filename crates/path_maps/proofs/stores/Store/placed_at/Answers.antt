@@ -1,8 +1,7 @@
-use Rattle.std.proofs.Common.{◌≡◌, ℕ, List, Option, Some, None, ap, sym, subst, ◌∙◌, rules}
+use Rattle.std.proofs.Common.{◌≡◌, ℕ, List, Some, None, ap, sym, subst, ◌∙◌}
 use Rattle.std.specs.Option.{option_map}
 use Rattle.std.specs.FinMap.Entries.{find}
-use Rattle.load_path.specs.Paths.{PathParts, IsPath}
-use Rattle.edit_sums.specs.Entries.{Entry}
+use Rattle.load_path.specs.Paths.{IsPath}
 use Rattle.path_maps.specs.Folders.{path_at}
 use Rattle.path_maps.specs.PathMaps.{NameMap, bytes_cmp}
 use Rattle.path_maps.proofs.LookUps.{no_folder, no_name, at_name_of, held_is, lawful_there}
