@@ -19,7 +19,8 @@ use std::collections::BTreeMap;
 /// `TooMany` where that is more than the limit, and only there: the limit is met however the nodes
 /// are ordered, and before the nodes of a round that goes past it are loaded. `Memory` for want of
 /// memory alone. Each node is loaded once, and none is copied but the sources. Besides the loads
-/// O(n + m log m + m log n), for n nodes that are reached and m that are named in all.
+/// O(n + m log m + m log n), for n nodes that are reached and m that are named in all, the sources
+/// among them.
 pub fn close_loaded<K: Key, L: Loads<K>>(
     alloc: Global,
     loader: &L,
