@@ -21,7 +21,8 @@ module _ {N : Type 0} (order : N → N → Ordering) where
   put_kept k [] n h = absurd h
   put_kept k (x ∷ xs) n h = by (order k x) h (put_kept k xs n)
     where
-      by : (r : Ordering) → IsAmong n (x ∷ xs) → (IsAmong n xs → IsAmong n (insert_key order xs k)) → IsAmong n (match_ordering r (k ∷ x ∷ xs) (x ∷ xs) (x ∷ insert_key order xs k))
+      by : (r : Ordering) → IsAmong n (x ∷ xs) → (IsAmong n xs → IsAmong n (insert_key order xs k))
+          → IsAmong n (match_ordering r (k ∷ x ∷ xs) (x ∷ xs) (x ∷ insert_key order xs k))
       by Less a more = inr a
       by Equal a more = a
       by Greater (inl a) more = inl a
@@ -36,7 +37,8 @@ module _ {N : Type 0} (order : N → N → Ordering) where
       behind (inl a) = inl (inr a)
       behind (inr a) = inr a
 
-      by : (r : Ordering) → IsAmong n (match_ordering r (k ∷ x ∷ xs) (x ∷ xs) (x ∷ insert_key order xs k)) → (IsAmong n (insert_key order xs k) → IsAmong n xs ⊎ (k ≡ n)) → IsAmong n (x ∷ xs) ⊎ (k ≡ n)
+      by : (r : Ordering) → IsAmong n (match_ordering r (k ∷ x ∷ xs) (x ∷ xs) (x ∷ insert_key order xs k))
+          → (IsAmong n (insert_key order xs k) → IsAmong n xs ⊎ (k ≡ n)) → IsAmong n (x ∷ xs) ⊎ (k ≡ n)
       by Less (inl a) more = inr a
       by Less (inr a) more = inl a
       by Equal a more = inl a
@@ -48,7 +50,8 @@ module _ {N : Type 0} (order : N → N → Ordering) where
     put_there k [] = inl refl
     put_there k (x ∷ xs) = by (order k x) refl (put_there k xs)
       where
-        by : (r : Ordering) → order k x ≡ r → IsAmong k (insert_key order xs k) → IsAmong k (match_ordering r (k ∷ x ∷ xs) (x ∷ xs) (x ∷ insert_key order xs k))
+        by : (r : Ordering) → order k x ≡ r → IsAmong k (insert_key order xs k)
+            → IsAmong k (match_ordering r (k ∷ x ∷ xs) (x ∷ xs) (x ∷ insert_key order xs k))
         by Less e more = inl refl
         by Equal e more = inl (sym (exact k x e))
         by Greater e more = inr more
@@ -58,13 +61,15 @@ module _ {N : Type 0} (order : N → N → Ordering) where
     put_length k [] d = refl
     put_length k (x ∷ xs) d = by (order k x) refl (put_length k xs (λ h. d (inr h)))
       where
-        by : (r : Ordering) → order k x ≡ r → length (insert_key order xs k) ≡ suc (length xs) → length (match_ordering r (k ∷ x ∷ xs) (x ∷ xs) (x ∷ insert_key order xs k)) ≡ suc (suc (length xs))
+        by : (r : Ordering) → order k x ≡ r → length (insert_key order xs k) ≡ suc (length xs)
+            → length (match_ordering r (k ∷ x ∷ xs) (x ∷ xs) (x ∷ insert_key order xs k)) ≡ suc (suc (length xs))
         by Less e more = refl
         by Equal e more = absurd (d (inl (sym (exact k x e))))
         by Greater e more = ap suc more
 
     -- an entry is put where its key is put
-    pub put_entry : {U : Type 0} (loaded : N → U) (k : N) (ks : List N) → insert_entry order (each_with loaded ks) k (loaded k) ≡ each_with loaded (insert_key order ks k)
+    pub put_entry : {U : Type 0} (loaded : N → U) (k : N) (ks : List N)
+        → insert_entry order (each_with loaded ks) k (loaded k) ≡ each_with loaded (insert_key order ks k)
     put_entry loaded k [] = refl
     put_entry {U} loaded k (x ∷ xs) = by (order k x) refl (put_entry loaded k xs)
       where
@@ -93,7 +98,8 @@ module _ {N : Type 0} (order : N → N → Ordering) where
     all_put P k [] p a = (p, tt)
     all_put P k (x ∷ xs) p a = by (order k x) (all_put P k xs p a.1)
       where
-        by : (r : Ordering) → AllByRecursion P (insert_key order xs k) → AllByRecursion P (match_ordering r (k ∷ x ∷ xs) (x ∷ xs) (x ∷ insert_key order xs k))
+        by : (r : Ordering) → AllByRecursion P (insert_key order xs k)
+            → AllByRecursion P (match_ordering r (k ∷ x ∷ xs) (x ∷ xs) (x ∷ insert_key order xs k))
         by Less more = (p, a)
         by Equal more = a
         by Greater more = (a.0, more)
@@ -107,7 +113,8 @@ module _ {N : Type 0} (order : N → N → Ordering) where
     put_rising k [] s = (tt, tt)
     put_rising k (x ∷ xs) s = by (order k x) refl (put_rising k xs s.1)
       where
-        by : (r : Ordering) → order k x ≡ r → IsStrictlySortedBy order (insert_key order xs k) → IsStrictlySortedBy order (match_ordering r (k ∷ x ∷ xs) (x ∷ xs) (x ∷ insert_key order xs k))
+        by : (r : Ordering) → order k x ≡ r → IsStrictlySortedBy order (insert_key order xs k)
+            → IsStrictlySortedBy order (match_ordering r (k ∷ x ∷ xs) (x ∷ xs) (x ∷ insert_key order xs k))
         by Less e more = ((e, all_above k x xs e s.0), s)
         by Equal e more = s
         by Greater e more = (all_put (λ y. order x y ≡ Less) k xs (total.antisymm x k ∙ ap ordering_reverse e) s.0, more)
@@ -138,7 +145,8 @@ module _ {N : Type 0} (order : N → N → Ordering) where
       )
 
       -- as many as both have, where they have none in common
-      pub length-together : (xs ys : List N) → IsStrictlySortedBy order xs → ((n : N) → IsAmong n xs → ¬ IsAmong n ys) → length (together xs ys) ≡ length xs + length ys
+      pub length-together : (xs ys : List N) → IsStrictlySortedBy order xs → ((n : N) → IsAmong n xs → ¬ IsAmong n ys)
+          → length (together xs ys) ≡ length xs + length ys
       unfolding together IsStrictlySortedBy
       length-together [] ys s d = omega arith
       length-together (x ∷ xs) ys s d =
@@ -158,7 +166,8 @@ module _ {N U : Type 0} (loaded : N → U) where
   each_itself pairs ks is = is ∙ ap (each_with loaded) (sym (ap keys_of is ∙ keys_of-each_with ks))
 
   -- a pair was taken from those that are left
-  pub whole_more : (taken : List (N × U)) (p : N × U) (left left' all : List (N × U)) → left ≡ p ∷ left' → taken ++ left ≡ all → (taken ++ p ∷ []) ++ left' ≡ all
+  pub whole_more : (taken : List (N × U)) (p : N × U) (left left' all : List (N × U)) → left ≡ p ∷ left' → taken ++ left ≡ all
+      → (taken ++ p ∷ []) ++ left' ≡ all
   whole_more taken p left left' all e whole = append_assoc taken (p ∷ []) left' ∙ ap (λ v. taken ++ v) (sym e) ∙ whole
 
   -- beside each node stands what is loaded for it
@@ -166,7 +175,8 @@ module _ {N U : Type 0} (loaded : N → U) where
   loaded_at [] p ys e = cc
   loaded_at (x ∷ xs) p ys e = loaded_at xs p ys cc
 
-  pub loaded_there : (taken : List (N × U)) (p : N × U) (left left' all : List (N × U)) → left ≡ p ∷ left' → taken ++ left ≡ all → all ≡ each_with loaded (keys_of all) → p.1 ≡ loaded p.0
+  pub loaded_there : (taken : List (N × U)) (p : N × U) (left left' all : List (N × U)) → left ≡ p ∷ left' → taken ++ left ≡ all
+      → all ≡ each_with loaded (keys_of all) → p.1 ≡ loaded p.0
   loaded_there taken p left left' all e whole each =
       let same : taken ++ p ∷ left' ≡ all = ap (λ v. taken ++ v) (sym e) ∙ whole in
       loaded_at taken p left' (same ∙ each ∙ ap (λ v. each_with loaded (keys_of v)) (sym same))
@@ -183,7 +193,8 @@ module _ {N U : Type 0} (loaded : N → U) where
     pub added_entries : found' ≡ each_with loaded (keys_of found')
     added_entries = put_each ∙ ap (each_with loaded) (sym keys_put)
 
-    pub added_joins : (before : List N) (added : List (N × U)) → AreJoined before (keys_of added) (keys_of found) → AreJoined before (keys_of (added ++ (node, one) ∷ [])) (keys_of found')
+    pub added_joins : (before : List N) (added : List (N × U)) → AreJoined before (keys_of added) (keys_of found)
+        → AreJoined before (keys_of (added ++ (node, one) ∷ [])) (keys_of found')
     added_joins before added joined n = (
       λ h. elim ((put_joins order exact node (keys_of found) n).0 (subst (IsAmong n) keys_put h)) [
         | inl a ↦ elim ((joined n).0 a) [ inl b ↦ inl b | inr b ↦ inr (subst (IsAmong n) (sym keys_more) (IsAmong-append_left n (keys_of added) (node ∷ []) b)) ]

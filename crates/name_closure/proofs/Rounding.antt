@@ -33,7 +33,8 @@ module _ {N U : Type 0} (order : N → N → Ordering) (loaded : N → U) (named
     pub started : (n : N) → IsAmong n sources → IsAmong n (keys_of found) ⊎ IsAmong n fresh
     pub done : (n m : N) → IsAmong n (keys_of found) → IsAmong m (named (loaded n)) → IsAmong m (keys_of found) ⊎ IsAmong m fresh
 
-  pub under_way_start : (found : List (N × U)) (fresh : List N) → found ≡ [] → IsStrictlySortedBy order (keys_of found) → AreNew order (keys_of found) sources fresh → IsUnderWay found fresh
+  pub under_way_start : (found : List (N × U)) (fresh : List N) → found ≡ [] → IsStrictlySortedBy order (keys_of found)
+      → AreNew order (keys_of found) sources fresh → IsUnderWay found fresh
   under_way_start found fresh e rising new = record {
     entries = subst (λ (v : List (N × U)). v ≡ each_with loaded (keys_of v)) (sym e) (λ i. []);
     rising = rising;

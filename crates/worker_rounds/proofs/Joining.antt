@@ -32,7 +32,8 @@ module _ {N U P E : Type 0} (loaded : N → U) (nodes_of : P → List N) where
       ∙ sym (map-append (λ n. (n, loaded n)) (nodes_of p) (flat_map nodes_of ps))
 
   -- what was loaded of all pieces, put together, is what is loaded of all nodes
-  pub joined_loads : (pieces : List P) (parts : List (Result (Vec (N × U)) E)) (nodes : List N) (all : List (N × U)) → flat_map nodes_of pieces ≡ nodes → length parts ≡ length pieces
+  pub joined_loads : (pieces : List P) (parts : List (Result (Vec (N × U)) E)) (nodes : List N) (all : List (N × U))
+      → flat_map nodes_of pieces ≡ nodes → length parts ≡ length pieces
       → ((i : ℕ) (piece : P) (part : Result (Vec (N × U)) E) → i < length pieces → IfOk (get_or parts i part) (λ pairs. pairs.items ≡ each_with loaded (nodes_of (get_or pieces i piece))))
       → IsJoined parts all → all ≡ each_with loaded nodes
   joined_loads pieces parts nodes all whole long each j =

@@ -6,14 +6,21 @@ use Rattle.name_closure.proofs.rounds.add_loaded.Goals as goal
 pub loop-node-preserved : goal.loop-node-preserved
 loop-node-preserved g c =
     let loaded = g.L.Loads.loaded c.args.loader.now in
-    let is = loaded_there loaded c.loop-node.yielded (c.in-Some.node, c.in-Some.one) c.loop-node.node-iterator.rest.items c.next.new.self.rest.items c.args.pairs.items c.in-Some.ensures.steps.0 c.loop-node.invariant.whole c.requires.pairs in
+    let exact = g.met.K.Key.exact in
+    let node = c.in-Some.node in
+    let one = c.in-Some.one in
+    let left = c.loop-node.node-iterator.rest.items in
+    let left' = c.next.new.self.rest.items in
+    let found = c.loop-node.found.entries in
+    let found' = c.insert.new.self.entries in
+    let taken = c.in-Some.ensures.steps.0 in
+    let before = c.loop-node.invariant in
+    let is = loaded_there loaded c.loop-node.yielded (node, one) left left' c.args.pairs.items taken before.whole c.requires.pairs in
     record {
       rising = c.insert.ensures.ordered;
-      whole = whole_more loaded c.loop-node.yielded (c.in-Some.node, c.in-Some.one) c.loop-node.node-iterator.rest.items c.next.new.self.rest.items c.args.pairs.items c.in-Some.ensures.steps.0 c.loop-node.invariant.whole;
-      entries = added_entries loaded g.K.Ord.cmp g.met.K.Key.exact c.in-Some.node c.in-Some.one c.loop-node.found.entries c.insert.new.self.entries is c.loop-node.invariant.entries c.in_ok-insert.ensures.entries;
-      joined =
-          added_joins loaded g.K.Ord.cmp g.met.K.Key.exact c.in-Some.node c.in-Some.one c.loop-node.found.entries c.insert.new.self.entries is c.loop-node.invariant.entries c.in_ok-insert.ensures.entries _ _
-          c.loop-node.invariant.joined;
+      whole = whole_more loaded c.loop-node.yielded (node, one) left left' c.args.pairs.items taken before.whole;
+      entries = added_entries loaded g.K.Ord.cmp exact node one found found' is before.entries c.in_ok-insert.ensures.entries;
+      joined = added_joins loaded g.K.Ord.cmp exact node one found found' is before.entries c.in_ok-insert.ensures.entries _ _ before.joined;
       names = grind (arith, common_steps);
     }
 
