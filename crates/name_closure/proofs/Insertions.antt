@@ -1,34 +1,28 @@
--- What stands among keys where one is put among them.
-use Rattle.std.specs.Prelude.{Bool, true, false, not, ◌||◌, ◌≡◌, ◌⊎◌, ◌+◌, List, [], ◌∷◌, ◌++◌, length}
-use Rattle.std.specs.BTreeMap.{is_at}
-use Rattle.std.specs.Cmp.{IsTotalOrder}
-use Rattle.std.specs.List.{list_any}
-use Rattle.std.specs.Ordering.{is_eq}
-use Rattle.std.proofs.lemmas.Bool.{true≢false}
-use Rattle.std.proofs.lemmas.Cmp.{tied_itself}
-use Rattle.std.specs.Ordering.{match_ordering}
+-- One more key among keys in order, and the keys of two lists together.
+use Rattle.std.specs.Prelude.{◌≡◌, ◌⊎◌, ◌+◌, suc, List, [], ◌∷◌, ◌++◌, length}
+use Rattle.std.specs.BTreeMap.{insert_entry}
 use Rattle.std.specs.BTreeSet.{insert_key}
+use Rattle.std.specs.Cmp.{IsTotalOrder}
+use Rattle.std.specs.List.{AllByRecursion}
+use Rattle.std.specs.List.Sorted.{IsStrictlySortedBy}
+use Rattle.std.specs.Map.{keys_of}
+use Rattle.std.specs.Ordering.{match_ordering, ordering_reverse}
 use Rattle.std.specs.declared.cmp.Ordering.{Ordering}
 use Rattle.std.specs.declared.cmp.Ordering.TheVariants.{Less, Equal, Greater}
-use Rattle.std.proofs.Common.{inl, inr, refl, sym, arith, ap, ◌∙◌, subst, length-append}
+use Rattle.std.proofs.Common.{inl, inr, refl, sym, arith, ap, ◌∙◌, subst, append_assoc}
+use Rattle.std.proofs.lemmas.List.{map-append}
 use Rattle.list_laws.specs.Members.{IsAmong, IsAmong-append_cases, IsAmong-append_left, IsAmong-append_right}
-use Rattle.name_closure.specs.Growth.{IsGrown}
+use Rattle.name_closure.specs.Growth.{AreJoined}
+use Rattle.name_closure.specs.LimitLaws.{not_in_tail}
+use Rattle.name_closure.specs.Loading.{each_with}
 
 module _ {N : Type 0} (order : N → N → Ordering) where
-  put_there : ((x y : N) → order x y ≡ Equal → x ≡ y) → (k : N) (ks : List N) → IsAmong k (insert_key order ks k)
-  put_there exact k [] = inl refl
-  put_there exact k (x ∷ xs) = by (order k x) refl (put_there exact k xs)
-    where
-      by : (r : Ordering) → order k x ≡ r → IsAmong k (insert_key order xs k) → IsAmong k (match_ordering r (k ∷ x ∷ xs) (x ∷ xs) (x ∷ insert_key order xs k))
-      by Less e more = inl refl
-      by Equal e more = inl (sym (exact k x e))
-      by Greater e more = inr more
-
   put_kept : (k : N) (ks : List N) (n : N) → IsAmong n ks → IsAmong n (insert_key order ks k)
   put_kept k [] n h = absurd h
   put_kept k (x ∷ xs) n h = by (order k x) h (put_kept k xs n)
     where
-      by : (r : Ordering) → IsAmong n (x ∷ xs) → (IsAmong n xs → IsAmong n (insert_key order xs k)) → IsAmong n (match_ordering r (k ∷ x ∷ xs) (x ∷ xs) (x ∷ insert_key order xs k))
+      by : (r : Ordering) → IsAmong n (x ∷ xs) → (IsAmong n xs → IsAmong n (insert_key order xs k))
+          → IsAmong n (match_ordering r (k ∷ x ∷ xs) (x ∷ xs) (x ∷ insert_key order xs k))
       by Less a more = inr a
       by Equal a more = a
       by Greater (inl a) more = inl a
@@ -43,71 +37,174 @@ module _ {N : Type 0} (order : N → N → Ordering) where
       behind (inl a) = inl (inr a)
       behind (inr a) = inr a
 
-      by : (r : Ordering) → IsAmong n (match_ordering r (k ∷ x ∷ xs) (x ∷ xs) (x ∷ insert_key order xs k)) → (IsAmong n (insert_key order xs k) → IsAmong n xs ⊎ (k ≡ n)) → IsAmong n (x ∷ xs) ⊎ (k ≡ n)
+      by : (r : Ordering) → IsAmong n (match_ordering r (k ∷ x ∷ xs) (x ∷ xs) (x ∷ insert_key order xs k))
+          → (IsAmong n (insert_key order xs k) → IsAmong n xs ⊎ (k ≡ n)) → IsAmong n (x ∷ xs) ⊎ (k ≡ n)
       by Less (inl a) more = inr a
       by Less (inr a) more = inl a
       by Equal a more = inl a
       by Greater (inl a) more = inl (inl a)
       by Greater (inr a) more = behind (more a)
 
-  module _ (total : IsTotalOrder order) (exact : (x y : N) → order x y ≡ Equal → x ≡ y) where
-    -- a test by comparisons finds each member
-    found_there : (k : N) (ks : List N) → IsAmong k ks → list_any (is_at (order k)) ks ≡ true
-    found_there k [] h = absurd h
-    found_there k (x ∷ xs) (inl e) = first_found (is_at (order k) x) (ap is_eq (ap (λ z. order k z) e ∙ tied_itself total k)) (list_any (is_at (order k)) xs)
+  module _ (exact : (x y : N) → order x y ≡ Equal → x ≡ y) where
+    put_there : (k : N) (ks : List N) → IsAmong k (insert_key order ks k)
+    put_there k [] = inl refl
+    put_there k (x ∷ xs) = by (order k x) refl (put_there k xs)
       where
-        first_found : (b : Bool) → b ≡ true → (c : Bool) → (b || c) ≡ true
-        first_found true e c = refl
-        first_found false e c = cc (e)
-    found_there k (x ∷ xs) (inr h) = later_found (is_at (order k) x) (list_any (is_at (order k)) xs) (found_there k xs h)
+        by : (r : Ordering) → order k x ≡ r → IsAmong k (insert_key order xs k)
+            → IsAmong k (match_ordering r (k ∷ x ∷ xs) (x ∷ xs) (x ∷ insert_key order xs k))
+        by Less e more = inl refl
+        by Equal e more = inl (sym (exact k x e))
+        by Greater e more = inr more
+
+    -- a key is put among keys that lack it
+    put_length : (k : N) (ks : List N) → ¬ IsAmong k ks → length (insert_key order ks k) ≡ suc (length ks)
+    put_length k [] d = refl
+    put_length k (x ∷ xs) d = by (order k x) refl (put_length k xs (λ h. d (inr h)))
       where
-        later_found : (b c : Bool) → c ≡ true → (b || c) ≡ true
-        later_found true c e = refl
-        later_found false c e = e
+        by : (r : Ordering) → order k x ≡ r → length (insert_key order xs k) ≡ suc (length xs)
+            → length (match_ordering r (k ∷ x ∷ xs) (x ∷ xs) (x ∷ insert_key order xs k)) ≡ suc (suc (length xs))
+        by Less e more = refl
+        by Equal e more = absurd (d (inl (sym (exact k x e))))
+        by Greater e more = ap suc more
 
-    not_found : (k : N) (ks : List N) → true ≡ not (list_any (is_at (order k)) ks) → ¬ IsAmong k ks
-    not_found k ks added h = by (list_any (is_at (order k)) ks) (found_there k ks h) added
+    -- an entry is put where its key is put
+    pub put_entry : {U : Type 0} (loaded : N → U) (k : N) (ks : List N)
+        → insert_entry order (each_with loaded ks) k (loaded k) ≡ each_with loaded (insert_key order ks k)
+    put_entry loaded k [] = refl
+    put_entry {U} loaded k (x ∷ xs) = by (order k x) refl (put_entry loaded k xs)
       where
-        by : (b : Bool) → b ≡ true → true ≡ not b → ⊥
-        by true e f = absurd (true≢false f)
-        by false e f = absurd (true≢false (sym e))
+        entry : N → N × U
+        entry n = (n, loaded n)
 
-    module _ (k a b : N) (found fresh found' fresh' : List N) (is_a : a ≡ k) (put : found' ≡ insert_key order found a) where
-      sound : (n : N) → IsAmong n found' → IsAmong n found ⊎ (k ≡ n)
-      sound n h = elim (put_sound a found n (subst (IsAmong n) put h)) [ inl o ↦ inl o | inr e ↦ inr (sym is_a ∙ e) ]
+        by : (r : Ordering) → order k x ≡ r → insert_entry order (each_with loaded xs) k (loaded k) ≡ each_with loaded (insert_key order xs k)
+            → match_ordering r (entry k ∷ entry x ∷ each_with loaded xs) ((x, loaded k) ∷ each_with loaded xs) (entry x ∷ insert_entry order (each_with loaded xs) k (loaded k))
+            ≡ each_with loaded (match_ordering r (k ∷ x ∷ xs) (x ∷ xs) (x ∷ insert_key order xs k))
+        by Less e more = refl
+        by Equal e more = ap (λ v. (x, v) ∷ each_with loaded xs) (ap loaded (exact k x e))
+        by Greater e more = ap (λ v. entry x ∷ v) more
 
-      there : (n : N) → IsAmong n (k ∷ []) → IsAmong n found'
-      there n (inl e) = subst (λ v. IsAmong v found') (is_a ∙ e) (subst (IsAmong a) (sym put) (put_there exact a found))
-      there n (inr h) = absurd h
+    -- the keys with one more are those of both
+    pub put_joins : (k : N) (ks : List N) → AreJoined ks (k ∷ []) (insert_key order ks k)
+    put_joins k ks n = (
+      λ h. elim (put_sound k ks n h) [ inl a ↦ inl a | inr e ↦ inr (inl e) ],
+      λ h. elim h [ inl a ↦ put_kept k ks n a | inr o ↦ elim o [ inl e ↦ moved e | inr f ↦ absurd f ] ],
+    )
+      where
+        moved : k ≡ n → IsAmong n (insert_key order ks k)
+        moved e = rw (← e) (put_there k ks)
 
-      -- a copy of a node was put among those found, and another behind the fresh ones
-      pub grown_new : b ≡ k → true ≡ not (list_any (is_at (order a)) found) → length found' ≡ length found + 1 → fresh' ≡ fresh ++ b ∷ []
-          → IsGrown found fresh (k ∷ []) found' fresh'
-      grown_new is_b added one behind = record {
-        kept = λ n h. subst (IsAmong n) (sym put) (put_kept a found n h);
-        took = there;
-        origin = λ n h. elim (sound n h) [ inl o ↦ inl o | inr e ↦ inr (inl e) ];
-        fresh_origin = λ n h. elim (IsAmong-append_cases n fresh (b ∷ []) (subst (IsAmong n) behind h)) [ inl o ↦ inl o | inr l ↦ inr (last n l) ];
-        news = λ n h. elim (sound n h) [ inl o ↦ inl o | inr e ↦ inr (subst (λ v. IsAmong v fresh') (is_b ∙ e) at_end) ];
-        fresh_kept = λ n h. subst (IsAmong n) (sym behind) (IsAmong-append_left n fresh (b ∷ []) h);
-        count = (let long = ap length behind ∙ length-append fresh (b ∷ []) in omega (arith, one, long));
-      }
+  module _ (total : IsTotalOrder order) where
+    all_put : (P : N → Type 0) (k : N) (ks : List N) → P k → AllByRecursion P ks → AllByRecursion P (insert_key order ks k)
+    all_put P k [] p a = (p, tt)
+    all_put P k (x ∷ xs) p a = by (order k x) (all_put P k xs p a.1)
+      where
+        by : (r : Ordering) → AllByRecursion P (insert_key order xs k)
+            → AllByRecursion P (match_ordering r (k ∷ x ∷ xs) (x ∷ xs) (x ∷ insert_key order xs k))
+        by Less more = (p, a)
+        by Equal more = a
+        by Greater more = (a.0, more)
+
+    all_above : (k x : N) (ks : List N) → order k x ≡ Less → AllByRecursion (λ y. order x y ≡ Less) ks → AllByRecursion (λ y. order k y ≡ Less) ks
+    all_above k x [] e a = tt
+    all_above k x (y ∷ ys) e a = (total.trans k x y e a.0, all_above k x ys e a.1)
+
+    put_rising : (k : N) (ks : List N) → IsStrictlySortedBy order ks → IsStrictlySortedBy order (insert_key order ks k)
+    unfolding IsStrictlySortedBy
+    put_rising k [] s = (tt, tt)
+    put_rising k (x ∷ xs) s = by (order k x) refl (put_rising k xs s.1)
+      where
+        by : (r : Ordering) → order k x ≡ r → IsStrictlySortedBy order (insert_key order xs k)
+            → IsStrictlySortedBy order (match_ordering r (k ∷ x ∷ xs) (x ∷ xs) (x ∷ insert_key order xs k))
+        by Less e more = ((e, all_above k x xs e s.0), s)
+        by Equal e more = s
+        by Greater e more = (all_put (λ y. order x y ≡ Less) k xs (total.antisymm x k ∙ ap ordering_reverse e) s.0, more)
+
+    module _ (exact : (x y : N) → order x y ≡ Equal → x ≡ y) where
+      -- the keys of both lists, in order
+      pub together : List N → List N → List N
+      together [] ys = ys
+      together (x ∷ xs) ys = insert_key order (together xs ys) x
+
+      pub together_rises : (xs ys : List N) → IsStrictlySortedBy order ys → IsStrictlySortedBy order (together xs ys)
+      unfolding together
+      together_rises [] ys s = s
+      together_rises (x ∷ xs) ys s = put_rising x (together xs ys) (together_rises xs ys s)
+
+      pub together_joins : (xs ys : List N) → AreJoined xs ys (together xs ys)
+      unfolding together
+      together_joins [] ys n = (λ h. inr h, λ h. elim h [ inl f ↦ absurd f | inr a ↦ a ])
+      together_joins (x ∷ xs) ys n = (
+        λ h. elim ((put_joins exact x (together xs ys) n).0 h) [
+          | inl a ↦ elim ((together_joins xs ys n).0 a) [ inl b ↦ inl (inr b) | inr b ↦ inr b ]
+          | inr o ↦ elim o [ inl e ↦ inl (inl e) | inr f ↦ absurd f ]
+        ],
+        λ h. (put_joins exact x (together xs ys) n).1 (elim h [
+          | inl o ↦ elim o [ inl e ↦ inr (inl e) | inr a ↦ inl ((together_joins xs ys n).1 (inl a)) ]
+          | inr b ↦ inl ((together_joins xs ys n).1 (inr b))
+        ]),
+      )
+
+      -- as many as both have, where they have none in common
+      pub length-together : (xs ys : List N) → IsStrictlySortedBy order xs → ((n : N) → IsAmong n xs → ¬ IsAmong n ys)
+          → length (together xs ys) ≡ length xs + length ys
+      unfolding together IsStrictlySortedBy
+      length-together [] ys s d = omega arith
+      length-together (x ∷ xs) ys s d =
+          let rest = length-together xs ys s.1 (λ n h. d n (inr h)) in
+          let one = put_length exact x (together xs ys) absent in
+          omega arith
         where
-          at_end : IsAmong b fresh'
-          at_end = subst (IsAmong b) (sym behind) (IsAmong-append_right b fresh (b ∷ []) (inl refl))
+          absent : ¬ IsAmong x (together xs ys)
+          absent h = elim ((together_joins xs ys x).0 h) [ inl a ↦ not_in_tail order total x xs s a | inr b ↦ d x (inl refl) b ]
 
-          last : (n : N) → IsAmong n (b ∷ []) → IsAmong n (k ∷ []) × ¬ IsAmong n found
-          last n (inl e) = (inl (sym is_b ∙ e), λ h. not_found a found added (subst (λ v. IsAmong v found) (sym (is_a ∙ sym is_b ∙ e)) h))
-          last n (inr h) = absurd h
+module _ {N U : Type 0} (loaded : N → U) where
+  pub keys_of-each_with : (ks : List N) → keys_of (each_with loaded ks) ≡ ks
+  keys_of-each_with [] = refl
+  keys_of-each_with (k ∷ ks) = ap (λ v. k ∷ v) (keys_of-each_with ks)
 
-      -- or it was there already
-      pub grown_known : found' ≡ found → IsGrown found fresh (k ∷ []) found' fresh
-      grown_known same = record {
-        kept = λ n h. subst (IsAmong n) (sym same) h;
-        took = there;
-        origin = λ n h. inl (subst (IsAmong n) same h);
-        fresh_origin = λ n h. inl h;
-        news = λ n h. inl (subst (IsAmong n) same h);
-        fresh_kept = λ n h. h;
-        count = ap (λ v. length v + length fresh) (sym same);
-      }
+  pub each_itself : (pairs : List (N × U)) (ks : List N) → pairs ≡ each_with loaded ks → pairs ≡ each_with loaded (keys_of pairs)
+  each_itself pairs ks is = is ∙ ap (each_with loaded) (sym (ap keys_of is ∙ keys_of-each_with ks))
+
+  -- a pair was taken from those that are left
+  pub whole_more : (taken : List (N × U)) (p : N × U) (left left' all : List (N × U)) → left ≡ p ∷ left' → taken ++ left ≡ all
+      → (taken ++ p ∷ []) ++ left' ≡ all
+  whole_more taken p left left' all e whole = append_assoc taken (p ∷ []) left' ∙ ap (λ v. taken ++ v) (sym e) ∙ whole
+
+  -- beside each node stands what is loaded for it
+  loaded_at : (xs : List (N × U)) (p : N × U) (ys : List (N × U)) → xs ++ p ∷ ys ≡ each_with loaded (keys_of (xs ++ p ∷ ys)) → p.1 ≡ loaded p.0
+  loaded_at [] p ys e = cc
+  loaded_at (x ∷ xs) p ys e = loaded_at xs p ys cc
+
+  pub loaded_there : (taken : List (N × U)) (p : N × U) (left left' all : List (N × U)) → left ≡ p ∷ left' → taken ++ left ≡ all
+      → all ≡ each_with loaded (keys_of all) → p.1 ≡ loaded p.0
+  loaded_there taken p left left' all e whole each =
+      let same : taken ++ p ∷ left' ≡ all = ap (λ v. taken ++ v) (sym e) ∙ whole in
+      loaded_at taken p left' (same ∙ each ∙ ap (λ v. each_with loaded (keys_of v)) (sym same))
+
+  -- a node was put among those found, with what is loaded for it
+  module _ (order : N → N → Ordering) (exact : (x y : N) → order x y ≡ Equal → x ≡ y) (node : N) (one : U) (found found' : List (N × U)) (is : one ≡ loaded node)
+      (entries : found ≡ each_with loaded (keys_of found)) (put : found' ≡ insert_entry order found node one) where
+    put_each : found' ≡ each_with loaded (insert_key order (keys_of found) node)
+    put_each = put ∙ ap (λ v. insert_entry order found node v) is ∙ ap (λ v. insert_entry order v node (loaded node)) entries ∙ put_entry order exact loaded node (keys_of found)
+
+    keys_put : keys_of found' ≡ insert_key order (keys_of found) node
+    keys_put = ap keys_of put_each ∙ keys_of-each_with (insert_key order (keys_of found) node)
+
+    pub added_entries : found' ≡ each_with loaded (keys_of found')
+    added_entries = put_each ∙ ap (each_with loaded) (sym keys_put)
+
+    pub added_joins : (before : List N) (added : List (N × U)) → AreJoined before (keys_of added) (keys_of found)
+        → AreJoined before (keys_of (added ++ (node, one) ∷ [])) (keys_of found')
+    added_joins before added joined n = (
+      λ h. elim ((put_joins order exact node (keys_of found) n).0 (subst (IsAmong n) keys_put h)) [
+        | inl a ↦ elim ((joined n).0 a) [ inl b ↦ inl b | inr b ↦ inr (subst (IsAmong n) (sym keys_more) (IsAmong-append_left n (keys_of added) (node ∷ []) b)) ]
+        | inr o ↦ inr (subst (IsAmong n) (sym keys_more) (IsAmong-append_right n (keys_of added) (node ∷ []) o))
+      ],
+      λ h. subst (IsAmong n) (sym keys_put) ((put_joins order exact node (keys_of found) n).1 (elim h [
+        | inl a ↦ inl ((joined n).1 (inl a))
+        | inr b ↦ elim (IsAmong-append_cases n (keys_of added) (node ∷ []) (subst (IsAmong n) keys_more b)) [ inl a ↦ inl ((joined n).1 (inr a)) | inr o ↦ inr o ]
+      ])),
+    )
+      where
+        keys_more : keys_of (added ++ (node, one) ∷ []) ≡ keys_of added ++ node ∷ []
+        keys_more = map-append (λ (p : N × U). p.0) added ((node, one) ∷ [])

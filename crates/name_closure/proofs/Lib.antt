@@ -1,3 +1,3 @@
 mod Insertions
-mod Refusals
+mod News
 mod Rounding

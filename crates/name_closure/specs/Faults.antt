@@ -1,7 +1,7 @@
 -- What a refusal of a closure tells.
 -- Source: this project's own.
-use Rattle.name_closure.specs.declared.rounds.CloseFault.{CloseFault}
-use Rattle.name_closure.specs.declared.rounds.CloseFault.TheVariants.{TooMany, Memory}
+use Rattle.name_closure.specs.declared.loads.CloseFault.{CloseFault}
+use Rattle.name_closure.specs.declared.loads.CloseFault.TheVariants.{TooMany, Memory}
 
 -- where the refusal is that there are too many, the fact holds
 abbrev pub OnTooMany : CloseFault → Type 0 → Type 0

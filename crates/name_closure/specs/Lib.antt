@@ -5,4 +5,5 @@ pub mod DistanceLaws
 pub mod SourceLaws
 pub mod ListedLaws
 pub mod Faults
+pub mod Loading
 pub mod Growth

@@ -38,7 +38,7 @@ module _ {N : Type 0} where
   below_member order x n (y ∷ ys) a (inr h) = below_member order x n ys a.1 h
 
   module _ (order : N → N → Ordering) (total : IsTotalOrder order) where
-    not_in_tail : (x : N) (xs : List N) → IsStrictlySortedBy order (x ∷ xs) → ¬ IsAmong x xs
+    pub not_in_tail : (x : N) (xs : List N) → IsStrictlySortedBy order (x ∷ xs) → ¬ IsAmong x xs
     not_in_tail x xs s h =
         let below = below_member order x x xs (sorted_head order x xs s) h in
         let tied = tied_itself total x in

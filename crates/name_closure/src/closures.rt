@@ -1,40 +1,84 @@
-//! Least closed sets, by rounds.
-ghost use Rattle.std.specs.Prelude.{◌≤◌, length, IfOk, IfErr};
+//! Least closed sets with what is loaded for their nodes, by rounds.
+ghost use Rattle.std.specs.Prelude.{◌≡◌, ◌≤◌, length, IfOk, IfErr};
+ghost use Rattle.std.specs.BTreeMap.{keys};
+ghost use Rattle.std.specs.List.Sorted.{IsStrictlySortedBy};
 ghost use Rattle.name_closure.specs.Chains.{IsClosure, HasOver};
 ghost use Rattle.name_closure.specs.Faults.{OnTooMany};
-ghost use Rattle.name_closure.specs.ListedLaws.{Listed, Named};
+ghost use Rattle.name_closure.specs.ListedLaws.{Listed};
+ghost use Rattle.name_closure.specs.Loading.{NamedInLoad, each_with};
 
-use crate::rounds::{CloseFault, Rounds, add_all};
+use crate::loads::{CloseFault, Loads, load_each};
+use crate::rounds::{add_loaded, copy_of, new_of};
 use join_law::Key;
-use std::alloc::Global;
-use std::collections::BTreeSet;
+use std::alloc::{AllocError, Global};
+use std::collections::BTreeMap;
 
-/// All that is reached from the sources: the least set that has them, and all that its nodes name.
+/// All that is reached from the sources, each node with what is loaded for it: the least set that
+/// has the sources, and all nodes that are named in what is loaded for its nodes.
 ///
-/// `TooMany` where that is more than the limit, and only there; the limit is met however the nodes
-/// are ordered. `Memory` for want of memory alone. Each node is asked once what it names, all new
-/// ones of a round together; O(n log n) comparisons for all n nodes that are named.
-pub fn close<K: Key, L: Rounds<K>>(
+/// `TooMany` where that is more than the limit, and only there: the limit is met however the nodes
+/// are ordered, and before the nodes of a round that goes past it are loaded. `Memory` for want of
+/// memory alone. Each node is loaded once, and none is copied but the sources. Besides the loads
+/// O(n + m log m + m log n), for n nodes that are reached and m that are named in all, the sources
+/// among them.
+pub fn close_loaded<K: Key, L: Loads<K>>(
     alloc: Global,
-    steps: &L,
+    loader: &L,
     sources: &[K],
     limit: usize,
-) -> Result<BTreeSet<K>, CloseFault>
-    ensures closure { IfOk result (λ found. IsClosure (Listed sources.now) (Named (L.named steps.now)) K.cmp
-        found.keys) }
-    ensures room { IfOk result (λ found. length found.keys ≤ limit) }
+) -> Result<BTreeMap<K, L::Loaded>, CloseFault>
+    ensures closure { IfOk result (λ found. IsClosure (Listed sources.now)
+        (NamedInLoad (L.loaded loader.now) (L.named loader.now)) K.cmp (keys found)) }
+    ensures loaded { IfOk result (λ found. found.entries ≡ each_with (L.loaded loader.now) (keys found)) }
+    ensures room { IfOk result (λ found. length found.entries ≤ limit) }
     ensures over { IfErr result (λ fault. OnTooMany fault (HasOver (Listed sources.now)
-        (Named (L.named steps.now)) K.cmp limit)) }
-    ensures not_over { IfOk result (λ _. ¬ HasOver (Listed sources.now) (Named (L.named steps.now)) K.cmp limit) }
+        (NamedInLoad (L.loaded loader.now) (L.named loader.now)) K.cmp limit)) }
+    ensures not_over { IfOk result (λ _. ¬ HasOver (Listed sources.now)
+        (NamedInLoad (L.loaded loader.now) (L.named loader.now)) K.cmp limit) }
 {
-    let mut found = BTreeSet::new(alloc);
-    let mut fresh = Vec::new(alloc);
-    add_all(&mut found, &mut fresh, sources, limit)?;
+    close_by_rounds(
+        alloc,
+        loader,
+        sources,
+        limit,
+        |fresh| load_each(alloc, loader, fresh),
+    )
+}
+
+/// The same, refusals and cost too, where a round's new nodes are loaded by a call. It is given them
+/// rising, and gives each with what the loader loads for it.
+pub fn close_by_rounds<
+    K: Key,
+    L: Loads<K>,
+    F: Fn(Vec<K>) -> Result<Vec<(K, L::Loaded)>, AllocError>,
+>(
+    alloc: Global,
+    loader: &L,
+    sources: &[K],
+    limit: usize,
+    load_round: F,
+) -> Result<BTreeMap<K, L::Loaded>, CloseFault>
+    requires ready { (fresh : _) → IsStrictlySortedBy K.cmp fresh.items → F.pre load_round fresh }
+    requires loads { (fresh : _) (loads : _) → F.post load_round fresh loads
+        → IfOk loads (λ pairs. pairs.items ≡ each_with (L.loaded loader.now) fresh.items) }
+    ensures closure { IfOk result (λ found. IsClosure (Listed sources.now)
+        (NamedInLoad (L.loaded loader.now) (L.named loader.now)) K.cmp (keys found)) }
+    ensures loaded { IfOk result (λ found. found.entries ≡ each_with (L.loaded loader.now) (keys found)) }
+    ensures room { IfOk result (λ found. length found.entries ≤ limit) }
+    ensures over { IfErr result (λ fault. OnTooMany fault (HasOver (Listed sources.now)
+        (NamedInLoad (L.loaded loader.now) (L.named loader.now)) K.cmp limit)) }
+    ensures not_over { IfOk result (λ _. ¬ HasOver (Listed sources.now)
+        (NamedInLoad (L.loaded loader.now) (L.named loader.now)) K.cmp limit) }
+{
+    let mut found = BTreeMap::new(alloc);
+    let mut fresh = new_of(&found, copy_of(alloc, sources)?);
     'rounds: while !fresh.is_empty() {
-        let names = steps.named_by_all(&fresh)?;
-        let mut next = Vec::new(alloc);
-        add_all(&mut found, &mut next, &names, limit)?;
-        fresh = next;
+        if fresh.len() > limit - found.len() {
+            return Err(CloseFault::TooMany);
+        }
+        let pairs = load_round(fresh)?;
+        let names = add_loaded(alloc, loader, &mut found, pairs)?;
+        fresh = new_of(&found, names);
     }
     Ok(found)
 }

@@ -1,13 +1,18 @@
 //! Laws of what is reached, for all nodes, sources and steps: each the contract of a function that
 //! does nothing. Its type parameters stand for the sets and the steps that a clause speaks of.
 ghost use Rattle.std.specs.Prelude.{◌≡◌, ◌↔◌, ◌<◌, ◌≤◌, ◌+◌, ℕ, List, length};
+ghost use Rattle.std.specs.Map.{keys_of};
 ghost use Rattle.std.specs.declared.cmp.Ordering.TheVariants.{Equal};
 ghost use Rattle.list_laws.specs.Members.{IsAmong};
 ghost use Rattle.name_closure.specs.Chains.{IsReached, IsDistance, IsClosure, HasOver, IsDistances};
 ghost use Rattle.name_closure.specs.ClosureLaws.{IsClosed};
 ghost use Rattle.name_closure.specs.DistanceLaws.{HasDistance, HasNodeBefore};
 ghost use Rattle.name_closure.specs.ListedLaws.{Listed, Named};
+ghost use Rattle.name_closure.specs.Loading.{NamedInLoad, each_with};
 ghost use Rattle.name_closure.specs.SourceLaws.{AreSameNodes, AreSameSteps, IsInEither};
+
+use crate::loads::Loads;
+use join_law::Key;
 
 /// A set of nodes, which only contracts see.
 pub trait NodeSet<N> {
@@ -79,4 +84,20 @@ pub fn closures_of_same_steps<N: Ord, S: NodeSet<N>, T: NodeSet<N>, E: StepSet<N
         → (n : N) (k : ℕ) → IsDistance S.holds E.leads n k ↔ IsDistance T.holds F.leads n k }
     ensures closures { AreSameNodes S.holds T.holds → AreSameSteps E.leads F.leads
         → (nodes : List N) → IsClosure S.holds E.leads N.cmp nodes → IsClosure T.holds F.leads N.cmp nodes }
+{}
+
+/// Of one loader and one list of sources there is one load, however it is made: two lists of all
+/// that is reached, each with what is loaded for it, are equal. One of no more than a limit and the
+/// refusal that more is reached exclude each other.
+pub fn one_load<K: Key, L: Loads<K>>(loader: &L, sources: &[K])
+    ensures same { (xs ys : List (K × L.Loaded))
+        → IsClosure (Listed sources.now) (NamedInLoad (L.loaded loader.now) (L.named loader.now)) K.cmp (keys_of xs)
+        → xs ≡ each_with (L.loaded loader.now) (keys_of xs)
+        → IsClosure (Listed sources.now) (NamedInLoad (L.loaded loader.now) (L.named loader.now)) K.cmp (keys_of ys)
+        → ys ≡ each_with (L.loaded loader.now) (keys_of ys)
+        → xs ≡ ys }
+    ensures not_over { (nodes : List K) (limit : ℕ)
+        → IsClosure (Listed sources.now) (NamedInLoad (L.loaded loader.now) (L.named loader.now)) K.cmp nodes
+        → length nodes ≤ limit
+        → ¬ HasOver (Listed sources.now) (NamedInLoad (L.loaded loader.now) (L.named loader.now)) K.cmp limit }
 {}

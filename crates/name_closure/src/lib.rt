@@ -4,18 +4,19 @@
 //! over indexes, and over any part of the steps, are of one kind. Each user shows what its sources
 //! and steps are, and cites the laws.
 //!
-//! The code is of keys, and goes by rounds: what nodes name is asked of many at once, since asking
-//! may take memory and time, and many may be asked at the same time. Code over indexes, which can
-//! mark what it has found, stands with its user.
+//! The code is of keys, keeps what was loaded for each, and goes by rounds: all new nodes of a round
+//! are loaded by one call, since loading takes time, and several may load at the same time. Code over
+//! indexes, which can mark what it has found, stands with its user.
 #![tactic(auto)]
 
 mod closures;
 mod laws;
+mod loads;
 mod rounds;
 
-pub use closures::close;
+pub use closures::{close_by_rounds, close_loaded};
 pub use laws::{
     NodeSet, StepSet, closures_of_same_steps, distances_by_lists, distances_of_nodes,
-    least_closed_sets, lists_of_closures, sources_of_closures,
+    least_closed_sets, lists_of_closures, one_load, sources_of_closures,
 };
-pub use rounds::{CloseFault, Rounds};
+pub use loads::{CloseFault, Loads, load_each};

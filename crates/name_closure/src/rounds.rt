@@ -1,83 +1,61 @@
-//! Rounds: what is named is asked of many nodes at once.
-ghost use Rattle.std.specs.Prelude.{◌≡◌, ◌≤◌, [], ◌∷◌, List, length, IfOk, OnOk, IfErr};
+//! What a round of a closure does: what was loaded is added to what is found, and the nodes that
+//! are named there and not found yet are those of the next round.
+ghost use Rattle.std.specs.Prelude.{◌≡◌, IfOk, OnOk};
+ghost use Rattle.std.specs.BTreeMap.{keys};
 ghost use Rattle.std.specs.List.{flat_map};
 ghost use Rattle.std.specs.List.Sorted.{IsStrictlySortedBy};
-ghost use Rattle.name_closure.specs.Faults.{OnTooMany};
-ghost use Rattle.name_closure.specs.Growth.{IsGrown, IsOverFull};
+ghost use Rattle.std.specs.Map.{keys_of};
+ghost use Rattle.name_closure.specs.Growth.{AreJoined, AreNew};
+ghost use Rattle.name_closure.specs.Loading.{each_with};
 
+use crate::loads::Loads;
 use join_law::Key;
-use std::alloc::{AllocError, AllocFailed};
-use std::collections::BTreeSet;
-use thiserror::Error;
+use std::alloc::{AllocError, Global};
+use std::collections::BTreeMap;
 
-/// Why there is no closure.
-#[derive(Clone, Copy, Debug, PartialEq, Eq, Error)]
-pub enum CloseFault {
-    /// More is reached than the limit.
-    #[error("more is reached than the limit")]
-    TooMany,
-    #[error("out of memory")]
-    Memory,
-}
-
-impl From<AllocError> for CloseFault {
-    ghost use Rattle.std.specs.Prelude.{◌≡◌};
-    ghost use Rattle.name_closure.specs.declared.rounds.CloseFault.TheVariants.{Memory};
-
-    ghost from_gives = { λ _ fault. fault ≡ Memory };
-
-    fn from(_fault: AllocError) -> CloseFault {
-        CloseFault::Memory
-    }
-}
-
-/// Steps between nodes: to those that a node names.
-pub trait Rounds<K: Key> {
-    // What a node names.
-    ghost named: { Self → K → List K };
-
-    /// What the nodes name, one behind the other. It fails for want of memory alone.
-    fn named_by_all(&self, nodes: &[K]) -> Result<Vec<K>, AllocError>
-        ensures named { IfOk result (λ names. names.items ≡ flat_map (named self.now) nodes.now) };
-}
-
-// Adds a copy of a node to those found, and another to the fresh ones if it wasn't found before.
-fn add<K: Key>(found: &mut BTreeSet<K>, fresh: &mut Vec<K>, node: &K) -> Result<(), AllocError>
-    requires rising { IsStrictlySortedBy K.cmp found.old.keys }
-    ensures grown { OnOk result (IsGrown found.old.keys fresh.old.items (node.now ∷ []) found.new.keys
-        fresh.new.items) }
-    ensures rising { IsStrictlySortedBy K.cmp found.new.keys }
+// An equal list.
+pub fn copy_of<K: Key>(alloc: Global, nodes: &[K]) -> Result<Vec<K>, AllocError>
+    ensures copy { IfOk result (λ copy. copy.items ≡ nodes.now) }
 {
-    let is_new = match found.insert(node.try_clone()?) {
-        Ok(is_new) => is_new,
-        Err(_) => return Err(AllocError),
-    };
-    if is_new {
-        fresh.push(node.try_clone()?)?;
-    }
-    Ok(())
-}
-
-// Adds nodes, while no more than the limit are found.
-pub fn add_all<K: Key>(
-    found: &mut BTreeSet<K>,
-    fresh: &mut Vec<K>,
-    nodes: &[K],
-    limit: usize,
-) -> Result<(), CloseFault>
-    requires room { length found.old.keys ≤ limit }
-    requires rising { IsStrictlySortedBy K.cmp found.old.keys }
-    ensures grown { OnOk result (IsGrown found.old.keys fresh.old.items nodes.now found.new.keys fresh.new.items) }
-    ensures room { OnOk result (length found.new.keys ≤ limit) }
-    ensures over { IfErr result (λ fault. OnTooMany fault (IsOverFull limit found.old.keys nodes.now
-        found.new.keys)) }
-    ensures rising { IsStrictlySortedBy K.cmp found.new.keys }
-{
+    let mut copy = Vec::new(alloc);
     for node in nodes {
-        add(found, fresh, node)?;
-        if found.len() > limit {
-            return Err(CloseFault::TooMany);
-        }
+        copy.push(node.try_clone()?)?;
     }
-    Ok(())
+    Ok(copy)
+}
+
+// The nodes that aren't found yet, each once, in order. In place, without memory; O(m log m) for
+// m nodes, and as many searches.
+pub fn new_of<K: Key, U>(found: &BTreeMap<K, U>, nodes: Vec<K>) -> Vec<K>
+    ensures fresh { AreNew K.cmp (keys found.now) nodes.items result.items }
+{
+    let mut fresh = nodes;
+    fresh.sort_unstable();
+    fresh.dedup();
+    fresh.retain(|node| !found.contains_key(node));
+    fresh
+}
+
+// Adds what was loaded for nodes to what is found, and gives the nodes that are named there.
+pub fn add_loaded<K: Key, L: Loads<K>>(
+    alloc: Global,
+    loader: &L,
+    found: &mut BTreeMap<K, L::Loaded>,
+    pairs: Vec<(K, L::Loaded)>,
+) -> Result<Vec<K>, AllocError>
+    requires rising { IsStrictlySortedBy K.cmp (keys found.old) }
+    requires found { found.old.entries ≡ each_with (L.loaded loader.now) (keys found.old) }
+    requires pairs { pairs.items ≡ each_with (L.loaded loader.now) (keys_of pairs.items) }
+    ensures rising { IsStrictlySortedBy K.cmp (keys found.new) }
+    ensures entries { OnOk result (found.new.entries ≡ each_with (L.loaded loader.now) (keys found.new)) }
+    ensures joined { OnOk result (AreJoined (keys found.old) (keys_of pairs.items) (keys found.new)) }
+    ensures names { IfOk result (λ names. names.items ≡ flat_map (λ pair. L.named loader.now pair.1) pairs.items) }
+{
+    let mut names = Vec::new(alloc);
+    for (node, one) in pairs {
+        let mut more = loader.names(alloc, &one)?;
+        names.append(&mut more)?;
+        found.insert(node, one)?;
+    }
+    Ok(names)
 }

@@ -1,0 +1,104 @@
+-- Nodes that are sorted, freed of repeats and of those that are found.
+use Rattle.std.specs.Prelude.{◌≡◌, ◌⊎◌, Bool, true, false, not, ◌||◌, List, [], ◌∷◌, IsPermutation, IsSorted}
+use Rattle.std.specs.BTreeMap.{is_at}
+use Rattle.std.specs.Cmp.{IsTotalOrder, IsEquivalence}
+use Rattle.std.specs.List.{list_any, dedup, filter}
+use Rattle.std.specs.List.Sorted.{IsStrictlySortedBy}
+use Rattle.std.specs.Ordering.{is_eq}
+use Rattle.std.specs.declared.cmp.Ordering.{Ordering}
+use Rattle.std.specs.declared.cmp.Ordering.TheVariants.{Equal}
+use Rattle.std.proofs.Common.{cond, inl, inr, refl, sym, ap, ◌∙◌, subst}
+use Rattle.std.proofs.lemmas.Bool.{true≢false}
+use Rattle.std.proofs.lemmas.Cmp.{tied_itself}
+use Rattle.std.proofs.lemmas.List.Kept.{IsStrictlySortedBy-dedup, IsStrictlySortedBy-filter, Contains-dedup, Contains-from_dedup}
+use Rattle.std.proofs.lemmas.List.Sorted.{Contains-permutation, IsPermutation-sym}
+use Rattle.list_laws.specs.Members.{IsAmong, among_from_contains, contains_from_among}
+use Rattle.list_laws.specs.Orderings.{is_equal}
+use Rattle.name_closure.specs.Growth.{AreNew}
+
+module _ {N : Type 0} (order : N → N → Ordering) (total : IsTotalOrder order) (exact : (x y : N) → order x y ≡ Equal → x ≡ y) where
+  -- a test by comparisons finds the members, and nothing else
+  found_by : (k : N) (ks : List N) → list_any (is_at (order k)) ks ≡ true → IsAmong k ks
+  found_by k [] h = cc (h)
+  found_by k (x ∷ xs) h = by (is_at (order k) x) refl h (found_by k xs)
+    where
+      by : (b : Bool) → is_at (order k) x ≡ b → (b || list_any (is_at (order k)) xs) ≡ true → (list_any (is_at (order k)) xs ≡ true
+          → IsAmong k xs) → IsAmong k (x ∷ xs)
+      by true e g more = inl (sym (exact k x (is_equal (order k x) e)))
+      by false e g more = inr (more g)
+
+  found_there : (k : N) (ks : List N) → IsAmong k ks → list_any (is_at (order k)) ks ≡ true
+  found_there k [] h = absurd h
+  found_there k (x ∷ xs) (inl e) = first_found (is_at (order k) x) (ap is_eq (ap (λ z. order k z) e ∙ tied_itself total k)) (list_any (is_at (order k)) xs)
+    where
+      first_found : (b : Bool) → b ≡ true → (c : Bool) → (b || c) ≡ true
+      first_found true e c = refl
+      first_found false e c = cc (e)
+  found_there k (x ∷ xs) (inr h) = later_found (is_at (order k) x) (list_any (is_at (order k)) xs) (found_there k xs h)
+    where
+      later_found : (b c : Bool) → c ≡ true → (b || c) ≡ true
+      later_found true c e = refl
+      later_found false c e = e
+
+  -- those of the nodes that aren't found
+  abbrev pub unknown : List N → List N → List N
+  unknown found = filter (λ n. not (list_any (is_at (order n)) found))
+
+  unknown_apart : (found ns : List N) (n : N) → IsAmong n (unknown found ns) → ¬ IsAmong n found
+  unknown_apart found [] n h a = h
+  unknown_apart found (x ∷ xs) n h a = by (list_any (is_at (order x)) found) refl h (λ o. unknown_apart found xs n o a)
+    where
+      by : (b : Bool) → list_any (is_at (order x)) found ≡ b → IsAmong n (cond (not b) (x ∷ unknown found xs) (unknown found xs))
+          → ¬ IsAmong n (unknown found xs) → ⊥
+      by true e o later = later o
+      by false e (inl is) later = true≢false (sym (found_there x found (subst (λ v. IsAmong v found) (sym is) a)) ∙ e)
+      by false e (inr o) later = later o
+
+  unknown_origin : (found ns : List N) (n : N) → IsAmong n (unknown found ns) → IsAmong n ns
+  unknown_origin found [] n h = h
+  unknown_origin found (x ∷ xs) n h = by (list_any (is_at (order x)) found) h (unknown_origin found xs n)
+    where
+      by : (b : Bool) → IsAmong n (cond (not b) (x ∷ unknown found xs) (unknown found xs)) → (IsAmong n (unknown found xs) → IsAmong n xs)
+          → IsAmong n (x ∷ xs)
+      by true o more = inr (more o)
+      by false (inl is) more = inl is
+      by false (inr o) more = inr (more o)
+
+  unknown_took : (found ns : List N) (n : N) → IsAmong n ns → IsAmong n found ⊎ IsAmong n (unknown found ns)
+  unknown_took found [] n h = absurd h
+  unknown_took found (x ∷ xs) n h = by (list_any (is_at (order x)) found) refl h (unknown_took found xs n)
+    where
+      behind : (b : Bool) → IsAmong n found ⊎ IsAmong n (unknown found xs)
+          → IsAmong n found ⊎ IsAmong n (cond (not b) (x ∷ unknown found xs) (unknown found xs))
+      behind b (inl a) = inl a
+      behind true (inr a) = inr a
+      behind false (inr a) = inr (inr a)
+
+      by : (b : Bool) → list_any (is_at (order x)) found ≡ b → IsAmong n (x ∷ xs) → (IsAmong n xs → IsAmong n found ⊎ IsAmong n (unknown found xs))
+          → IsAmong n found ⊎ IsAmong n (cond (not b) (x ∷ unknown found xs) (unknown found xs))
+      by true e (inl is) more = inl (subst (λ v. IsAmong v found) is (found_by x found e))
+      by false e (inl is) more = inr (inl is)
+      by b e (inr o) more = behind b (more o)
+
+  -- nodes that were sorted, freed of repeats, and of those that are found
+  pub news_are : (E : N → N → Bool) → IsEquivalence E → ((x y : N) → E x y ≡ is_eq (order x y)) → (found nodes sorted fresh : List N)
+      → IsPermutation nodes sorted → IsSorted order sorted
+      → fresh ≡ unknown found (dedup E sorted) → AreNew order found nodes fresh
+  news_are E same ties found nodes sorted fresh permutation rising is = record {
+    rising = subst (IsStrictlySortedBy order) (sym is) (IsStrictlySortedBy-filter order (λ n. not (list_any (is_at (order n)) found)) single (IsStrictlySortedBy-dedup total ties sorted rising));
+    apart = λ n h. unknown_apart found single n (subst (IsAmong n) is h);
+    origin = λ n h. moved sorted nodes n (IsPermutation-sym nodes sorted permutation) (once n (unknown_origin found single n (subst (IsAmong n) is h)));
+    took = λ n h. elim (unknown_took found single n (kept n (moved nodes sorted n permutation h))) [ inl a ↦ inl a | inr b ↦ inr (subst (IsAmong n) (sym is) b) ];
+  }
+    where
+      single : List N
+      single = dedup E sorted
+
+      moved : (xs ys : List N) (n : N) → IsPermutation xs ys → IsAmong n xs → IsAmong n ys
+      moved xs ys n p h = among_from_contains n ys (Contains-permutation xs ys n p (contains_from_among n xs h))
+
+      once : (n : N) → IsAmong n single → IsAmong n sorted
+      once n h = among_from_contains n sorted (Contains-from_dedup E sorted n (contains_from_among n single h))
+
+      kept : (n : N) → IsAmong n sorted → IsAmong n single
+      kept n h = among_from_contains n single (Contains-dedup same (λ x y e. exact x y (is_equal _ (sym (ties x y) ∙ e))) sorted n (contains_from_among n sorted h))

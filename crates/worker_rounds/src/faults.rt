@@ -1,0 +1,30 @@
+//! Why there is no load by workers.
+use name_closure::CloseFault;
+use thiserror::Error;
+
+/// Why there is no load by workers.
+#[derive(Clone, Copy, Debug, PartialEq, Eq, Error)]
+pub enum LoadFault {
+    /// The workers aren't 1 to 64.
+    #[error("the workers aren't 1 to 64")]
+    Workers,
+    /// More is reached than the limit.
+    #[error("more is reached than the limit")]
+    TooMany,
+    #[error("out of memory")]
+    Memory,
+}
+
+impl From<CloseFault> for LoadFault {
+    ghost use Rattle.std.specs.Prelude.{◌≡◌};
+    ghost use Rattle.worker_rounds.specs.Refusals.{refusal_of};
+
+    ghost from_gives = { λ fault refusal. refusal ≡ refusal_of fault };
+
+    fn from(fault: CloseFault) -> LoadFault {
+        match fault {
+            CloseFault::TooMany => LoadFault::TooMany,
+            CloseFault::Memory => LoadFault::Memory,
+        }
+    }
+}

@@ -1,0 +1,13 @@
+//! Closures with what is loaded for their nodes, where each round is loaded by workers: the answer is
+//! that of one thread, whatever the workers' number and in whatever order they come.
+#![tactic(auto)]
+
+mod faults;
+mod gates;
+mod pieces;
+mod rounds;
+mod workers;
+
+pub use faults::LoadFault;
+pub use gates::{Gate, TURNS};
+pub use rounds::{MOST_WORKERS, close_loaded_by_workers};

@@ -1,0 +1,68 @@
+//! The rounds of a closure, each loaded by workers.
+ghost use Rattle.std.specs.Prelude.{◌≡◌, ◌↔◌, ◌⊎◌, ◌<◌, ◌≤◌, Err, length, IfOk, IfErr};
+ghost use Rattle.std.specs.BTreeMap.{keys};
+ghost use Rattle.std.specs.List.Sorted.{IsStrictlySortedBy};
+ghost use Rattle.name_closure.specs.Chains.{IsClosure, HasOver};
+ghost use Rattle.name_closure.specs.ListedLaws.{Listed};
+ghost use Rattle.name_closure.specs.Loading.{NamedInLoad, each_with};
+ghost use Rattle.worker_rounds.specs.Refusals.{OnTooMany};
+ghost use Rattle.worker_rounds.specs.declared.faults.LoadFault.TheVariants.{Workers};
+
+use crate::faults::LoadFault;
+use crate::gates::Gate;
+use crate::workers::load_by_workers;
+use join_law::Key;
+use name_closure::{Loads, close_by_rounds};
+use std::alloc::{AllocError, Global};
+use std::collections::BTreeMap;
+use std::thread::Threads;
+
+/// So many workers load at most.
+pub const MOST_WORKERS: usize = 64;
+
+/// All that is reached from the sources, each node with what is loaded for it, as by `close_loaded`.
+///
+/// `Workers` exactly where they aren't 1 to 64, before anything else. Then the answer is that of one
+/// thread: `TooMany` where more is reached than the limit, and only there, `Memory` for want of
+/// memory alone.
+///
+/// The new nodes of a round are cut in their order into pieces, none empty, as many as the lesser of
+/// the workers and the nodes, numbered from 0 in that round. Each piece has a worker of its own, which
+/// asks the gate first. One for which no thread can be made works in its caller's.
+pub fn close_loaded_by_workers<
+    R: Threads + Sync,
+    K: Key + Send,
+    L: Loads<K> + Sync,
+    G: Gate + Sync,
+>(
+    rt: &R,
+    alloc: Global,
+    loader: &L,
+    sources: &[K],
+    limit: usize,
+    workers: usize,
+    gate: &G,
+) -> Result<BTreeMap<K, L::Loaded>, LoadFault>
+where
+    L::Loaded: Send,
+    ensures workers { (result ≡ Err Workers) ↔ ((workers ≡ 0) ⊎ (64 < workers)) }
+    ensures closure { IfOk result (λ found. IsClosure (Listed sources.now)
+        (NamedInLoad (L.loaded loader.now) (L.named loader.now)) K.cmp (keys found)) }
+    ensures loaded { IfOk result (λ found. found.entries ≡ each_with (L.loaded loader.now) (keys found)) }
+    ensures room { IfOk result (λ found. length found.entries ≤ limit) }
+    ensures over { IfErr result (λ fault. OnTooMany fault (HasOver (Listed sources.now)
+        (NamedInLoad (L.loaded loader.now) (L.named loader.now)) K.cmp limit)) }
+    ensures not_over { IfOk result (λ _. ¬ HasOver (Listed sources.now)
+        (NamedInLoad (L.loaded loader.now) (L.named loader.now)) K.cmp limit) }
+{
+    if workers == 0 || workers > MOST_WORKERS {
+        return Err(LoadFault::Workers);
+    }
+    let load_round = |fresh: Vec<K>| -> Result<Vec<(K, L::Loaded)>, AllocError>
+        requires some { 0 < workers }
+        requires rising { IsStrictlySortedBy K.cmp fresh.items }
+        ensures pairs { IfOk result (λ pairs. pairs.items ≡ each_with (L.loaded loader.entry.now) fresh.items) }
+    { load_by_workers(rt, alloc, loader, workers, gate, fresh) };
+    let found = close_by_rounds(alloc, loader, sources, limit, load_round)?;
+    Ok(found)
+}
