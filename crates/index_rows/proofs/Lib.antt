@@ -1,0 +1,4 @@
+pub mod Listing
+pub mod Spreading
+pub mod Notes
+pub mod Works

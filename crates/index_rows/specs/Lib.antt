@@ -1,0 +1,4 @@
+pub mod Rows
+pub mod MarkLaws
+pub mod RowLaws
+pub mod Spreads

@@ -1,0 +1,59 @@
+//! Sets of nodes by marks.
+ghost use Rattle.std.specs.Prelude.{◌≡◌, ◌<◌, ◌≤◌, ◌↔◌, ℕ, length, replicate, false, IfOk, OnOk};
+ghost use Rattle.std.specs.List.{All};
+ghost use Rattle.std.specs.List.Sorted.{IsStrictlySortedBy};
+ghost use Rattle.std.specs.Ordering.{nat_cmp};
+ghost use Rattle.list_laws.specs.Members.{IsAmong};
+ghost use Rattle.index_rows.specs.Rows.{Marked};
+ghost use Rattle.index_rows.specs.Spreads.{IsSpread};
+
+use std::alloc::{AllocError, Global};
+
+/// So many marks, of which none is set.
+pub fn no_marks(alloc: Global, count: usize) -> Result<Vec<bool>, AllocError>
+    ensures none { IfOk result (λ marks. marks.items ≡ replicate count false) }
+    ensures units { IfOk result (λ marks. length marks.items ≡ count) }
+{
+    vec![in alloc; false; count]
+}
+
+/// The marked nodes, rising. O(n).
+pub fn marked_nodes(alloc: Global, marks: &[bool]) -> Result<Vec<usize>, AllocError>
+    ensures rising { IfOk result (λ nodes. IsStrictlySortedBy nat_cmp nodes.items) }
+    ensures members { IfOk result (λ nodes. (v : ℕ) → IsAmong v nodes.items ↔ Marked marks.now v) }
+{
+    let mut nodes = Vec::new(alloc);
+    for node in 0..marks.len() {
+        if marks[node] {
+            nodes.push(node)?;
+        }
+    }
+    Ok(nodes)
+}
+
+/// Marks at the nodes that have none. O(n).
+pub fn unmarked(alloc: Global, marks: &[bool]) -> Result<Vec<bool>, AllocError>
+    ensures units { IfOk result (λ others. length others.items ≡ length marks.now) }
+    ensures others { IfOk result (λ others. (v : ℕ) → Marked others.items v
+        ↔ ((v < length marks.now) × ¬ Marked marks.now v)) }
+{
+    let mut others = Vec::new(alloc);
+    for node in 0..marks.len() {
+        others.push(!marks[node])?;
+    }
+    Ok(others)
+}
+
+// Marks the nodes, and notes those that weren't marked.
+pub fn spread(seen: &mut Vec<bool>, noted: &mut Vec<usize>, nodes: &[usize]) -> Result<(), AllocError>
+    requires { All (λ v. v < length seen.old.items) nodes.now }
+    ensures { OnOk result (IsSpread seen.old.items seen.new.items noted.old.items noted.new.items nodes.now) }
+{
+    'nodes: for node in nodes {
+        if !seen[*node] {
+            seen[*node] = true;
+            noted.push(*node)?;
+        }
+    }
+    Ok(())
+}
