@@ -5,9 +5,11 @@
 #![tactic(auto)]
 
 mod closures;
+mod laws;
 mod marks;
 mod rows;
 
 pub use closures::{closure, reached};
+pub use laws::closures_by_name;
 pub use marks::{marked_nodes, no_marks, unmarked};
 pub use rows::{row, turned};
