@@ -1,0 +1,6 @@
+//! The order in which chosen nodes start.
+#![tactic(auto)]
+
+mod laws;
+
+pub use laws::{start_orders_are_one, stuck_nodes};
