@@ -3,4 +3,4 @@
 
 mod laws;
 
-pub use laws::{start_orders_are_one, stuck_nodes};
+pub use laws::{start_orders_are_one, start_orders_by_name, stuck_nodes};
