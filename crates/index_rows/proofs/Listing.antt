@@ -1,18 +1,13 @@
 -- Marked nodes listed from the first on.
 use Rattle.std.proofs.Common.{◌≡◌, ℕ, zero, suc, ◌+◌, ◌<◌, ◌⊎◌, ◌↔◌, inl, inr, Bool, true, false, List, [], ◌∷◌, ◌++◌, get_or, refl, sym, ap, ◌∙◌, subst, arith}
-use Rattle.std.specs.Prelude.{⊤}
 use Rattle.std.specs.List.{AllByRecursion}
 use Rattle.std.specs.List.Sorted.{IsStrictlySortedBy}
 use Rattle.std.specs.Ordering.{nat_cmp}
-use Rattle.std.specs.Cmp.{nat_cmp_is}
 use Rattle.std.specs.declared.cmp.Ordering.{Ordering}
 use Rattle.std.specs.declared.cmp.Ordering.TheVariants.{Less}
 use Rattle.std.proofs.lemmas.Bool.{cases_eq}
 use Rattle.list_laws.specs.Members.{IsAmong, IsAmong-append_cases, IsAmong-append_left, IsAmong-append_right}
-use Rattle.index_rows.specs.Rows.{Marked}
-
-pub below_cmp : (x y : ℕ) → x < y → nat_cmp x y ≡ Less
-below_cmp x y l = sym (nat_cmp_is x y Less l)
+use Rattle.index_rows.specs.ListLaws.{below_cmp}
 
 below_push : {X : Type 0} (R : X → X → Ordering) (y : X) (xs : List X) (x : X) → AllByRecursion (λ z. R y z ≡ Less) xs → R y x ≡ Less → AllByRecursion (λ z. R y z ≡ Less) (xs ++ x ∷ [])
 below_push R y [] x a l = (l, tt)

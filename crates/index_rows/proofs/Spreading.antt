@@ -3,10 +3,8 @@ use Rattle.std.proofs.Common.{◌≡◌, ℕ, ◌<◌, ◌+◌, ◌⊎◌, inl, 
 use Rattle.list_laws.specs.Members.{IsAmong, IsAmong-append_cases, IsAmong-append_left, IsAmong-append_right}
 use Rattle.index_rows.specs.Rows.{Marked}
 use Rattle.index_rows.specs.MarkLaws.{Marked-set, Marked-set_same, Marked-set_other, unset, unset-set}
+use Rattle.index_rows.specs.ListLaws.{IsAmong-push_cases}
 use Rattle.index_rows.specs.Spreads.{IsSpread}
-
-pub among_push : (x v : ℕ) (xs : List ℕ) → IsAmong v (xs ++ x ∷ []) → IsAmong v xs ⊎ (x ≡ v)
-among_push x v xs h = elim (IsAmong-append_cases v xs (x ∷ []) h) [ inl a ↦ inl a | inr a ↦ elim a [ inl e ↦ inr e | inr none ↦ absurd none ] ]
 
 pub IsSpread-none : (s : List Bool) (t : List ℕ) → IsSpread s s t t []
 IsSpread-none s t = record {
@@ -24,7 +22,7 @@ pub IsSpread-skip : (s0 s : List Bool) (t0 t nodes : List ℕ) (x : ℕ) → Mar
 IsSpread-skip s0 s t0 t nodes x m h = record {
   units = h.units;
   kept = h.kept;
-  all = λ v k. elim (among_push x v nodes k) [ inl a ↦ h.all v a | inr e ↦ subst (Marked s) e m ];
+  all = λ v k. elim (IsAmong-push_cases x v nodes k) [ inl a ↦ h.all v a | inr e ↦ subst (Marked s) e m ];
   origin = λ v k. elim (h.origin v k) [ inl a ↦ inl a | inr a ↦ inr (IsAmong-append_left v nodes (x ∷ []) a) ];
   notes_kept = h.notes_kept;
   noted = h.noted;
@@ -37,7 +35,7 @@ pub IsSpread-more : (s0 s : List Bool) (t0 t nodes : List ℕ) (x : ℕ) → x <
 IsSpread-more s0 s t0 t nodes x lt fresh h = record {
   units = length-set s x true ∙ h.units;
   kept = λ v m. Marked-set_other s x v (h.kept v m);
-  all = λ v k. elim (among_push x v nodes k) [
+  all = λ v k. elim (IsAmong-push_cases x v nodes k) [
   | inl a ↦ Marked-set_other s x v (h.all v a)
   | inr e ↦ subst (Marked (set s x true)) e (Marked-set_same s x lt)
   ];
@@ -50,7 +48,7 @@ IsSpread-more s0 s t0 t nodes x lt fresh h = record {
   | inl m ↦ elim (h.noted v m) [ inl a ↦ inl a | inr a ↦ inr (IsAmong-append_left v t (x ∷ []) a) ]
   | inr e ↦ inr (IsAmong-append_right v t (x ∷ []) (inl e))
   ];
-  notes_origin = λ v k. elim (among_push x v t k) [
+  notes_origin = λ v k. elim (IsAmong-push_cases x v t k) [
   | inl m ↦ elim (h.notes_origin v m) [ inl a ↦ inl a | inr a ↦ inr (IsAmong-append_left v nodes (x ∷ []) a.0, a.1) ]
   | inr e ↦ inr (IsAmong-append_right v nodes (x ∷ []) (inl e), λ m. fresh (subst (Marked s) (sym e) (h.kept v m)))
   ];

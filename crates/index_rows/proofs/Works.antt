@@ -10,7 +10,7 @@ use Rattle.name_closure.specs.ListedLaws.{Listed, Named}
 use Rattle.index_rows.specs.Rows.{Marked, row}
 use Rattle.index_rows.specs.MarkLaws.{Marked-none}
 use Rattle.index_rows.specs.Spreads.{IsSpread}
-use Rattle.index_rows.proofs.Spreading.{among_push}
+use Rattle.index_rows.specs.ListLaws.{IsAmong-push_cases}
 
 -- all that is marked is reached, and what is marked is still to be done or all that it leads to is marked
 pub record IsWork (rows : List (Vec ℕ Global)) (sources : List ℕ) (seen : List Bool) (todo : List ℕ) : Type 0 where
@@ -45,7 +45,7 @@ IsWork-step rows sources node seen new todo after w s =
       noted = λ v k. elim (s.notes_origin v k) [ inl a ↦ s.kept v (w.noted v (IsAmong-append_left v todo (node ∷ []) a)) | inr a ↦ s.all v a.0 ];
       closed = λ u m. elim (s.noted u m) [
       | inl k ↦ elim (w.closed u k) [
-        | inl a ↦ elim (among_push node u todo a) [ inl b ↦ inl (s.notes_kept u b) | inr e ↦ inr (subst P e s.all) ]
+        | inl a ↦ elim (IsAmong-push_cases node u todo a) [ inl b ↦ inl (s.notes_kept u b) | inr e ↦ inr (subst P e s.all) ]
         | inr a ↦ inr (λ v b. s.kept v (a v b))
         ]
       | inr k ↦ inl k

@@ -4,9 +4,9 @@ use Rattle.std.specs.List.{All}
 use Rattle.std.specs.declared.vec.Vec.{Vec}
 use Rattle.std.specs.declared.alloc.Global.{Global}
 use Rattle.std.proofs.lemmas.Bool.{cases_eq, cases_lt, ne_eqb, eq-eqb}
-use Rattle.std.proofs.lemmas.List.Elements.{All-contains}
-use Rattle.list_laws.specs.Members.{IsAmong, contains_from_among}
-use Rattle.index_rows.specs.Rows.{row, AllBelow, AreRowsOf, times, AreTurned}
+use Rattle.list_laws.specs.Members.{IsAmong}
+use Rattle.index_rows.specs.Rows.{row, AllBelow, times, AreTurned}
+use Rattle.index_rows.specs.ListLaws.{All-among}
 
 -- the row that indexing reads
 pub row-at : (rows : List (Vec ℕ Global)) (v : ℕ) (r : Vec ℕ Global) → v < length rows → r ≡ get_or rows v r → row rows v ≡ r.items
@@ -24,10 +24,6 @@ pub All-row : (n : ℕ) (rows : List (Vec ℕ Global)) (v : ℕ) → AllBelow n 
 All-row n [] v h = λ k d lt. absurd (omega arith)
 All-row n (x ∷ xs) zero h = h zero x (omega arith)
 All-row n (x ∷ xs) (suc v) h = All-row n xs v (λ k d lt. h (suc k) d (omega arith))
-
--- what holds of all that stand in a list
-pub All-among : {X : Type 0} (P : X → Type 0) (xs : List X) (x : X) → All P xs → IsAmong x xs → P x
-All-among P xs x all h = All-contains P xs x all (contains_from_among x xs h)
 
 pub row-below : (n : ℕ) (rows : List (Vec ℕ Global)) (u v : ℕ) → AllBelow n rows → IsAmong v (row rows u) → v < n
 row-below n rows u v below h = All-among (λ w. w < n) (row rows u) v (All-row n rows u below) h

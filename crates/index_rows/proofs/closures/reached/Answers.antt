@@ -1,16 +1,12 @@
 use Rattle.std.proofs.Common.{◌≡◌, ◌<◌, ◌+◌, ℕ, List, Bool, ◌++◌, ◌∷◌, [], length, refl, subst, sym, ◌∙◌, arith, vec_len, inl}
 use Rattle.std.specs.List.{All}
-use Rattle.list_laws.specs.Members.{IsAmong-append_right}
 use Rattle.index_rows.specs.Rows.{row as row_of}
 use Rattle.index_rows.specs.MarkLaws.{Marked-within}
+use Rattle.index_rows.specs.ListLaws.{empty_list, IsAmong-push}
 use Rattle.index_rows.specs.RowLaws.{All-row}
 use Rattle.index_rows.specs.Spreads.{IsSpread}
 use Rattle.index_rows.proofs.Works.{IsWork, IsWork-init, IsWork-step, IsWork-done}
 use Rattle.index_rows.proofs.closures.reached.Goals as goal
-
-nothing_left : (xs : List ℕ) → length xs ≡ 0 → xs ≡ []
-nothing_left [] e = refl
-nothing_left (x ∷ xs) e = absurd (omega arith)
 
 pub todo-init : goal.todo-init
 todo-init c = IsWork-init c.args.rows.now c.args.sources.now _ _ _ _ c.in_ok-seen.ensures.none c.new-todo.ensures.items c.in_ok-spread.ensures
@@ -23,7 +19,7 @@ work c =
 pub row-requires : goal.row-requires
 row-requires c =
     let w = work c in
-    let lt : c.in-Some.node < length c.todo.seen.items = Marked-within _ _ (w.noted c.in-Some.node (IsAmong-append_right c.in-Some.node c.pop.new.self.items (c.in-Some.node ∷ []) (inl refl))) in
+    let lt : c.in-Some.node < length c.todo.seen.items = Marked-within _ _ (w.noted c.in-Some.node (IsAmong-push c.in-Some.node c.pop.new.self.items)) in
     omega (arith, w.units, lt)
 
 pub spread-requires-in-Some : goal.spread-requires-in-Some
@@ -41,4 +37,4 @@ todo-preserved c =
 pub returns-clause-reached : goal.returns-clause-reached
 returns-clause-reached c =
     let out : ¬ (0 < vec_len c.todo.todo) = λ l. cc (c.in_default.ensures.variant.1 l) in
-    IsWork-done c.args.rows.now c.args.sources.now c.todo.seen.items c.todo.todo.items (nothing_left _ (omega (arith, c.todo.todo.ok))) c.todo.invariant
+    IsWork-done c.args.rows.now c.args.sources.now c.todo.seen.items c.todo.todo.items (empty_list _ (omega (arith, c.todo.todo.ok))) c.todo.invariant
