@@ -2,3 +2,4 @@ pub mod Listing
 pub mod Spreading
 pub mod Notes
 pub mod Works
+pub mod Building

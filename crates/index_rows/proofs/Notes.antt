@@ -1,13 +1,11 @@
 -- Rows turned round, node by node.
 use Rattle.std.proofs.Common.{◌≡◌, ℕ, zero, suc, ◌+◌, ◌<◌, ◌≤◌, ◌⊎◌, ◌↔◌, inl, inr, List, [], ◌∷◌, ◌++◌, length, get_or, refl, ap, sym, ◌∙◌, subst, arith, set, length-set}
-use Rattle.std.specs.List.{All}
 use Rattle.std.proofs.lemmas.Bool.{cases_eq, cases_lt}
-use Rattle.std.proofs.lemmas.List.Elements.{Contains-get_or}
 use Rattle.std.specs.declared.vec.Vec.{Vec}
 use Rattle.std.specs.declared.alloc.Global.{Global}
-use Rattle.list_laws.specs.Members.{IsAmong, among_from_contains}
+use Rattle.list_laws.specs.Members.{IsAmong}
 use Rattle.index_rows.specs.Rows.{row, times, AllBelow, AreRowsOf, AreTurned}
-use Rattle.index_rows.specs.RowLaws.{times-push_same, times-push_other, times-cons_same, times-cons_other, times-in, row-past, AreTurned-among}
+use Rattle.index_rows.specs.RowLaws.{times-push_same, times-push_other, times-cons_same, times-cons_other, times-in, row-past, AllBelow-rows, AreTurned-among}
 use Rattle.index_rows.specs.Spreads.{IsNoted}
 
 row-set_same : (rows : List (Vec ℕ Global)) (i : ℕ) (r : Vec ℕ Global) → i < length rows → row (set rows i r) i ≡ r.items
@@ -94,12 +92,6 @@ row-push_none [] r e h zero = e
 row-push_none [] r e h (suc u) = refl
 row-push_none (x ∷ xs) r e h zero = h zero
 row-push_none (x ∷ xs) r e h (suc u) = row-push_none xs r e (λ w. h (suc w)) u
-
--- rows whose members are below n, said row by row
-AllBelow-rows : (n : ℕ) (rows : List (Vec ℕ Global)) → ((u v : ℕ) → IsAmong v (row rows u) → v < n) → AllBelow n rows
-AllBelow-rows n [] h k d lt = absurd (omega arith)
-AllBelow-rows n (r ∷ rs) h zero d lt = λ i e l. h zero (get_or r.items i e) (among_from_contains _ r.items (Contains-get_or r.items i e l))
-AllBelow-rows n (r ∷ rs) h (suc k) d lt = AllBelow-rows n rs (λ u. h (suc u)) k d (omega arith)
 
 -- the nodes that stand in turned rows have a row
 pub AreTurned-below : (rows others : List (Vec ℕ Global)) → AreTurned rows others → AllBelow (length rows) others

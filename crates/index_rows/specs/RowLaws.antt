@@ -3,8 +3,9 @@ use Rattle.std.proofs.Common.{◌≡◌, ℕ, zero, suc, ◌+◌, ◌<◌, ◌�
 use Rattle.std.specs.List.{All}
 use Rattle.std.specs.declared.vec.Vec.{Vec}
 use Rattle.std.specs.declared.alloc.Global.{Global}
-use Rattle.std.proofs.lemmas.Bool.{cases_eq, cases_lt, ne_eqb, eq-eqb}
-use Rattle.list_laws.specs.Members.{IsAmong}
+use Rattle.std.proofs.lemmas.Bool.{cases_eq, ne_eqb, eq-eqb}
+use Rattle.std.proofs.lemmas.List.Elements.{Contains-get_or}
+use Rattle.list_laws.specs.Members.{IsAmong, among_from_contains}
 use Rattle.index_rows.specs.Rows.{row, AllBelow, times, AreTurned}
 use Rattle.index_rows.specs.ListLaws.{All-among}
 
@@ -97,3 +98,10 @@ AreTurned-among rows others t u v = (there, back)
         let a = times-in u (row rows v) h in
         let e = t u v in
         elim (times_cases v (row others u)) [ inl z ↦ absurd (omega (arith, a, e, z)) | inr k ↦ k ]
+
+-- rows whose members are below n, said row by row
+pub AllBelow-rows : (n : ℕ) (rows : List (Vec ℕ Global)) → ((u v : ℕ) → IsAmong v (row rows u) → v < n) → AllBelow n rows
+AllBelow-rows n [] h k d lt = absurd (omega arith)
+AllBelow-rows n (r ∷ rs) h zero d lt = λ i e l. h zero (get_or r.items i e) (among_from_contains _ r.items (Contains-get_or r.items i e l))
+AllBelow-rows n (r ∷ rs) h (suc k) d lt = AllBelow-rows n rs (λ u. h (suc u)) k d (omega arith)
+

@@ -11,5 +11,5 @@ mod rows;
 
 pub use closures::{closure, reached};
 pub use laws::closures_by_name;
-pub use marks::{marked_nodes, no_marks, unmarked};
-pub use rows::{row, turned};
+pub use marks::{marked_nodes, no_marks, unmarked, without};
+pub use rows::{joined, kept, row, turned};

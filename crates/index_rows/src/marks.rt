@@ -44,6 +44,19 @@ pub fn unmarked(alloc: Global, marks: &[bool]) -> Result<Vec<bool>, AllocError>
     Ok(others)
 }
 
+/// Marks at the nodes that are marked in the first and not in the second. O(n).
+pub fn without(alloc: Global, marks: &[bool], others: &[bool]) -> Result<Vec<bool>, AllocError>
+    requires { length others.now ≡ length marks.now }
+    ensures units { IfOk result (λ left. length left.items ≡ length marks.now) }
+    ensures left { IfOk result (λ left. (v : ℕ) → Marked left.items v ↔ (Marked marks.now v × ¬ Marked others.now v)) }
+{
+    let mut left = Vec::new(alloc);
+    for node in 0..marks.len() {
+        left.push(marks[node] && !others[node])?;
+    }
+    Ok(left)
+}
+
 // Marks the nodes, and notes those that weren't marked.
 pub fn spread(seen: &mut Vec<bool>, noted: &mut Vec<usize>, nodes: &[usize]) -> Result<(), AllocError>
     requires { All (λ v. v < length seen.old.items) nodes.now }

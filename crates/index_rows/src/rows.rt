@@ -1,8 +1,8 @@
 //! Steps between nodes by rows.
-ghost use Rattle.std.specs.Prelude.{◌≡◌, ◌<◌, ◌↔◌, ◌∷◌, [], ℕ, length, IfOk, OnOk};
+ghost use Rattle.std.specs.Prelude.{◌≡◌, ◌<◌, ◌↔◌, ◌⊎◌, ◌∷◌, [], ℕ, length, IfOk, OnOk};
 ghost use Rattle.std.specs.List.{All};
 ghost use Rattle.list_laws.specs.Members.{IsAmong};
-ghost use Rattle.index_rows.specs.Rows.{AllBelow, AreRowsOf, AreTurned, row as row_of};
+ghost use Rattle.index_rows.specs.Rows.{Marked, AllBelow, AreRowsOf, AreTurned, row as row_of};
 ghost use Rattle.index_rows.specs.Spreads.{IsNoted};
 
 use std::alloc::{AllocError, Global};
@@ -60,4 +60,49 @@ pub fn turned(alloc: Global, rows: &[Vec<usize>]) -> Result<Vec<Vec<usize>>, All
         note(&mut others, row(rows, node), node)?;
     }
     Ok(others)
+}
+
+/// Rows with the steps of both. O(n) and the steps.
+pub fn joined(alloc: Global, first: &[Vec<usize>], second: &[Vec<usize>]) -> Result<Vec<Vec<usize>>, AllocError>
+    requires first { AreRowsOf (length first.now) first.now }
+    requires second { AreRowsOf (length first.now) second.now }
+    ensures steps { IfOk result (λ rows. (u v : ℕ) → IsAmong v (row_of rows.items u)
+        ↔ (IsAmong v (row_of first.now u) ⊎ IsAmong v (row_of second.now u))) }
+    ensures rows { IfOk result (λ rows. AreRowsOf (length first.now) rows.items) }
+{
+    let mut rows = Vec::new(alloc);
+    'rows: for node in 0..first.len() {
+        let mut nodes = Vec::from_slice(alloc, row(first, node))?;
+        nodes.extend_from_slice(row(second, node))?;
+        rows.push(nodes)?;
+    }
+    Ok(rows)
+}
+
+// The marked nodes of a list.
+fn kept_nodes(alloc: Global, nodes: &[usize], marks: &[bool]) -> Result<Vec<usize>, AllocError>
+    requires { All (λ v. v < length marks.now) nodes.now }
+    ensures { IfOk result (λ kept. (v : ℕ) → IsAmong v kept.items ↔ (IsAmong v nodes.now × Marked marks.now v)) }
+{
+    let mut kept = Vec::new(alloc);
+    'nodes: for node in nodes {
+        if marks[*node] {
+            kept.push(*node)?;
+        }
+    }
+    Ok(kept)
+}
+
+/// Rows with those steps alone that lead to marked nodes. O(n) and the steps.
+pub fn kept(alloc: Global, rows: &[Vec<usize>], marks: &[bool]) -> Result<Vec<Vec<usize>>, AllocError>
+    requires { AreRowsOf (length marks.now) rows.now }
+    ensures steps { IfOk result (λ kept. (u v : ℕ) → IsAmong v (row_of kept.items u)
+        ↔ (IsAmong v (row_of rows.now u) × Marked marks.now v)) }
+    ensures rows { IfOk result (λ kept. AreRowsOf (length marks.now) kept.items) }
+{
+    let mut kept = Vec::new(alloc);
+    'rows: for node in 0..rows.len() {
+        kept.push(kept_nodes(alloc, row(rows, node), marks)?)?;
+    }
+    Ok(kept)
 }
