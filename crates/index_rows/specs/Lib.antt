@@ -1,4 +1,5 @@
 pub mod Rows
+pub mod Least
 pub mod ListLaws
 pub mod MarkLaws
 pub mod RowLaws

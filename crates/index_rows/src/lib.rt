@@ -11,5 +11,5 @@ mod rows;
 
 pub use closures::{closure, reached};
 pub use laws::closures_by_name;
-pub use marks::{marked_nodes, no_marks, unmarked, without};
+pub use marks::{first_marked, least_marked, marked_nodes, no_marks, unmarked, without};
 pub use rows::{joined, kept, row, turned};

@@ -1,9 +1,10 @@
 //! Sets of nodes by marks.
-ghost use Rattle.std.specs.Prelude.{◌≡◌, ◌<◌, ◌≤◌, ◌↔◌, ℕ, length, replicate, false, IfOk, OnOk};
+ghost use Rattle.std.specs.Prelude.{◌≡◌, ◌<◌, ◌≤◌, ◌↔◌, ℕ, length, replicate, false, MatchOption, IfOk, OnOk};
 ghost use Rattle.std.specs.List.{All};
 ghost use Rattle.std.specs.List.Sorted.{IsStrictlySortedBy};
 ghost use Rattle.std.specs.Ordering.{nat_cmp};
 ghost use Rattle.list_laws.specs.Members.{IsAmong};
+ghost use Rattle.index_rows.specs.Least.{IsLeast};
 ghost use Rattle.index_rows.specs.Rows.{Marked};
 ghost use Rattle.index_rows.specs.Spreads.{IsSpread};
 
@@ -55,6 +56,33 @@ pub fn without(alloc: Global, marks: &[bool], others: &[bool]) -> Result<Vec<boo
         left.push(marks[node] && !others[node])?;
     }
     Ok(left)
+}
+
+/// The least marked node. O(n).
+pub fn first_marked(marks: &[bool]) -> Option<usize>
+    ensures { MatchOption result ((v : ℕ) → ¬ Marked marks.now v) (IsLeast nat_cmp (Marked marks.now)) }
+{
+    for node in 0..marks.len() {
+        if marks[node] {
+            return Some(node);
+        }
+    }
+    None
+}
+
+/// The least marked node of a list. O(its length).
+pub fn least_marked(nodes: &[usize], marks: &[bool]) -> Option<usize>
+    requires { All (λ v. v < length marks.now) nodes.now }
+    ensures { MatchOption result ((v : ℕ) → IsAmong v nodes.now → ¬ Marked marks.now v)
+        (IsLeast nat_cmp (λ v. IsAmong v nodes.now × Marked marks.now v)) }
+{
+    let mut least = marks.len();
+    'nodes: for node in nodes {
+        if marks[*node] && *node < least {
+            least = *node;
+        }
+    }
+    if least < marks.len() { Some(least) } else { None }
 }
 
 // Marks the nodes, and notes those that weren't marked.

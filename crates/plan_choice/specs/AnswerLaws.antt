@@ -5,7 +5,8 @@ use Rattle.std.specs.FinMap.{IsAntisymmetric}
 use Rattle.std.specs.declared.cmp.Ordering.{Ordering}
 use Rattle.list_laws.specs.Members.{IsAmong}
 use Rattle.name_closure.specs.ClosureLaws.{one_closure}
-use Rattle.start_order.specs.StartOrder.{IsLeast, IsStartList, IsStuck}
+use Rattle.index_rows.specs.Least.{IsLeast}
+use Rattle.start_order.specs.StartOrder.{IsStartList, IsStuck}
 use Rattle.start_order.specs.OrderLaws.{one_least, one_start_list}
 use Rattle.start_order.specs.CycleLaws.{one_cycle, cycle_stuck}
 use Rattle.plan_choice.specs.Case.{Case}

@@ -4,7 +4,8 @@ use Rattle.std.specs.Prelude.{◌≡◌, ◌<◌, ℕ, false, IsTrue, List}
 use Rattle.std.specs.declared.cmp.Ordering.{Ordering}
 use Rattle.list_laws.specs.Members.{IsAmong}
 use Rattle.name_closure.specs.Chains.{IsClosure}
-use Rattle.start_order.specs.StartOrder.{IsLeast, IsStartList, IsStuck, IsCycle}
+use Rattle.index_rows.specs.Least.{IsLeast}
+use Rattle.start_order.specs.StartOrder.{IsStartList, IsStuck, IsCycle}
 use Rattle.plan_choice.specs.Case.{Case}
 use Rattle.plan_choice.specs.Sets.{IsNeeded, AreInConflict, Precedes, IsChosen, Starts, IsOusted, TakesAlong}
 

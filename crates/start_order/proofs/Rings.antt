@@ -10,7 +10,8 @@ use Rattle.name_closure.specs.ClosureLaws.{reached_closed}
 use Rattle.index_rows.specs.Rows.{Marked}
 use Rattle.index_rows.specs.MarkLaws.{Marked-set, Marked-set_same, Marked-set_other}
 use Rattle.index_rows.specs.ListLaws.{IsAmong-push, IsAmong-push_cases, below_cmp}
-use Rattle.start_order.specs.StartOrder.{IsLeast, IsBlocker, IsBlockedAlong, IsRing, IsCycle}
+use Rattle.index_rows.specs.Least.{IsLeast}
+use Rattle.start_order.specs.StartOrder.{IsBlocker, IsBlockedAlong, IsRing, IsCycle}
 use Rattle.start_order.specs.Walks.{AreDistinct, LeadsBack, LeadsTo, IsWalk}
 
 -- marks that agree with a list still do after one more of both

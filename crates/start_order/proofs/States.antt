@@ -10,7 +10,8 @@ use Rattle.index_rows.specs.Rows.{Marked, row, times}
 use Rattle.index_rows.specs.MarkLaws.{Marked-within, Marked-none, Marked-set, Marked-set_same, Marked-set_other}
 use Rattle.index_rows.specs.ListLaws.{cmp_below}
 use Rattle.index_rows.specs.RowLaws.{times_cases, times-in}
-use Rattle.start_order.specs.StartOrder.{IsLeast, CanStart, IsStartList}
+use Rattle.index_rows.specs.Least.{IsLeast}
+use Rattle.start_order.specs.StartOrder.{CanStart, IsStartList}
 use Rattle.start_order.specs.Precedes.{Precedes}
 use Rattle.start_order.specs.Counts.{waiting, IsLowered}
 use Rattle.start_order.specs.OrderLaws.{can_start_along, least_along}

@@ -7,7 +7,8 @@ use Rattle.std.specs.declared.cmp.Ordering.TheVariants.{Less, Equal, Greater}
 use Rattle.std.proofs.lemmas.Cmp.{tied_itself}
 use Rattle.list_laws.specs.Members.{IsAmong, IsAmong-append_cases, IsAmong-append_left, IsAmong-append_right}
 use Rattle.name_closure.specs.Chains.{IsChain, IsReached}
-use Rattle.start_order.specs.StartOrder.{IsLeast, IsBlocker, IsBlockedAlong, IsRing, IsCycle}
+use Rattle.index_rows.specs.Least.{IsLeast}
+use Rattle.start_order.specs.StartOrder.{IsBlocker, IsBlockedAlong, IsRing, IsCycle}
 use Rattle.start_order.specs.OrderLaws.{one_least, same_unless_less, least_along}
 
 module _ {N : Type 0} (order : N → N → Ordering) (stuck : N → Type 0) (before : N → N → Type 0) where

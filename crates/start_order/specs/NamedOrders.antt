@@ -9,7 +9,8 @@ use Rattle.name_closure.specs.Chains.{IsReached}
 use Rattle.name_closure.specs.ListedLaws.{Listed}
 use Rattle.index_rows.specs.Numbering.{IsNumbering, AreNames, AreNamedSteps}
 use Rattle.index_rows.specs.NumberingLaws.{names_compare, one_number, number_of, listed_names, mapped_from, among_mapped, reached_named}
-use Rattle.start_order.specs.StartOrder.{IsLeast, CanStart, IsKnot, IsStuck, IsStartList, IsBlocker, IsBlockedAlong, IsRing, IsCycle}
+use Rattle.index_rows.specs.Least.{IsLeast}
+use Rattle.start_order.specs.StartOrder.{CanStart, IsKnot, IsStuck, IsStartList, IsBlocker, IsBlockedAlong, IsRing, IsCycle}
 
 -- a list of numbers that is cut as the list of their names is
 pub record IsCutAs {N : Type 0} (name : ℕ → N) (list : List ℕ) (front : List N) (u : N) (rest : List N) : Type 0 where

@@ -8,7 +8,8 @@ use Rattle.std.specs.declared.cmp.Ordering.TheVariants.{Less, Equal, Greater}
 use Rattle.list_laws.specs.Members.{IsAmong, IsAmong-append_cases, IsAmong-append_left, IsAmong-append_right}
 use Rattle.list_laws.specs.Orderings.{turned}
 use Rattle.name_closure.specs.ListedLaws.{Listed}
-use Rattle.start_order.specs.StartOrder.{IsLeast, CanStart, IsKnot, IsStuck, IsStartList}
+use Rattle.index_rows.specs.Least.{IsLeast}
+use Rattle.start_order.specs.StartOrder.{CanStart, IsKnot, IsStuck, IsStartList}
 
 module _ {N : Type 0} (order : N → N → Ordering) (total : IsTotalOrder order) (exact : IsAntisymmetric order) where
   -- two of which neither is less are one

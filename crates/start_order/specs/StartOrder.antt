@@ -6,11 +6,7 @@ use Rattle.std.specs.declared.cmp.Ordering.TheVariants.{Less}
 use Rattle.list_laws.specs.Members.{IsAmong}
 use Rattle.name_closure.specs.Chains.{IsReached}
 use Rattle.name_closure.specs.ListedLaws.{Listed}
-
--- the node is one of the set, and none of the set is less
-pub record IsLeast {N : Type 0} (order : N → N → Ordering) (set : N → Type 0) (u : N) : Type 0 where
-  pub member : set u
-  pub least : (v : N) → set v → ¬ (order v u ≡ Less)
+use Rattle.index_rows.specs.Least.{IsLeast}
 
 module _ {N : Type 0} (chosen : N → Type 0) (before : N → N → Type 0) where
   -- u can start once the nodes of `standing` stand: it is chosen, doesn't stand, and each chosen node before it stands

@@ -3,7 +3,8 @@ use Rattle.std.specs.Prelude.{◌≡◌, ◌⊎◌, ℕ, List, [], ◌∷◌}
 use Rattle.std.specs.Ordering.{nat_cmp}
 use Rattle.list_laws.specs.Members.{IsAmong}
 use Rattle.name_closure.specs.Chains.{IsReached}
-use Rattle.start_order.specs.StartOrder.{IsLeast, IsBlocker}
+use Rattle.index_rows.specs.Least.{IsLeast}
+use Rattle.start_order.specs.StartOrder.{IsBlocker}
 
 -- no two of the list are alike
 abbrev pub AreDistinct : List ℕ → Type 0

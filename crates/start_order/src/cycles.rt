@@ -4,7 +4,8 @@ ghost use Rattle.std.specs.List.{All};
 ghost use Rattle.std.specs.Ordering.{nat_cmp};
 ghost use Rattle.list_laws.specs.Members.{IsAmong};
 ghost use Rattle.index_rows.specs.Rows.{Marked, AllBelow};
-ghost use Rattle.start_order.specs.StartOrder.{IsLeast, IsBlocker, IsCycle};
+ghost use Rattle.index_rows.specs.Least.{IsLeast};
+ghost use Rattle.start_order.specs.StartOrder.{IsBlocker, IsCycle};
 ghost use Rattle.start_order.specs.Precedes.{Precedes};
 ghost use Rattle.start_order.specs.Walks.{IsWalk};
 

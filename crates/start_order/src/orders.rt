@@ -1,15 +1,15 @@
 //! The start list, or the cycle that prevents it.
-ghost use Rattle.std.specs.Prelude.{◌≡◌, ◌<◌, ◌↔◌, ℕ, length, IfOk, IfErr, MatchOption};
+ghost use Rattle.std.specs.Prelude.{◌≡◌, ◌↔◌, ℕ, length, IfOk, IfErr};
 ghost use Rattle.std.specs.Ordering.{nat_cmp};
 ghost use Rattle.list_laws.specs.Members.{IsAmong};
 ghost use Rattle.index_rows.specs.Rows.{Marked, AllBelow, AreRowsOf, AreTurned};
-ghost use Rattle.start_order.specs.StartOrder.{IsLeast, IsStartList, IsStuck, IsCycle};
+ghost use Rattle.start_order.specs.StartOrder.{IsStartList, IsStuck, IsCycle};
 ghost use Rattle.start_order.specs.Precedes.{Precedes};
 
 use crate::counts::{counts_of, lower};
 use crate::cycles::cycle_from;
 use crate::free::{free_of, take_least};
-use index_rows::{no_marks, row, turned};
+use index_rows::{first_marked, no_marks, row, turned, without};
 use std::alloc::{AllocError, Global};
 
 // The start list, and marks at its nodes, where `after` has the rows of `before` turned round.
@@ -38,32 +38,6 @@ fn listed(
     Ok((list, standing))
 }
 
-// Marks at the chosen nodes that don't stand.
-fn left_over(alloc: Global, chosen: &[bool], standing: &[bool]) -> Result<Vec<bool>, AllocError>
-    requires { length standing.now ≡ length chosen.now }
-    ensures units { IfOk result (λ left. length left.items ≡ length chosen.now) }
-    ensures marks { IfOk result (λ left. (v : ℕ) → Marked left.items v
-        ↔ (Marked chosen.now v × ¬ Marked standing.now v)) }
-{
-    let mut left = Vec::new(alloc);
-    for node in 0..chosen.len() {
-        left.push(chosen[node] && !standing[node])?;
-    }
-    Ok(left)
-}
-
-// The least marked node.
-fn first_marked(marks: &[bool]) -> Option<usize>
-    ensures { MatchOption result ((u : ℕ) → ¬ Marked marks.now u) (IsLeast nat_cmp (Marked marks.now)) }
-{
-    for node in 0..marks.len() {
-        if marks[node] {
-            return Some(node);
-        }
-    }
-    None
-}
-
 /// The order in which the chosen nodes start, or, where some are stuck, the cycle that is told of
 /// them. The row of a node has the nodes before it.
 ///
@@ -84,7 +58,7 @@ pub fn start_order(
 {
     let after = turned(alloc, before)?;
     let (list, standing) = listed(alloc, chosen, before, &after)?;
-    let left = left_over(alloc, chosen, &standing)?;
+    let left = without(alloc, chosen, &standing)?;
     match first_marked(&left) {
         None => Ok(Ok(list)),
         Some(start) => Ok(Err(cycle_from(alloc, &left, before, start)?)),

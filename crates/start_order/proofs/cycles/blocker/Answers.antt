@@ -4,7 +4,7 @@ use Rattle.std.specs.Ordering.{nat_cmp}
 use Rattle.list_laws.specs.Members.{IsAmong}
 use Rattle.index_rows.specs.Rows.{Marked}
 use Rattle.index_rows.specs.RowLaws.{All-row}
-use Rattle.start_order.specs.StartOrder.{IsLeast}
+use Rattle.index_rows.specs.Least.{IsLeast}
 use Rattle.start_order.proofs.cycles.blocker.Goals as goal
 
 pub least_stuck-requires : goal.least_stuck-requires

@@ -6,7 +6,7 @@ use Rattle.list_laws.specs.Members.{IsAmong, among_from_contains, contains_from_
 use Rattle.index_rows.specs.Rows.{Marked}
 use Rattle.index_rows.specs.MarkLaws.{Marked-within}
 use Rattle.index_rows.specs.ListLaws.{cmp_below}
-use Rattle.start_order.specs.StartOrder.{IsLeast}
+use Rattle.index_rows.specs.Least.{IsLeast}
 use Rattle.start_order.proofs.cycles.least_stuck.Goals as goal
 
 -- no marked node of the list is below `least`
