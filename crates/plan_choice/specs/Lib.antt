@@ -4,3 +4,7 @@ pub mod Answers
 pub mod SetLaws
 pub mod AnswerLaws
 pub mod RowCases
+pub mod RowRefusals
+pub mod Marking
+pub mod Soundness
+pub mod Losing
