@@ -1,12 +1,12 @@
 -- Rows that are made one by one.
-use Rattle.std.proofs.Common.{◌≡◌, ℕ, zero, suc, ◌+◌, ◌<◌, ◌≤◌, ◌⊎◌, ◌↔◌, inl, inr, Bool, true, List, [], ◌∷◌, ◌++◌, length, refl, ap, sym, ◌∙◌, subst, arith, length-append}
+use Rattle.std.proofs.Common.{◌≡◌, ℕ, zero, suc, ◌+◌, ◌<◌, ◌≤◌, ◌⊎◌, ◌↔◌, inl, inr, Bool, List, [], ◌∷◌, ◌++◌, length, refl, ap, sym, ◌∙◌, subst, arith, length-append}
 use Rattle.std.proofs.lemmas.Bool.{cases_eq, cases_lt}
 use Rattle.std.specs.declared.vec.Vec.{Vec}
 use Rattle.std.specs.declared.alloc.Global.{Global}
 use Rattle.list_laws.specs.Members.{IsAmong, IsAmong-append_left, IsAmong-append_right, IsAmong-append_cases}
-use Rattle.index_rows.specs.Rows.{Marked, row, AreRowsOf, AllBelow}
-use Rattle.index_rows.specs.ListLaws.{IsAmong-push, IsAmong-push_cases}
-use Rattle.index_rows.specs.RowLaws.{row-past, row-below, AllBelow-rows}
+use Rattle.index_rows.specs.Rows.{Marked, row, AreRowsOf}
+use Rattle.index_rows.specs.ListLaws.{IsAmong-push_cases}
+use Rattle.index_rows.specs.RowLaws.{row-past, AllBelow-rows}
 
 row-push_same : (rows : List (Vec ℕ Global)) (r : Vec ℕ Global) → row (rows ++ r ∷ []) (length rows) ≡ r.items
 row-push_same [] r = refl
@@ -34,13 +34,13 @@ AreMade-more steps i rows new r a e here =
     subst P (sym e) (record {
       units = (let b : length (rows ++ r ∷ []) ≡ length rows + 1 = length-append rows (r ∷ []) in omega (arith, b, a.units));
       made = λ u v l. elim (cases_eq i u) [
-      | inl same ↦ (let R : List ℕ → Type 0 = λ q. IsAmong v q ↔ steps i v in
-                    let Q : ℕ → Type 0 = λ w. IsAmong v (row (rows ++ r ∷ []) w) ↔ steps w v in
-                    let S : ℕ → Type 0 = λ w. row (rows ++ r ∷ []) w ≡ r.items in
-                    subst Q same (subst R (sym (subst S a.units (row-push_same rows r))) (here v)))
-      | inr ne ↦ (let R : List ℕ → Type 0 = λ q. IsAmong v q ↔ steps u v in
-                  let s : u < i = below_still i u l ne in
-                  subst R (sym (row-push_other rows r u (omega (arith, s, a.units)))) (a.made u v s))
+        | inl same ↦ (let R : List ℕ → Type 0 = λ q. IsAmong v q ↔ steps i v in
+            let Q : ℕ → Type 0 = λ w. IsAmong v (row (rows ++ r ∷ []) w) ↔ steps w v in
+            let S : ℕ → Type 0 = λ w. row (rows ++ r ∷ []) w ≡ r.items in
+            subst Q same (subst R (sym (subst S a.units (row-push_same rows r))) (here v)))
+        | inr ne ↦ (let R : List ℕ → Type 0 = λ q. IsAmong v q ↔ steps u v in
+            let s : u < i = below_still i u l ne in
+            subst R (sym (row-push_other rows r u (omega (arith, s, a.units)))) (a.made u v s))
       ];
     })
 
@@ -48,11 +48,11 @@ AreMade-more steps i rows new r a e here =
 module _ (steps : ℕ → ℕ → Type 0) (n i : ℕ) (rows : List (Vec ℕ Global)) (e : i ≡ n) (a : AreMade steps i rows) (within : (u v : ℕ) → steps u v → u < n) where
   pub AreMade-all : (u v : ℕ) → IsAmong v (row rows u) ↔ steps u v
   AreMade-all u v = elim (cases_lt u i) [
-      | inl l ↦ a.made u v l
-      | inr l ↦ (let past : row rows u ≡ [] = row-past rows u (let k : i ≤ u = l in omega (arith, k, a.units)) in
-                 let P : List ℕ → Type 0 = λ r. IsAmong v r in
-                 (λ h. absurd (subst P past h), λ s. absurd (let k : i ≤ u = l in let m = within u v s in omega (arith, k, m, e))))
-    ]
+    | inl l ↦ a.made u v l
+    | inr l ↦ (let past : row rows u ≡ [] = row-past rows u (let k : i ≤ u = l in omega (arith, k, a.units)) in
+        let P : List ℕ → Type 0 = λ r. IsAmong v r in
+        (λ h. absurd (subst P past h), λ s. absurd (let k : i ≤ u = l in let m = within u v s in omega (arith, k, m, e))))
+  ]
 
   pub AreMade-rows : ((u v : ℕ) → steps u v → v < n) → AreRowsOf n rows
   AreMade-rows stays = record { one_each = a.units ∙ e; within = AllBelow-rows n rows (λ u v h. stays u v ((AreMade-all u v).0 h)) }
@@ -60,11 +60,11 @@ module _ (steps : ℕ → ℕ → Type 0) (n i : ℕ) (rows : List (Vec ℕ Glob
 -- a step of rows leads from one of so many nodes
 pub row-from : (n : ℕ) (rows : List (Vec ℕ Global)) → length rows ≡ n → (u v : ℕ) → IsAmong v (row rows u) → u < n
 row-from n rows e u v h = elim (cases_lt u (length rows)) [
-    | inl l ↦ omega (arith, l, e)
-    | inr l ↦ (let past : row rows u ≡ [] = row-past rows u l in
-               let P : List ℕ → Type 0 = λ r. IsAmong v r in
-               absurd (subst P past h))
-    ]
+  | inl l ↦ omega (arith, l, e)
+  | inr l ↦ (let past : row rows u ≡ [] = row-past rows u l in
+      let P : List ℕ → Type 0 = λ r. IsAmong v r in
+      absurd (subst P past h))
+]
 
 pub append_is : (v : ℕ) (xs ys zs : List ℕ) → zs ≡ xs ++ ys → IsAmong v zs ↔ (IsAmong v xs ⊎ IsAmong v ys)
 append_is v xs ys zs e =
@@ -79,12 +79,12 @@ module _ (marks : List Bool) (old nodes kept new : List ℕ) (x : ℕ) (h : (v :
       let Q : List ℕ → Type 0 = λ l. IsAmong v (kept ++ x ∷ []) ↔ (IsAmong v l × Marked marks v) in
       subst P (sym e) (subst Q (sym more) (
         λ k. elim (IsAmong-push_cases x v kept k) [
-        | inl a ↦ (let f = (h v).0 a in (IsAmong-append_left v old (x ∷ []) f.0, f.1))
-        | inr same ↦ (IsAmong-append_right v old (x ∷ []) (inl same), subst (Marked marks) same m)
+          | inl a ↦ (let f = (h v).0 a in (IsAmong-append_left v old (x ∷ []) f.0, f.1))
+          | inr same ↦ (IsAmong-append_right v old (x ∷ []) (inl same), subst (Marked marks) same m)
         ],
         λ k. elim (IsAmong-push_cases x v old k.0) [
-        | inl a ↦ IsAmong-append_left v kept (x ∷ []) ((h v).1 (a, k.1))
-        | inr same ↦ IsAmong-append_right v kept (x ∷ []) (inl same)
+          | inl a ↦ IsAmong-append_left v kept (x ∷ []) ((h v).1 (a, k.1))
+          | inr same ↦ IsAmong-append_right v kept (x ∷ []) (inl same)
         ],
       ))
 
@@ -95,7 +95,7 @@ module _ (marks : List Bool) (old nodes kept new : List ℕ) (x : ℕ) (h : (v :
       subst P (sym e) (subst Q (sym more) (
         λ k. (let f = (h v).0 k in (IsAmong-append_left v old (x ∷ []) f.0, f.1)),
         λ k. elim (IsAmong-push_cases x v old k.0) [
-        | inl a ↦ (h v).1 (a, k.1)
-        | inr same ↦ absurd (out (subst (Marked marks) (sym same) k.1))
+          | inl a ↦ (h v).1 (a, k.1)
+          | inr same ↦ absurd (out (subst (Marked marks) (sym same) k.1))
         ],
       ))

@@ -1,11 +1,11 @@
 -- Rows turned round, node by node.
-use Rattle.std.proofs.Common.{◌≡◌, ℕ, zero, suc, ◌+◌, ◌<◌, ◌≤◌, ◌⊎◌, ◌↔◌, inl, inr, List, [], ◌∷◌, ◌++◌, length, get_or, refl, ap, sym, ◌∙◌, subst, arith, set, length-set}
+use Rattle.std.proofs.Common.{◌≡◌, ℕ, zero, suc, ◌+◌, ◌<◌, ◌≤◌, inl, inr, List, [], ◌∷◌, ◌++◌, length, refl, ap, sym, ◌∙◌, subst, arith, set, length-set}
 use Rattle.std.proofs.lemmas.Bool.{cases_eq, cases_lt}
 use Rattle.std.specs.declared.vec.Vec.{Vec}
 use Rattle.std.specs.declared.alloc.Global.{Global}
 use Rattle.list_laws.specs.Members.{IsAmong}
-use Rattle.index_rows.specs.Rows.{row, times, AllBelow, AreRowsOf, AreTurned}
-use Rattle.index_rows.specs.RowLaws.{times-push_same, times-push_other, times-cons_same, times-cons_other, times-in, row-past, AllBelow-rows, AreTurned-among}
+use Rattle.index_rows.specs.Rows.{row, times, AllBelow, AreTurned}
+use Rattle.index_rows.specs.RowLaws.{times-push_same, times-push_other, times-cons_same, times-cons_other, row-past, AllBelow-rows, AreTurned-among}
 use Rattle.index_rows.specs.Spreads.{IsNoted}
 
 row-set_same : (rows : List (Vec ℕ Global)) (i : ℕ) (r : Vec ℕ Global) → i < length rows → row (set rows i r) i ≡ r.items
@@ -24,18 +24,18 @@ pub IsNoted-one : (old : List (Vec ℕ Global)) (at node : ℕ) (r : Vec ℕ Glo
 IsNoted-one old at node r lt e = record {
   units = length-set old at r;
   same = λ u v f. elim (cases_eq at u) [
-  | inl g ↦ (let P : ℕ → Type 0 = λ w. times v (row (set old at r) w) ≡ times v (row old w) + 1 in
-             let a : times v (row (set old at r) u) ≡ times v (row old u) + 1 = subst P g (ap (times v) (row-set_same old at r lt ∙ e) ∙ times-push_same v (row old at) node f) in
-             let b = times-cons_same u [] at g in
-             omega (arith, a, b))
-  | inr ne ↦ (let a : times v (row (set old at r) u) ≡ times v (row old u) = ap (times v) (row-set_other old at u r ne) in
-              let b = times-cons_other u [] at ne in
-              omega (arith, a, b))
+    | inl g ↦ (let P : ℕ → Type 0 = λ w. times v (row (set old at r) w) ≡ times v (row old w) + 1 in
+        let a : times v (row (set old at r) u) ≡ times v (row old u) + 1 = subst P g (ap (times v) (row-set_same old at r lt ∙ e) ∙ times-push_same v (row old at) node f) in
+        let b = times-cons_same u [] at g in
+        omega (arith, a, b))
+    | inr ne ↦ (let a : times v (row (set old at r) u) ≡ times v (row old u) = ap (times v) (row-set_other old at u r ne) in
+        let b = times-cons_other u [] at ne in
+        omega (arith, a, b))
   ];
   other = λ u v ne. elim (cases_eq at u) [
-  | inl g ↦ (let P : ℕ → Type 0 = λ w. times v (row (set old at r) w) ≡ times v (row old w) in
-             subst P g (ap (times v) (row-set_same old at r lt ∙ e) ∙ times-push_other v (row old at) node ne))
-  | inr d ↦ ap (times v) (row-set_other old at u r d)
+    | inl g ↦ (let P : ℕ → Type 0 = λ w. times v (row (set old at r) w) ≡ times v (row old w) in
+        subst P g (ap (times v) (row-set_same old at r lt ∙ e) ∙ times-push_other v (row old at) node ne))
+    | inr d ↦ ap (times v) (row-set_other old at u r d)
   ];
 }
 
@@ -49,8 +49,8 @@ IsNoted-more a b c d nodes more x node e f p q =
     subst P (sym e) (subst Q (sym f) (record {
       units = q.units ∙ p.units;
       same = λ u v g. (let h = p.same u v g in let k = q.same u v g in elim (cases_eq x u) [
-      | inl m ↦ (let l = times-push_same u nodes x m in let o = times-cons_same u [] x m in omega (arith, h, k, l, o))
-      | inr m ↦ (let l = times-push_other u nodes x m in let o = times-cons_other u [] x m in omega (arith, h, k, l, o))
+        | inl m ↦ (let l = times-push_same u nodes x m in let o = times-cons_same u [] x m in omega (arith, h, k, l, o))
+        | inr m ↦ (let l = times-push_other u nodes x m in let o = times-cons_other u [] x m in omega (arith, h, k, l, o))
       ]);
       other = λ u v ne. q.other u v ne ∙ p.other u v ne;
     }))
@@ -71,20 +71,20 @@ IsBegun-more rows others new i r e b n =
     record {
       units = m.units ∙ b.units;
       noted = λ u v l. elim (cases_eq i v) [
-      | inl g ↦ (let P : ℕ → Type 0 = λ w. times v (row new u) ≡ times u (row rows w) in
-                 let a = m.same u v g in
-                 let s = b.still u v (omega arith) in
-                 subst P g (omega (arith, a, s)))
-      | inr ne ↦ m.other u v ne ∙ b.noted u v (omega arith)
+        | inl g ↦ (let P : ℕ → Type 0 = λ w. times v (row new u) ≡ times u (row rows w) in
+            let a = m.same u v g in
+            let s = b.still u v (omega arith) in
+            subst P g (omega (arith, a, s)))
+        | inr ne ↦ m.other u v ne ∙ b.noted u v (omega arith)
       ];
       still = λ u v l. m.other u v (λ g. omega arith) ∙ b.still u v (omega arith);
     }
 
 pub IsBegun-all : (rows others : List (Vec ℕ Global)) (i : ℕ) → length rows ≤ i → IsBegun rows others i → AreTurned rows others
 IsBegun-all rows others i le b u v = elim (cases_lt v i) [
-    | inl l ↦ b.noted u v l
-    | inr l ↦ (let past : length rows ≤ v = omega arith in b.still u v l ∙ sym (ap (times u) (row-past rows v past)))
-    ]
+  | inl l ↦ b.noted u v l
+  | inr l ↦ (let past : length rows ≤ v = omega arith in b.still u v l ∙ sym (ap (times u) (row-past rows v past)))
+]
 
 -- rows with nothing in them, and one more such
 pub row-push_none : (rows : List (Vec ℕ Global)) (r : Vec ℕ Global) → r.items ≡ [] → ((u : ℕ) → row rows u ≡ []) → (u : ℕ) → row (rows ++ r ∷ []) u ≡ []
@@ -101,6 +101,6 @@ AreTurned-below rows others t = AllBelow-rows (length rows) others below
     below u v h = elim (cases_lt v (length rows)) [
       | inl l ↦ l
       | inr l ↦ (let gone : row rows v ≡ [] = row-past rows v (omega arith) in
-                 let P : List ℕ → Type 0 = λ r. IsAmong u r in
-                 absurd (subst P gone ((AreTurned-among rows others t u v).0 h)))
+          let P : List ℕ → Type 0 = λ r. IsAmong u r in
+          absurd (subst P gone ((AreTurned-among rows others t u v).0 h)))
     ]

@@ -1,8 +1,8 @@
 -- Nodes that are marked and noted one by one.
-use Rattle.std.proofs.Common.{◌≡◌, ℕ, ◌<◌, ◌+◌, ◌⊎◌, inl, inr, Bool, true, List, [], ◌∷◌, ◌++◌, length, set, refl, sym, ◌∙◌, subst, arith, length-set, length-append}
-use Rattle.list_laws.specs.Members.{IsAmong, IsAmong-append_cases, IsAmong-append_left, IsAmong-append_right}
+use Rattle.std.proofs.Common.{◌≡◌, ℕ, ◌<◌, ◌+◌, inl, inr, Bool, true, List, [], ◌∷◌, ◌++◌, length, set, refl, sym, ◌∙◌, subst, arith, length-set, length-append}
+use Rattle.list_laws.specs.Members.{IsAmong-append_left, IsAmong-append_right}
 use Rattle.index_rows.specs.Rows.{Marked}
-use Rattle.index_rows.specs.MarkLaws.{Marked-set, Marked-set_same, Marked-set_other, unset, unset-set}
+use Rattle.index_rows.specs.MarkLaws.{Marked-set, Marked-set_same, Marked-set_other, unset-set}
 use Rattle.index_rows.specs.ListLaws.{IsAmong-push_cases}
 use Rattle.index_rows.specs.Spreads.{IsSpread}
 
@@ -36,21 +36,21 @@ IsSpread-more s0 s t0 t nodes x lt fresh h = record {
   units = length-set s x true ∙ h.units;
   kept = λ v m. Marked-set_other s x v (h.kept v m);
   all = λ v k. elim (IsAmong-push_cases x v nodes k) [
-  | inl a ↦ Marked-set_other s x v (h.all v a)
-  | inr e ↦ subst (Marked (set s x true)) e (Marked-set_same s x lt)
+    | inl a ↦ Marked-set_other s x v (h.all v a)
+    | inr e ↦ subst (Marked (set s x true)) e (Marked-set_same s x lt)
   ];
   origin = λ v k. elim (Marked-set s x v lt k) [
-  | inl m ↦ elim (h.origin v m) [ inl a ↦ inl a | inr a ↦ inr (IsAmong-append_left v nodes (x ∷ []) a) ]
-  | inr e ↦ inr (IsAmong-append_right v nodes (x ∷ []) (inl e))
+    | inl m ↦ elim (h.origin v m) [ inl a ↦ inl a | inr a ↦ inr (IsAmong-append_left v nodes (x ∷ []) a) ]
+    | inr e ↦ inr (IsAmong-append_right v nodes (x ∷ []) (inl e))
   ];
   notes_kept = λ v k. IsAmong-append_left v t (x ∷ []) (h.notes_kept v k);
   noted = λ v k. elim (Marked-set s x v lt k) [
-  | inl m ↦ elim (h.noted v m) [ inl a ↦ inl a | inr a ↦ inr (IsAmong-append_left v t (x ∷ []) a) ]
-  | inr e ↦ inr (IsAmong-append_right v t (x ∷ []) (inl e))
+    | inl m ↦ elim (h.noted v m) [ inl a ↦ inl a | inr a ↦ inr (IsAmong-append_left v t (x ∷ []) a) ]
+    | inr e ↦ inr (IsAmong-append_right v t (x ∷ []) (inl e))
   ];
   notes_origin = λ v k. elim (IsAmong-push_cases x v t k) [
-  | inl m ↦ elim (h.notes_origin v m) [ inl a ↦ inl a | inr a ↦ inr (IsAmong-append_left v nodes (x ∷ []) a.0, a.1) ]
-  | inr e ↦ inr (IsAmong-append_right v nodes (x ∷ []) (inl e), λ m. fresh (subst (Marked s) (sym e) (h.kept v m)))
+    | inl m ↦ elim (h.notes_origin v m) [ inl a ↦ inl a | inr a ↦ inr (IsAmong-append_left v nodes (x ∷ []) a.0, a.1) ]
+    | inr e ↦ inr (IsAmong-append_right v nodes (x ∷ []) (inl e), λ m. fresh (subst (Marked s) (sym e) (h.kept v m)))
   ];
   sum = (let a = unset-set s x lt fresh in let b : length (t ++ x ∷ []) ≡ length t + 1 = length-append t (x ∷ []) in let d = h.sum in omega arith);
 }

@@ -1,11 +1,11 @@
 -- How far a closure has come.
-use Rattle.std.proofs.Common.{◌≡◌, ℕ, zero, suc, ◌+◌, ◌<◌, ◌⊎◌, ◌↔◌, inl, inr, Bool, false, List, [], ◌∷◌, ◌++◌, length, refl, sym, ◌∙◌, subst, arith, replicate}
+use Rattle.std.proofs.Common.{◌≡◌, ℕ, ◌⊎◌, ◌↔◌, inl, inr, Bool, false, List, [], ◌∷◌, ◌++◌, length, refl, ◌∙◌, subst, replicate}
 use Rattle.std.proofs.lemmas.List.{length-replicate}
 use Rattle.std.specs.declared.vec.Vec.{Vec}
 use Rattle.std.specs.declared.alloc.Global.{Global}
 use Rattle.list_laws.specs.Members.{IsAmong, IsAmong-append_left, IsAmong-append_right}
 use Rattle.name_closure.specs.Chains.{IsReached}
-use Rattle.name_closure.specs.ClosureLaws.{IsClosed, reached_closed, reached_least}
+use Rattle.name_closure.specs.ClosureLaws.{reached_closed, reached_least}
 use Rattle.name_closure.specs.ListedLaws.{Listed, Named}
 use Rattle.index_rows.specs.Rows.{Marked, row}
 use Rattle.index_rows.specs.MarkLaws.{Marked-none}
@@ -44,11 +44,11 @@ IsWork-step rows sources node seen new todo after w s =
       sound = λ v m. elim (s.origin v m) [ inl k ↦ w.sound v k | inr k ↦ (reached_closed (Listed sources) (Named (row rows))).stepped node v here k ];
       noted = λ v k. elim (s.notes_origin v k) [ inl a ↦ s.kept v (w.noted v (IsAmong-append_left v todo (node ∷ []) a)) | inr a ↦ s.all v a.0 ];
       closed = λ u m. elim (s.noted u m) [
-      | inl k ↦ elim (w.closed u k) [
-        | inl a ↦ elim (IsAmong-push_cases node u todo a) [ inl b ↦ inl (s.notes_kept u b) | inr e ↦ inr (subst P e s.all) ]
-        | inr a ↦ inr (λ v b. s.kept v (a v b))
+        | inl k ↦ elim (w.closed u k) [
+          | inl a ↦ elim (IsAmong-push_cases node u todo a) [ inl b ↦ inl (s.notes_kept u b) | inr e ↦ inr (subst P e s.all) ]
+          | inr a ↦ inr (λ v b. s.kept v (a v b))
         ]
-      | inr k ↦ inl k
+        | inr k ↦ inl k
       ];
       start = λ v k. s.kept v (w.start v k);
     }
@@ -57,8 +57,10 @@ pub IsWork-done : (rows : List (Vec ℕ Global)) (sources : List ℕ) (seen : Li
     → (v : ℕ) → Marked seen v ↔ IsReached (Listed sources) (Named (row rows)) v
 IsWork-done rows sources seen todo e w v =
     let P : List ℕ → Type 0 = λ l. IsWork rows sources seen l in
-    let z : IsWork rows sources seen [] = subst P e w in
-    (w.sound v, reached_least (Listed sources) (Named (row rows)) (Marked seen) (record {
-      started = w.start;
-      stepped = λ n m k l. elim (z.closed n k) [ inl none ↦ absurd none | inr all ↦ all m l ];
-    }) v)
+    let z : IsWork rows sources seen [] = subst P e w in (
+      w.sound v,
+      reached_least (Listed sources) (Named (row rows)) (Marked seen) (record {
+        started = w.start;
+        stepped = λ n m k l. elim (z.closed n k) [ inl none ↦ absurd none | inr all ↦ all m l ];
+      }) v,
+    )

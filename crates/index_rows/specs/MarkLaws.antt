@@ -1,5 +1,5 @@
 -- Marks that are set one by one.
-use Rattle.std.proofs.Common.{◌≡◌, ℕ, zero, suc, ◌<◌, ◌⊎◌, ◌↔◌, ◌+◌, inl, inr, Bool, true, false, List, [], ◌∷◌, length, get_or, refl, ap, sym, ◌∙◌, subst, arith, set, replicate}
+use Rattle.std.proofs.Common.{◌≡◌, ℕ, zero, suc, ◌<◌, ◌⊎◌, ◌+◌, inl, inr, Bool, true, false, List, [], ◌∷◌, length, get_or, refl, ap, arith, set, replicate}
 use Rattle.std.proofs.lemmas.List.{get_or_default}
 use Rattle.index_rows.specs.Rows.{Marked}
 

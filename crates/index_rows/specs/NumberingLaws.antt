@@ -1,17 +1,16 @@
 -- What is reached, closures and distances are carried from numbers to names.
-use Rattle.std.proofs.Common.{◌≡◌, ℕ, zero, suc, ◌<◌, ◌≤◌, ◌⊎◌, ◌↔◌, inl, inr, List, [], ◌∷◌, map, refl, ap, sym, ◌∙◌, subst, arith}
-use Rattle.std.specs.List.{AllByRecursion, All}
+use Rattle.std.proofs.Common.{◌≡◌, ℕ, zero, suc, ◌<◌, ◌⊎◌, ◌↔◌, inl, inr, List, [], ◌∷◌, map, refl, ap, sym, ◌∙◌, subst, arith}
+use Rattle.std.specs.List.{AllByRecursion}
 use Rattle.std.specs.List.Sorted.{IsStrictlySortedBy}
 use Rattle.std.specs.Cmp.{IsTotalOrder, nat_cmp_is}
-use Rattle.std.specs.FinMap.{IsAntisymmetric}
-use Rattle.std.specs.Ordering.{nat_cmp, ordering_then, MatchOrdering}
+use Rattle.std.specs.Ordering.{nat_cmp}
 use Rattle.std.specs.declared.cmp.Ordering.{Ordering}
 use Rattle.std.specs.declared.cmp.Ordering.TheVariants.{Less, Equal, Greater}
 use Rattle.std.proofs.lemmas.Cmp.{tied_itself, ranked}
 use Rattle.list_laws.specs.Members.{IsAmong}
 use Rattle.list_laws.specs.Orderings.{turned}
-use Rattle.name_closure.specs.Chains.{IsChain, IsReached, IsDistance, IsClosure, IsDistances, distance_cmp}
-use Rattle.name_closure.specs.ListedLaws.{Listed, Named}
+use Rattle.name_closure.specs.Chains.{IsChain, IsReached, IsClosure}
+use Rattle.name_closure.specs.ListedLaws.{Listed}
 use Rattle.index_rows.specs.Numbering.{IsNumbering, AreNames, AreNamedSteps}
 
 -- the members of a mapped list are those of the list, mapped
@@ -30,9 +29,9 @@ three_ways zero zero = inr (inr refl)
 three_ways zero (suc j) = inl (omega arith)
 three_ways (suc i) zero = inr (inl (omega arith))
 three_ways (suc i) (suc j) = elim (three_ways i j) [
-    | inl l ↦ inl (omega arith)
-    | inr r ↦ elim r [ inl l ↦ inr (inl (omega arith)) | inr e ↦ inr (inr (ap suc e)) ]
-    ]
+  | inl l ↦ inl (omega arith)
+  | inr r ↦ elim r [ inl l ↦ inr (inl (omega arith)) | inr e ↦ inr (inr (ap suc e)) ]
+]
 
 module _ {N : Type 0} (count : ℕ) (name : ℕ → N) (order : N → N → Ordering) (total : IsTotalOrder order) (n : IsNumbering count name order) where
   -- names compare as their numbers do
@@ -42,7 +41,7 @@ module _ {N : Type 0} (count : ℕ) (name : ℕ → N) (order : N → N → Orde
     | inr r ↦ elim r [
       | inl l ↦ turned order total (name j) (name i) Less (n.rises j i l a) ∙ nat_cmp_is i j Greater l
       | inr e ↦ ap (λ k. order (name i) (name k)) (sym e) ∙ tied_itself total (name i) ∙ nat_cmp_is i j Equal e
-      ]
+    ]
   ]
 
   -- two numbers with one name are one

@@ -1,5 +1,5 @@
 -- Rows, what stands in them, and rows turned round.
-use Rattle.std.proofs.Common.{◌≡◌, ℕ, zero, suc, ◌+◌, ◌<◌, ◌≤◌, ◌⊎◌, ◌↔◌, inl, inr, Bool, true, false, cond, eqb, List, [], ◌∷◌, ◌++◌, length, get_or, take, refl, ap, sym, ◌∙◌, subst, arith}
+use Rattle.std.proofs.Common.{◌≡◌, ℕ, zero, suc, ◌+◌, ◌<◌, ◌≤◌, ◌⊎◌, ◌↔◌, inl, inr, Bool, true, false, cond, eqb, List, [], ◌∷◌, ◌++◌, length, get_or, take, refl, ap, sym, ◌∙◌, arith}
 use Rattle.std.specs.List.{All}
 use Rattle.std.specs.declared.vec.Vec.{Vec}
 use Rattle.std.specs.declared.alloc.Global.{Global}
@@ -60,17 +60,17 @@ pub times_cases : (v : ℕ) (xs : List ℕ) → (times v xs ≡ 0) ⊎ IsAmong v
 times_cases v [] = inl refl
 times_cases v (x ∷ xs) =
     elim (cases_eq x v) [
-    | inl e ↦ inr (inl e)
-    | inr ne ↦ elim (times_cases v xs) [ inl z ↦ inl (times-cons_other v xs x ne ∙ z) | inr h ↦ inr (inr h) ]
+      | inl e ↦ inr (inl e)
+      | inr ne ↦ elim (times_cases v xs) [ inl z ↦ inl (times-cons_other v xs x ne ∙ z) | inr h ↦ inr (inr h) ]
     ]
 
 pub times-in : (v : ℕ) (xs : List ℕ) → IsAmong v xs → 0 < times v xs
 times-in v [] h = absurd h
 times-in v (x ∷ xs) (inl e) = let a = times-cons_same v xs x e in omega (arith, a)
 times-in v (x ∷ xs) (inr h) = elim (cases_eq x v) [
-    | inl e ↦ (let a = times-cons_same v xs x e in omega (arith, a))
-    | inr ne ↦ (let a = times-cons_other v xs x ne in let b : 0 < times v xs = times-in v xs h in omega (arith, a))
-    ]
+  | inl e ↦ (let a = times-cons_same v xs x e in omega (arith, a))
+  | inr ne ↦ (let a = times-cons_other v xs x ne in let b : 0 < times v xs = times-in v xs h in omega (arith, a))
+]
 
 lt_at : (b : Bool) (s t : ℕ) → s < t → cond b (suc s) s < cond b (suc t) t
 lt_at true s t l = omega arith
@@ -104,4 +104,3 @@ pub AllBelow-rows : (n : ℕ) (rows : List (Vec ℕ Global)) → ((u v : ℕ) �
 AllBelow-rows n [] h k d lt = absurd (omega arith)
 AllBelow-rows n (r ∷ rs) h zero d lt = λ i e l. h zero (get_or r.items i e) (among_from_contains _ r.items (Contains-get_or r.items i e l))
 AllBelow-rows n (r ∷ rs) h (suc k) d lt = AllBelow-rows n rs (λ u. h (suc u)) k d (omega arith)
-

@@ -11,7 +11,11 @@ use crate::rows::row;
 use std::alloc::{AllocError, Global};
 
 /// Marks at the nodes that are reached from the sources. O(n), the sources and the steps from what is reached.
-pub fn reached(alloc: Global, rows: &[Vec<usize>], sources: &[usize]) -> Result<Vec<bool>, AllocError>
+pub fn reached(
+    alloc: Global,
+    rows: &[Vec<usize>],
+    sources: &[usize],
+) -> Result<Vec<bool>, AllocError>
     requires rows { AllBelow (length rows.now) rows.now }
     requires sources { All (λ v. v < length rows.now) sources.now }
     ensures units { IfOk result (λ marks. length marks.items ≡ length rows.now) }
@@ -28,7 +32,11 @@ pub fn reached(alloc: Global, rows: &[Vec<usize>], sources: &[usize]) -> Result<
 }
 
 /// The nodes that are reached from the sources, rising. O(n), the sources and the steps from what is reached.
-pub fn closure(alloc: Global, rows: &[Vec<usize>], sources: &[usize]) -> Result<Vec<usize>, AllocError>
+pub fn closure(
+    alloc: Global,
+    rows: &[Vec<usize>],
+    sources: &[usize],
+) -> Result<Vec<usize>, AllocError>
     requires rows { AllBelow (length rows.now) rows.now }
     requires sources { All (λ v. v < length rows.now) sources.now }
     ensures { IfOk result (λ nodes. IsClosure (Listed sources.now) (Named (row_of rows.now)) nat_cmp nodes.items) }

@@ -8,7 +8,13 @@ use name_closure::{NodeSet, StepSet};
 
 /// Where nodes are numbered in the order of their names, the names of what is reached by numbers
 /// are what is reached by names, and the names of a closure are the closure of names.
-pub fn closures_by_name<N: Ord, S: NodeSet<usize>, T: NodeSet<N>, E: StepSet<usize>, F: StepSet<N>>()
+pub fn closures_by_name<
+    N: Ord,
+    S: NodeSet<usize>,
+    T: NodeSet<N>,
+    E: StepSet<usize>,
+    F: StepSet<N>,
+>()
     ensures reached { (count : ℕ) (name : ℕ → N) → AreNames count name S.holds T.holds
         → AreNamedSteps count name E.leads F.leads
         → AreNames count name (IsReached S.holds E.leads) (IsReached T.holds F.leads) }

@@ -82,11 +82,19 @@ pub fn least_marked(nodes: &[usize], marks: &[bool]) -> Option<usize>
             least = *node;
         }
     }
-    if least < marks.len() { Some(least) } else { None }
+    if least < marks.len() {
+        Some(least)
+    } else {
+        None
+    }
 }
 
 // Marks the nodes, and notes those that weren't marked.
-pub fn spread(seen: &mut Vec<bool>, noted: &mut Vec<usize>, nodes: &[usize]) -> Result<(), AllocError>
+pub fn spread(
+    seen: &mut Vec<bool>,
+    noted: &mut Vec<usize>,
+    nodes: &[usize],
+) -> Result<(), AllocError>
     requires { All (λ v. v < length seen.old.items) nodes.now }
     ensures { OnOk result (IsSpread seen.old.items seen.new.items noted.old.items noted.new.items nodes.now) }
 {

@@ -63,7 +63,11 @@ pub fn turned(alloc: Global, rows: &[Vec<usize>]) -> Result<Vec<Vec<usize>>, All
 }
 
 /// Rows with the steps of both. O(n) and the steps.
-pub fn joined(alloc: Global, first: &[Vec<usize>], second: &[Vec<usize>]) -> Result<Vec<Vec<usize>>, AllocError>
+pub fn joined(
+    alloc: Global,
+    first: &[Vec<usize>],
+    second: &[Vec<usize>],
+) -> Result<Vec<Vec<usize>>, AllocError>
     requires first { AreRowsOf (length first.now) first.now }
     requires second { AreRowsOf (length first.now) second.now }
     ensures steps { IfOk result (λ rows. (u v : ℕ) → IsAmong v (row_of rows.items u)
@@ -94,7 +98,11 @@ fn kept_nodes(alloc: Global, nodes: &[usize], marks: &[bool]) -> Result<Vec<usiz
 }
 
 /// Rows with those steps alone that lead to marked nodes. O(n) and the steps.
-pub fn kept(alloc: Global, rows: &[Vec<usize>], marks: &[bool]) -> Result<Vec<Vec<usize>>, AllocError>
+pub fn kept(
+    alloc: Global,
+    rows: &[Vec<usize>],
+    marks: &[bool],
+) -> Result<Vec<Vec<usize>>, AllocError>
     requires { AreRowsOf (length marks.now) rows.now }
     ensures steps { IfOk result (λ kept. (u v : ℕ) → IsAmong v (row_of kept.items u)
         ↔ (IsAmong v (row_of rows.now u) × Marked marks.now v)) }

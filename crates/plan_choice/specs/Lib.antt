@@ -8,3 +8,5 @@ pub mod RowRefusals
 pub mod Marking
 pub mod Soundness
 pub mod Losing
+pub mod NamedCases
+pub mod NamedPlans

@@ -1,7 +1,10 @@
 //! Laws of plans, for all units: each the contract of a function that does nothing.
-ghost use Rattle.std.specs.Prelude.{◌≡◌, ◌≤◌, List};
+ghost use Rattle.std.specs.Prelude.{◌≡◌, ◌≤◌, ℕ, List, map};
+ghost use Rattle.std.specs.Ordering.{nat_cmp};
 ghost use Rattle.std.specs.FinMap.{IsAntisymmetric};
+ghost use Rattle.index_rows.specs.Numbering.{IsNumbering};
 ghost use Rattle.plan_choice.specs.Case.{Case};
+ghost use Rattle.plan_choice.specs.NamedCases.{IsNamedCase, named_refusal};
 ghost use Rattle.plan_choice.specs.SetLaws.{SparesItself};
 ghost use Rattle.plan_choice.specs.Answers.{Refusal, rank, Stands, IsRefusal, IsPlan};
 ghost use Rattle.plan_choice.specs.AnswerLaws.{KeepsPromises};
@@ -24,4 +27,15 @@ pub fn plans_are_one<N: Ord>()
 pub fn plans_keep_promises<N: Ord>()
     ensures { IsAntisymmetric N.cmp → (c : Case N) (stops starts : List N) → SparesItself c
         → IsPlan N.cmp c stops starts → KeepsPromises N.cmp c starts }
+{}
+
+/// Where units are numbered in the order of their names, the names of a plan of numbers are a plan of
+/// names, and its refusals are those of names.
+pub fn plans_by_name<N: Ord>()
+    ensures plan { (count : ℕ) (name : ℕ → N) → IsNumbering count name N.cmp → (c : Case ℕ) (d : Case N)
+        → IsNamedCase count name c d → (stops starts : List ℕ) → IsPlan nat_cmp c stops starts
+        → IsPlan N.cmp d (map name stops) (map name starts) }
+    ensures refusal { (count : ℕ) (name : ℕ → N) → IsNumbering count name N.cmp → (c : Case ℕ) (d : Case N)
+        → IsNamedCase count name c d → (r : Refusal ℕ) → IsRefusal nat_cmp c r
+        → IsRefusal N.cmp d (named_refusal name r) }
 {}

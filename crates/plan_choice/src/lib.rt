@@ -16,5 +16,5 @@ mod wishes;
 
 pub use answers::{RowPlan, RowRefusal};
 pub use cases::PlanRows;
-pub use laws::{plans_are_one, plans_keep_promises};
+pub use laws::{plans_are_one, plans_by_name, plans_keep_promises};
 pub use plans::plan_rows;

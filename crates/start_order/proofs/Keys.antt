@@ -1,7 +1,7 @@
 -- Keys that are put in and taken out.
 use Rattle.std.proofs.Common.{◌≡◌, ℕ, ◌<◌, ◌≤◌, ◌⊎◌, inl, inr, List, [], ◌∷◌, length, refl, sym, ◌∙◌, subst, arith, ◌↔◌, Option, Some, None}
 use Rattle.std.specs.List.{All}
-use Rattle.std.specs.BTreeSet.{BTreeSet, contains, insert_key}
+use Rattle.std.specs.BTreeSet.{insert_key}
 use Rattle.std.specs.BTreeMap.Range.{IsLtBy}
 use Rattle.std.specs.Ordering.{nat_cmp, match_ordering, MatchOrdering}
 use Rattle.std.specs.Option.{IfSome, IfNone, IsSome, MatchOption}
@@ -9,7 +9,7 @@ use Rattle.std.specs.declared.cmp.Ordering.{Ordering}
 use Rattle.std.specs.declared.cmp.Ordering.TheVariants.{Less, Equal, Greater}
 use Rattle.std.proofs.lemmas.Cmp.{ranked}
 use Rattle.list_laws.specs.Members.{IsAmong}
-use Rattle.index_rows.specs.ListLaws.{All-among, cmp_below, empty_list}
+use Rattle.index_rows.specs.ListLaws.{All-among, cmp_below}
 
 put_at : (x k v : ℕ) (xs ys : List ℕ) (o : Ordering) → MatchOrdering o (k < x) (k ≡ x) (x < k) → (IsAmong v ys ↔ (IsAmong v xs ⊎ (k ≡ v)))
     → IsAmong v (match_ordering o (k ∷ x ∷ xs) (x ∷ xs) (x ∷ ys)) ↔ (IsAmong v (x ∷ xs) ⊎ (k ≡ v))
@@ -33,9 +33,10 @@ taken k old new e above =
 
 left : (k : ℕ) (old new : List ℕ) → old ≡ k ∷ new → All (IsLtBy nat_cmp k) new → (v : ℕ) → IsAmong v new ↔ (IsAmong v old × ¬ (k ≡ v))
 left k old new e above v =
-    let P : List ℕ → Type 0 = λ l. IsAmong v l in
-    (λ h. (let lt : k < v = cmp_below k v (All-among (IsLtBy nat_cmp k) new v above h) in (subst P (sym e) (inr h), λ f. omega arith)),
-     λ h. elim (subst P e h.0) [ inl f ↦ absurd (h.1 f) | inr n ↦ n ])
+    let P : List ℕ → Type 0 = λ l. IsAmong v l in (
+      λ h. (let lt : k < v = cmp_below k v (All-among (IsLtBy nat_cmp k) new v above h) in (subst P (sym e) (inr h), λ f. omega arith)),
+      λ h. elim (subst P e h.0) [ inl f ↦ absurd (h.1 f) | inr n ↦ n ],
+    )
 
 none_in : (xs : List ℕ) → length xs ≡ 0 → (v : ℕ) → ¬ IsAmong v xs
 none_in [] e v h = h

@@ -1,14 +1,13 @@
 -- What a start list leaves over is what is stuck.
-use Rattle.std.proofs.Common.{◌≡◌, ℕ, zero, suc, ◌<◌, ◌⊎◌, ◌↔◌, inl, inr, Bool, true, false, List, [], ◌∷◌, map, get_or, refl, ap, sym, ◌∙◌, subst}
+use Rattle.std.proofs.Common.{◌≡◌, ℕ, zero, suc, ◌⊎◌, ◌↔◌, inl, inr, Bool, true, false, List, [], ◌∷◌, map, refl, sym, subst}
 use Rattle.std.specs.Ordering.{nat_cmp}
 use Rattle.std.specs.declared.vec.Vec.{Vec}
 use Rattle.std.specs.declared.alloc.Global.{Global}
 use Rattle.list_laws.specs.Members.{IsAmong}
-use Rattle.name_closure.specs.ListedLaws.{Listed}
 use Rattle.index_rows.specs.Rows.{Marked, row}
 use Rattle.index_rows.specs.MarkLaws.{marked_or_not}
 use Rattle.index_rows.specs.NumberingLaws.{among_mapped, mapped_from}
-use Rattle.start_order.specs.StartOrder.{CanStart, IsStartList, IsKnot, IsStuck}
+use Rattle.start_order.specs.StartOrder.{IsStartList, IsStuck}
 use Rattle.start_order.specs.Precedes.{Precedes}
 use Rattle.start_order.specs.OrderLaws.{stuck_out, stuck_chosen}
 
@@ -35,20 +34,20 @@ marked-nodes_of (false ∷ marks) (suc v) m = among_mapped suc v (nodes_of marks
 
 here : (chosen standing : List Bool) (x : ℕ) → (Marked chosen x × ¬ Marked standing x) ⊎ (Marked chosen x → Marked standing x)
 here chosen standing x = elim (marked_or_not standing x) [
-    | inl s ↦ inr (λ m. s)
-    | inr out ↦ elim (marked_or_not chosen x) [ inl m ↦ inl (m, out) | inr none ↦ inr (λ m. absurd (none m)) ]
-    ]
+  | inl s ↦ inr (λ m. s)
+  | inr out ↦ elim (marked_or_not chosen x) [ inl m ↦ inl (m, out) | inr none ↦ inr (λ m. absurd (none m)) ]
+]
 
 -- what blocks a node: if not each marked one of a row stands, one doesn't
 waits_for : (chosen standing : List Bool) (xs : List ℕ) → ¬ ((v : ℕ) → Marked chosen v → IsAmong v xs → Marked standing v) → (v : ℕ) × (Marked chosen v × IsAmong v xs × ¬ Marked standing v)
 waits_for chosen standing [] h = absurd (h (λ v m k. absurd k))
 waits_for chosen standing (x ∷ xs) h = elim (here chosen standing x) [
-    | inl b ↦ (x, (b.0, inl refl, b.1))
-    | inr ok ↦
+  | inl b ↦ (x, (b.0, inl refl, b.1))
+  | inr ok ↦
       (let P : ℕ → Type 0 = λ w. Marked chosen w → Marked standing w in
-       let rest = waits_for chosen standing xs (λ all. h (λ v m k. elim k [ inl e ↦ subst P e ok m | inr t ↦ all v m t ])) in
-       (rest.0, (rest.1.0, inr rest.1.1, rest.1.2)))
-    ]
+      let rest = waits_for chosen standing xs (λ all. h (λ v m k. elim k [ inl e ↦ subst P e ok m | inr t ↦ all v m t ])) in
+      (rest.0, (rest.1.0, inr rest.1.1, rest.1.2)))
+]
 
 -- `left` are the chosen nodes that a start list leaves over
 pub record IsLeft (chosen standing left : List Bool) (rows : List (Vec ℕ Global)) (list : List ℕ) : Type 0 where
@@ -61,11 +60,11 @@ module _ (chosen standing left : List Bool) (rows : List (Vec ℕ Global)) (list
   left_blocked u m =
       let mine = (h.marks u).0 m in
       let b = waits_for chosen standing (row rows u)
-        (λ all. h.starts.whole u (record {
-          is_chosen = mine.0;
-          waiting = λ k. mine.1 ((h.agree u).1 k);
-          ready = λ v c k. (h.agree v).0 (all v c k);
-        })) in
+      (λ all. h.starts.whole u (record {
+        is_chosen = mine.0;
+        waiting = λ k. mine.1 ((h.agree u).1 k);
+        ready = λ v c k. (h.agree v).0 (all v c k);
+      })) in
       (b.0, ((h.marks b.0).1 (b.1.0, b.1.2), b.1.1))
 
   pub left_stuck : (u : ℕ) → Marked left u → IsStuck (Marked chosen) (Precedes rows) u

@@ -1,9 +1,7 @@
 -- The walk from the least stuck node, and the ring to which it comes.
-use Rattle.std.proofs.Common.{◌≡◌, ℕ, zero, suc, ◌+◌, ◌<◌, ◌≤◌, ◌⊎◌, ◌↔◌, inl, inr, Bool, true, false, List, [], ◌∷◌, ◌++◌, length, get_or, take, drop, reverse, set, refl, ap, sym, ◌∙◌, subst, arith, append-nil, append_assoc}
+use Rattle.std.proofs.Common.{◌≡◌, ℕ, ◌+◌, ◌<◌, ◌≤◌, ◌↔◌, inl, inr, Bool, true, List, [], ◌∷◌, ◌++◌, length, get_or, take, drop, reverse, set, refl, ap, sym, ◌∙◌, subst, arith, append-nil, append_assoc}
 use Rattle.std.specs.Ordering.{nat_cmp}
-use Rattle.std.specs.declared.cmp.Ordering.TheVariants.{Less}
 use Rattle.std.proofs.lemmas.List.{reverse-append, take-append-drop, drop_more, get_or_default}
-use Rattle.std.proofs.lemmas.Bool.{cases_lt}
 use Rattle.list_laws.specs.Members.{IsAmong, IsAmong-append_cases, IsAmong-append_left, IsAmong-append_right, contains_from_among}
 use Rattle.name_closure.specs.Chains.{IsReached}
 use Rattle.name_closure.specs.ClosureLaws.{reached_closed}
@@ -11,19 +9,19 @@ use Rattle.index_rows.specs.Rows.{Marked}
 use Rattle.index_rows.specs.MarkLaws.{Marked-set, Marked-set_same, Marked-set_other}
 use Rattle.index_rows.specs.ListLaws.{IsAmong-push, IsAmong-push_cases, below_cmp}
 use Rattle.index_rows.specs.Least.{IsLeast}
-use Rattle.start_order.specs.StartOrder.{IsBlocker, IsBlockedAlong, IsRing, IsCycle}
+use Rattle.start_order.specs.StartOrder.{IsBlocker, IsBlockedAlong, IsCycle}
 use Rattle.start_order.specs.Walks.{AreDistinct, LeadsBack, LeadsTo, IsWalk}
 
 -- marks that agree with a list still do after one more of both
 pub agree_push : (marks : List Bool) (list : List ℕ) (u : ℕ) → u < length marks → ((v : ℕ) → Marked marks v ↔ IsAmong v list) → (v : ℕ) → Marked (set marks u true) v ↔ IsAmong v (list ++ u ∷ [])
 agree_push marks list u lt h v = (
   λ m. elim (Marked-set marks u v lt m) [
-  | inl k ↦ IsAmong-append_left v list (u ∷ []) ((h v).0 k)
-  | inr e ↦ (let P : ℕ → Type 0 = λ w. IsAmong w (list ++ u ∷ []) in subst P e (IsAmong-push u list))
+    | inl k ↦ IsAmong-append_left v list (u ∷ []) ((h v).0 k)
+    | inr e ↦ (let P : ℕ → Type 0 = λ w. IsAmong w (list ++ u ∷ []) in subst P e (IsAmong-push u list))
   ],
   λ k. elim (IsAmong-push_cases u v list k) [
-  | inl a ↦ Marked-set_other marks u v ((h v).1 a)
-  | inr e ↦ (let P : ℕ → Type 0 = λ w. Marked (set marks u true) w in subst P e (Marked-set_same marks u lt))
+    | inl a ↦ Marked-set_other marks u v ((h v).1 a)
+    | inr e ↦ (let P : ℕ → Type 0 = λ w. Marked (set marks u true) w in subst P e (Marked-set_same marks u lt))
   ],
 )
 
@@ -83,8 +81,8 @@ module _ (stuck : ℕ → Type 0) (before : ℕ → ℕ → Type 0) where
     led = leads_to_more met next z w.led l;
     distinct = distinct_push met next w.distinct out;
     reached = λ t h. elim h [
-    | inl a ↦ w.reached t (IsAmong-push_cases next t met a)
-    | inr e ↦ subst Met e ((reached_closed (IsLeast nat_cmp stuck) (λ u v. IsBlocker nat_cmp stuck before v u)).stepped next z (w.reached next (inr refl)) l)
+      | inl a ↦ w.reached t (IsAmong-push_cases next t met a)
+      | inr e ↦ subst Met e ((reached_closed (IsLeast nat_cmp stuck) (λ u v. IsBlocker nat_cmp stuck before v u)).stepped next z (w.reached next (inr refl)) l)
     ];
   }
 

@@ -1,10 +1,10 @@
 -- How far the start list has come.
-use Rattle.std.proofs.Common.{◌≡◌, ℕ, zero, suc, ◌+◌, ◌<◌, ◌≤◌, ◌⊎◌, inl, inr, Bool, true, false, List, [], ◌∷◌, ◌++◌, length, get_or, refl, ap, sym, ◌∙◌, subst, arith, ◌↔◌, set, replicate, length-set}
+use Rattle.std.proofs.Common.{◌≡◌, ℕ, ◌<◌, ◌≤◌, ◌⊎◌, inl, inr, Bool, true, false, List, [], ◌∷◌, ◌++◌, length, get_or, refl, ap, sym, ◌∙◌, subst, arith, ◌↔◌, set, replicate, length-set}
 use Rattle.std.specs.Ordering.{nat_cmp}
 use Rattle.std.proofs.lemmas.List.{length-replicate}
 use Rattle.std.specs.declared.vec.Vec.{Vec}
 use Rattle.std.specs.declared.alloc.Global.{Global}
-use Rattle.list_laws.specs.Members.{IsAmong, IsAmong-append_left}
+use Rattle.list_laws.specs.Members.{IsAmong}
 use Rattle.name_closure.specs.ListedLaws.{Listed}
 use Rattle.index_rows.specs.Rows.{Marked, row, times}
 use Rattle.index_rows.specs.MarkLaws.{Marked-within, Marked-none, Marked-set, Marked-set_same, Marked-set_other}
@@ -14,7 +14,7 @@ use Rattle.index_rows.specs.Least.{IsLeast}
 use Rattle.start_order.specs.StartOrder.{CanStart, IsStartList}
 use Rattle.start_order.specs.Precedes.{Precedes}
 use Rattle.start_order.specs.Counts.{waiting, IsLowered}
-use Rattle.start_order.specs.OrderLaws.{can_start_along, least_along}
+use Rattle.start_order.specs.OrderLaws.{can_start_along}
 use Rattle.start_order.proofs.Waiting.{waiting-set, waiting-ready, waiting-none, counted_all}
 use Rattle.start_order.proofs.Rings.{agree_push}
 
@@ -35,8 +35,8 @@ pushed_cut (y ∷ ys) x (z ∷ front) u rest e =
     record {
       old = r.old;
       here = elim r.here [
-      | inl h ↦ inl (ap (λ w. w ∷ front) (sym heads) ∙ ap (λ l. y ∷ l) h.0, h.1)
-      | inr h ↦ inr (ap (λ w. w ∷ ys) heads ∙ ap (λ l. z ∷ l) h)
+        | inl h ↦ inl (ap (λ w. w ∷ front) (sym heads) ∙ ap (λ l. y ∷ l) h.0, h.1)
+        | inr h ↦ inr (ap (λ w. w ∷ ys) heads ∙ ap (λ l. z ∷ l) h)
       ];
     }
 
@@ -53,10 +53,10 @@ module _ (chosen : ℕ → Type 0) (before : ℕ → ℕ → Type 0) where
   in_order_push list x p l front u rest e =
       let r = pushed_cut list x front u rest e in
       elim r.here [
-      | inl h ↦ (let F : List ℕ → Type 0 = λ f. IsLeast nat_cmp (CanStart chosen before (Listed f)) x in
-                 let U : ℕ → Type 0 = λ v. IsLeast nat_cmp (CanStart chosen before (Listed front)) v in
-                 subst U (sym h.1) (subst F (sym h.0) l))
-      | inr h ↦ p front u r.old h
+        | inl h ↦ (let F : List ℕ → Type 0 = λ f. IsLeast nat_cmp (CanStart chosen before (Listed f)) x in
+            let U : ℕ → Type 0 = λ v. IsLeast nat_cmp (CanStart chosen before (Listed front)) v in
+            subst U (sym h.1) (subst F (sym h.0) l))
+        | inr h ↦ p front u r.old h
       ]
 
 pub record IsState (chosen : List Bool) (before : List (Vec ℕ Global)) (standing : List Bool) (counts list keys : List ℕ) : Type 0 where
@@ -159,23 +159,25 @@ module _ (chosen : List Bool) (before : List (Vec ℕ Global)) (standing : List 
     to : (v : ℕ) → IsAmong v later → Marked chosen v × ¬ Marked (set standing u true) v × (get_or new v 0 ≡ 0)
     to v k = elim ((lowered.keys v).0 k) [
       | inl a ↦ (let b = (rest v).0 a in
-                 let f = (st.free v).0 b.0 in
-                 (f.0, (λ m. elim (Marked-set standing u v inside m) [ inl n ↦ f.1 n | inr e ↦ b.1 e ]), falls v f.2))
-      | inr a ↦ (a.0,
-                 (λ m. elim (Marked-set standing u v inside m) [
-                   | inl n ↦ waited v a.1 (st.settled v n)
-                   | inr e ↦ (let P : ℕ → Type 0 = λ w. get_or counts w 0 ≡ 0 in waited v a.1 (subst P e zero_here))
-                 ]),
-                 a.2)
+          let f = (st.free v).0 b.0 in
+          (f.0, (λ m. elim (Marked-set standing u v inside m) [ inl n ↦ f.1 n | inr e ↦ b.1 e ]), falls v f.2))
+      | inr a ↦ (
+        a.0,
+        (λ m. elim (Marked-set standing u v inside m) [
+          | inl n ↦ waited v a.1 (st.settled v n)
+          | inr e ↦ (let P : ℕ → Type 0 = λ w. get_or counts w 0 ≡ 0 in waited v a.1 (subst P e zero_here))
+        ]),
+        a.2,
+      )
     ]
 
     from : (v : ℕ) → Marked chosen v × ¬ Marked (set standing u true) v × (get_or new v 0 ≡ 0) → IsAmong v later
     from v k = elim (times_cases v row_after) [
       | inl z ↦ (let a = lowered.counts v in
-                 let b : get_or new v 0 ≡ 0 = k.2 in
-                 let old : get_or counts v 0 ≡ 0 = omega (arith, a, b, z) in
-                 let P : ℕ → Type 0 = λ w. Marked (set standing u true) w in
-                 (lowered.keys v).1 (inl ((rest v).1 ((st.free v).1 (k.0, (λ m. k.1 (Marked-set_other standing u v m)), old), (λ e. k.1 (subst P e (Marked-set_same standing u inside)))))))
+          let b : get_or new v 0 ≡ 0 = k.2 in
+          let old : get_or counts v 0 ≡ 0 = omega (arith, a, b, z) in
+          let P : ℕ → Type 0 = λ w. Marked (set standing u true) w in
+          (lowered.keys v).1 (inl ((rest v).1 ((st.free v).1 (k.0, (λ m. k.1 (Marked-set_other standing u v m)), old), (λ e. k.1 (subst P e (Marked-set_same standing u inside)))))))
       | inr c ↦ (lowered.keys v).1 (inr (k.0, c, k.2))
     ]
 
@@ -186,10 +188,10 @@ module _ (chosen : List Bool) (before : List (Vec ℕ Global)) (standing : List 
       agree = agree_push standing list u inside st.agree;
       in_order = in_order_push (Marked chosen) (Precedes before) list u st.in_order next;
       counted = λ v. (let a = lowered.counts v in
-                      let b = st.counted v in
-                      let d = turned v in
-                      let e = waiting-set chosen standing u inside mine (unmarked_of u h) (row before v) in
-                      omega (arith, a, b, d, e));
+          let b = st.counted v in
+          let d = turned v in
+          let e = waiting-set chosen standing u inside mine (unmarked_of u h) (row before v) in
+          omega (arith, a, b, d, e));
       settled = λ v m. elim (Marked-set standing u v inside m) [
         | inl n ↦ falls v (st.settled v n)
         | inr e ↦ (let P : ℕ → Type 0 = λ w. get_or counts w 0 ≡ 0 in falls v (subst P e zero_here))

@@ -1,16 +1,16 @@
 -- Start lists, what is stuck and cycles are carried from numbers to names, and back.
-use Rattle.std.proofs.Common.{◌≡◌, ℕ, zero, suc, ◌<◌, ◌⊎◌, ◌↔◌, inl, inr, List, [], ◌∷◌, ◌++◌, map, refl, ap, sym, ◌∙◌, subst}
+use Rattle.std.proofs.Common.{◌≡◌, ℕ, ◌<◌, inl, inr, List, [], ◌∷◌, ◌++◌, map, refl, ap, sym, ◌∙◌, subst}
 use Rattle.std.specs.Cmp.{IsTotalOrder}
 use Rattle.std.specs.Ordering.{nat_cmp}
 use Rattle.std.specs.declared.cmp.Ordering.{Ordering}
 use Rattle.std.specs.declared.cmp.Ordering.TheVariants.{Less}
-use Rattle.list_laws.specs.Members.{IsAmong, IsAmong-append_left, IsAmong-append_right}
+use Rattle.list_laws.specs.Members.{IsAmong, IsAmong-append_left}
 use Rattle.name_closure.specs.Chains.{IsReached}
 use Rattle.name_closure.specs.ListedLaws.{Listed}
 use Rattle.index_rows.specs.Numbering.{IsNumbering, AreNames, AreNamedSteps}
 use Rattle.index_rows.specs.NumberingLaws.{names_compare, one_number, number_of, listed_names, mapped_from, among_mapped, reached_named}
 use Rattle.index_rows.specs.Least.{IsLeast}
-use Rattle.start_order.specs.StartOrder.{CanStart, IsKnot, IsStuck, IsStartList, IsBlocker, IsBlockedAlong, IsRing, IsCycle}
+use Rattle.start_order.specs.StartOrder.{CanStart, IsKnot, IsStuck, IsStartList, IsBlocker, IsBlockedAlong, IsCycle}
 
 -- a list of numbers that is cut as the list of their names is
 pub record IsCutAs {N : Type 0} (name : ℕ → N) (list : List ℕ) (front : List N) (u : N) (rest : List N) : Type 0 where
@@ -53,18 +53,23 @@ module _ {N : Type 0} (count : ℕ) (name : ℕ → N) (order : N → N → Orde
       to i l = record {
         member = a.named i l.member;
         least = λ v q h. (let r = a.numbered v q in
-                          let S : N → Type 0 = λ w. order w (name i) ≡ Less in
-                          l.least r.0 r.1.0 (sym (names_compare count name order total n r.0 i (a.within r.0 r.1.0) (a.within i l.member)) ∙ subst S (sym r.1.1) h));
+            let S : N → Type 0 = λ w. order w (name i) ≡ Less in
+            l.least r.0 r.1.0 (sym (names_compare count name order total n r.0 i (a.within r.0 r.1.0) (a.within i l.member)) ∙ subst S (sym r.1.1) h));
       }
 
       from : (u : N) → IsLeast order Q u → (i : ℕ) × (IsLeast nat_cmp P i × (name i ≡ u))
       from u l =
-          let r = a.numbered u l.member in
-          (r.0, (record {
-            member = r.1.0;
-            least = λ j p h. (let T : N → Type 0 = λ w. order (name j) w ≡ Less in
-                              l.least (name j) (a.named j p) (subst T r.1.1 (names_compare count name order total n j r.0 (a.within j p) (a.within r.0 r.1.0) ∙ h)));
-          }, r.1.1))
+          let r = a.numbered u l.member in (
+            r.0,
+            (
+              record {
+                member = r.1.0;
+                least = λ j p h. (let T : N → Type 0 = λ w. order (name j) w ≡ Less in
+                    l.least (name j) (a.named j p) (subst T r.1.1 (names_compare count name order total n j r.0 (a.within j p) (a.within r.0 r.1.0) ∙ h)));
+              },
+              r.1.1,
+            ),
+          )
 
   -- what is in two sets
   pub both_named : (P P' : ℕ → Type 0) (Q Q' : N → Type 0) → AreNames count name P Q → AreNames count name P' Q' → AreNames count name (λ i. P i × P' i) (λ u. Q u × Q' u)
@@ -72,7 +77,7 @@ module _ {N : Type 0} (count : ℕ) (name : ℕ → N) (order : N → N → Orde
     within = λ i h. a.within i h.0;
     named = λ i h. (a.named i h.0, b.named i h.1);
     numbered = λ u h. (let r = a.numbered u h.0 in
-                       (r.0, ((r.1.0, number_of count name order total n P' Q' b r.0 (a.within r.0 r.1.0) (subst Q' (sym r.1.1) h.1)), r.1.1)));
+        (r.0, ((r.1.0, number_of count name order total n P' Q' b r.0 (a.within r.0 r.1.0) (subst Q' (sym r.1.1) h.1)), r.1.1)));
   }
 
   -- numbers for the names of a list
@@ -97,19 +102,24 @@ module _ {N : Type 0} (count : ℕ) (name : ℕ → N) (order : N → N → Orde
               is_chosen = c.named i f.is_chosen;
               waiting = λ h. f.waiting (number_of count name order total n standing standing' s i l h);
               ready = λ v h k. (let r = (b i l).numbered v k in
-                                subst standing' r.1.1 (s.named r.0 (f.ready r.0 (number_of count name order total n chosen chosen' c r.0 ((b i l).within r.0 r.1.0) (subst chosen' (sym r.1.1) h)) r.1.0)));
+                  subst standing' r.1.1 (s.named r.0 (f.ready r.0 (number_of count name order total n chosen chosen' c r.0 ((b i l).within r.0 r.1.0) (subst chosen' (sym r.1.1) h)) r.1.0)));
             }
 
         from : (u : N) → CanStart chosen' before' standing' u → (i : ℕ) × (CanStart chosen before standing i × (name i ≡ u))
         from u f =
             let r = c.numbered u f.is_chosen in
-            let l = c.within r.0 r.1.0 in
-            (r.0, (record {
-              is_chosen = r.1.0;
-              waiting = λ h. f.waiting (subst standing' r.1.1 (s.named r.0 h));
-              ready = λ j h k. (let P : N → Type 0 = λ w. before' (name j) w in
-                                number_of count name order total n standing standing' s j (c.within j h) (f.ready (name j) (c.named j h) (subst P r.1.1 ((b r.0 l).named j k))));
-            }, r.1.1))
+            let l = c.within r.0 r.1.0 in (
+              r.0,
+              (
+                record {
+                  is_chosen = r.1.0;
+                  waiting = λ h. f.waiting (subst standing' r.1.1 (s.named r.0 h));
+                  ready = λ j h k. (let P : N → Type 0 = λ w. before' (name j) w in
+                      number_of count name order total n standing standing' s j (c.within j h) (f.ready (name j) (c.named j h) (subst P r.1.1 ((b r.0 l).named j k))));
+                },
+                r.1.1,
+              ),
+            )
 
     -- the names of a start list are the start list of names
     pub start_list_named : (list : List ℕ) → IsStartList nat_cmp chosen before list → IsStartList order chosen' before' (map name list)
@@ -143,9 +153,9 @@ module _ {N : Type 0} (count : ℕ) (name : ℕ → N) (order : N → N → Orde
           tied = record {
             all_chosen = λ u h. (let r = mapped_from name u s.knot h in subst chosen' r.1.1 (c.named r.0 (s.tied.all_chosen r.0 r.1.0)));
             blocked = λ u h. (let r = mapped_from name u s.knot h in
-                              let k = s.tied.blocked r.0 r.1.0 in
-                              let P : N → Type 0 = λ w. before' (name k.0) w in
-                              (name k.0, (among_mapped name k.0 s.knot k.1.0, subst P r.1.1 ((b r.0 (c.within r.0 (s.tied.all_chosen r.0 r.1.0))).named k.0 k.1.1))));
+                let k = s.tied.blocked r.0 r.1.0 in
+                let P : N → Type 0 = λ w. before' (name k.0) w in
+                (name k.0, (among_mapped name k.0 s.knot k.1.0, subst P r.1.1 ((b r.0 (c.within r.0 (s.tied.all_chosen r.0 r.1.0))).named k.0 k.1.1))));
           };
           member = among_mapped name i s.knot s.member;
         }
@@ -160,13 +170,13 @@ module _ {N : Type 0} (count : ℕ) (name : ℕ → N) (order : N → N → Orde
             let tied : IsKnot chosen before is.0 = record {
               all_chosen = is.1.1;
               blocked = λ i h. (let k = s.tied.blocked (name i) (there i h) in
-                                let l = c.within i (is.1.1 i h) in
-                                let j = (b i l).numbered k.0 k.1.1 in
-                                let Q : List N → Type 0 = λ m. IsAmong k.0 m in
-                                let o = mapped_from name k.0 is.0 (subst Q (sym is.1.0) k.1.0) in
-                                let same : o.0 ≡ j.0 = one_number count name order total n o.0 j.0 (c.within o.0 (is.1.1 o.0 o.1.0)) ((b i l).within j.0 j.1.0) (o.1.1 ∙ sym j.1.1) in
-                                let R : ℕ → Type 0 = λ x. IsAmong x is.0 in
-                                (j.0, (subst R same o.1.0, j.1.0)));
+                  let l = c.within i (is.1.1 i h) in
+                  let j = (b i l).numbered k.0 k.1.1 in
+                  let Q : List N → Type 0 = λ m. IsAmong k.0 m in
+                  let o = mapped_from name k.0 is.0 (subst Q (sym is.1.0) k.1.0) in
+                  let same : o.0 ≡ j.0 = one_number count name order total n o.0 j.0 (c.within o.0 (is.1.1 o.0 o.1.0)) ((b i l).within j.0 j.1.0) (o.1.1 ∙ sym j.1.1) in
+                  let R : ℕ → Type 0 = λ x. IsAmong x is.0 in
+                  (j.0, (subst R same o.1.0, j.1.0)));
             } in
             (here.0, (record { knot = is.0; tied = tied; member = here.1.0 }, here.1.1))
 
@@ -227,8 +237,8 @@ module _ {N : Type 0} (count : ℕ) (name : ℕ → N) (order : N → N → Orde
         record {
           round = along_named x xs x l h.round;
           least = λ u m. (let r = mapped_from name u xs m in
-                          let P : N → Type 0 = λ w. order (name x) w ≡ Less in
-                          subst P r.1.1 (names_compare count name order total n x r.0 l (s.within r.0 (along_stuck x xs x r.0 h.round r.1.0)) ∙ h.least r.0 r.1.0));
+              let P : N → Type 0 = λ w. order (name x) w ≡ Less in
+              subst P r.1.1 (names_compare count name order total n x r.0 l (s.within r.0 (along_stuck x xs x r.0 h.round r.1.0)) ∙ h.least r.0 r.1.0));
           met = met_named.named x h.met;
         }
 
@@ -243,12 +253,17 @@ module _ {N : Type 0} (count : ℕ) (name : ℕ → N) (order : N → N → Orde
         let la = s.within r.at (first_stuck r.at r.behind m.0 r.along) in
         let same : m.0 ≡ r.at = one_number count name order total n m.0 r.at l la (m.1.1 ∙ sym r.at_is) in
         let Q : ℕ → Type 0 = λ z. IsBlockedAlong nat_cmp stuck before r.at r.behind z in
-        let S : ℕ → Type 0 = λ z. IsReached (IsLeast nat_cmp stuck) (λ v w. IsBlocker nat_cmp stuck before w v) z in
-        (r.at ∷ r.behind, (record {
-          round = subst Q same r.along;
-          least = λ i k. (let T : N → Type 0 = λ w. order w (name i) ≡ Less in
-                          let U : List N → Type 0 = λ ws. IsAmong (name i) ws in
-                          sym (names_compare count name order total n r.at i la (s.within i (along_stuck r.at r.behind m.0 i r.along k)))
-                          ∙ subst T (sym r.at_is) (h.least (name i) (subst U r.behind_is (among_mapped name i r.behind k))));
-          met = subst S same m.1.0;
-        }, ap (λ w. w ∷ map name r.behind) r.at_is ∙ ap (λ ws. u ∷ ws) r.behind_is))
+        let S : ℕ → Type 0 = λ z. IsReached (IsLeast nat_cmp stuck) (λ v w. IsBlocker nat_cmp stuck before w v) z in (
+          r.at ∷ r.behind,
+          (
+            record {
+              round = subst Q same r.along;
+              least = λ i k. (let T : N → Type 0 = λ w. order w (name i) ≡ Less in
+                  let U : List N → Type 0 = λ ws. IsAmong (name i) ws in
+                  sym (names_compare count name order total n r.at i la (s.within i (along_stuck r.at r.behind m.0 i r.along k)))
+                  ∙ subst T (sym r.at_is) (h.least (name i) (subst U r.behind_is (among_mapped name i r.behind k))));
+              met = subst S same m.1.0;
+            },
+            ap (λ w. w ∷ map name r.behind) r.at_is ∙ ap (λ ws. u ∷ ws) r.behind_is,
+          ),
+        )

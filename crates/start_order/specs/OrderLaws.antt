@@ -1,11 +1,10 @@
 -- There is one least node, and one start list; what is stuck stays out of it.
-use Rattle.std.proofs.Common.{◌≡◌, ◌⊎◌, ◌↔◌, inl, inr, List, [], ◌∷◌, ◌++◌, refl, ap, sym, ◌∙◌, subst, append_assoc, append-nil}
+use Rattle.std.proofs.Common.{◌≡◌, inl, inr, List, [], ◌∷◌, ◌++◌, refl, ap, sym, ◌∙◌, subst, append_assoc, append-nil}
 use Rattle.std.specs.Cmp.{IsTotalOrder}
 use Rattle.std.specs.FinMap.{IsAntisymmetric}
-use Rattle.std.specs.Ordering.{ordering_reverse}
 use Rattle.std.specs.declared.cmp.Ordering.{Ordering}
 use Rattle.std.specs.declared.cmp.Ordering.TheVariants.{Less, Equal, Greater}
-use Rattle.list_laws.specs.Members.{IsAmong, IsAmong-append_cases, IsAmong-append_left, IsAmong-append_right}
+use Rattle.list_laws.specs.Members.{IsAmong, IsAmong-append_cases}
 use Rattle.list_laws.specs.Orderings.{turned}
 use Rattle.name_closure.specs.ListedLaws.{Listed}
 use Rattle.index_rows.specs.Least.{IsLeast}
@@ -54,10 +53,10 @@ module _ {N : Type 0} (chosen : N → Type 0) (before : N → N → Type 0) wher
             | inl a ↦ out u m a
             | inr a ↦ elim a [
               | inl same ↦ (let b = k.blocked u m in
-                            let P : N → Type 0 = before b.0 in
-                            out b.0 b.1.0 (starts.ready b.0 (k.all_chosen b.0 b.1.0) (subst P (sym same) b.1.1)))
+                  let P : N → Type 0 = before b.0 in
+                  out b.0 b.1.0 (starts.ready b.0 (k.all_chosen b.0 b.1.0) (subst P (sym same) b.1.1)))
               | inr none ↦ none
-              ]
+            ]
           ]
 
     pub stuck_out : (list : List N) → IsStartList order chosen before list → (u : N) → IsStuck chosen before u → ¬ IsAmong u list

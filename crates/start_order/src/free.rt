@@ -25,7 +25,11 @@ pub fn take_least(free: &mut BTreeSet<usize>) -> Option<usize>
 }
 
 // The chosen nodes whose counts are 0.
-pub fn free_of(alloc: Global, chosen: &[bool], counts: &[usize]) -> Result<BTreeSet<usize>, AllocError>
+pub fn free_of(
+    alloc: Global,
+    chosen: &[bool],
+    counts: &[usize],
+) -> Result<BTreeSet<usize>, AllocError>
     requires { length counts.now ≡ length chosen.now }
     ensures { IfOk result (λ free. (v : ℕ) → IsAmong v free.keys
         ↔ (Marked chosen.now v × (slice_index counts.now v ≡ 0))) }

@@ -4,7 +4,6 @@ ghost use Rattle.std.specs.Ordering.{nat_cmp};
 ghost use Rattle.std.specs.FinMap.{IsAntisymmetric};
 ghost use Rattle.list_laws.specs.Members.{IsAmong};
 ghost use Rattle.start_order.specs.StartOrder.{IsStartList, IsStuck, IsCycle};
-
 ghost use Rattle.index_rows.specs.Numbering.{IsNumbering, AreNames, AreNamedSteps};
 
 use name_closure::{NodeSet, StepSet};
@@ -30,7 +29,13 @@ pub fn stuck_nodes<N: Ord, C: NodeSet<N>, B: StepSet<N>>()
 
 /// Where nodes are numbered in the order of their names, the names of a start list by numbers are a
 /// start list by names, the names of what is stuck are stuck, and the names of a cycle are a cycle.
-pub fn start_orders_by_name<N: Ord, C: NodeSet<usize>, B: StepSet<usize>, D: NodeSet<N>, F: StepSet<N>>()
+pub fn start_orders_by_name<
+    N: Ord,
+    C: NodeSet<usize>,
+    B: StepSet<usize>,
+    D: NodeSet<N>,
+    F: StepSet<N>,
+>()
     ensures list { (count : ℕ) (name : ℕ → N) → IsNumbering count name N.cmp → AreNames count name C.holds D.holds
         → AreNamedSteps count name (λ u v. B.leads v u) (λ u v. F.leads v u)
         → (list : List ℕ) → IsStartList nat_cmp C.holds B.leads list

@@ -1,4 +1,4 @@
-use Rattle.std.proofs.Common.{◌≡◌, ◌<◌, ◌+◌, ℕ, List, Bool, ◌++◌, ◌∷◌, [], length, refl, subst, sym, ◌∙◌, arith, vec_len, inl}
+use Rattle.std.proofs.Common.{◌<◌, ℕ, List, ◌++◌, ◌∷◌, [], length, subst, sym, arith, vec_len}
 use Rattle.std.specs.List.{All}
 use Rattle.index_rows.specs.Rows.{row as row_of}
 use Rattle.index_rows.specs.MarkLaws.{Marked-within}

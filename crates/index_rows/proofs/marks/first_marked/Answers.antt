@@ -1,4 +1,3 @@
-use Rattle.std.proofs.Common.{ℕ, ◌<◌}
 use Rattle.index_rows.specs.ListLaws.{cmp_below}
 use Rattle.index_rows.proofs.marks.first_marked.Goals as goal
 

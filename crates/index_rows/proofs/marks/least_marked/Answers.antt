@@ -25,7 +25,7 @@ returns-then-least-marks c =
 pub returns-else-least-marks : goal.returns-else-least-marks
 returns-else-least-marks c = λ v h m.
     (let low = below_all c.args.marks.now c.args.nodes.now c.nodes.least (λ k l. c.nodes.invariant.least k (omega (arith, l))) in
-     let a = low v m h in
-     let b = Marked-within c.args.marks.now v m in
-     let d = c.if-least-marks.false in
-     omega (arith, a, b, d))
+    let a = low v m h in
+    let b = Marked-within c.args.marks.now v m in
+    let d = c.if-least-marks.false in
+    omega (arith, a, b, d))

@@ -17,8 +17,8 @@ unset_here b e f = cc
 pub loop-node-preserved : goal.loop-node-preserved
 loop-node-preserved c =
     elim c.if-marks-node.branch [
-    | then-marks-node+in_ok-push w ↦
-      IsListedBelow-more _ _ _ _ c.loop-node.invariant w.if-marks-node.true (ap (λ (v : Vec ℕ Global). v.items) w.nodes-is ∙ w.in_ok-push.ensures.items)
-    | else-marks-node w ↦
-      IsListedBelow-skip _ _ _ _ c.loop-node.invariant (unset_here _ w.if-marks-node.false) (ap (λ (v : Vec ℕ Global). v.items) w.nodes-is)
+      | then-marks-node+in_ok-push w ↦
+          IsListedBelow-more _ _ _ _ c.loop-node.invariant w.if-marks-node.true (ap (λ (v : Vec ℕ Global). v.items) w.nodes-is ∙ w.in_ok-push.ensures.items)
+      | else-marks-node w ↦
+          IsListedBelow-skip _ _ _ _ c.loop-node.invariant (unset_here _ w.if-marks-node.false) (ap (λ (v : Vec ℕ Global). v.items) w.nodes-is)
     ]

@@ -1,4 +1,4 @@
-use Rattle.std.proofs.Common.{◌≡◌, ◌<◌, ◌+◌, ℕ, Bool, length, ◌∙◌, arith, ap, get_or}
+use Rattle.std.proofs.Common.{◌<◌, ℕ, Bool, length, ◌∙◌, arith, ap, get_or}
 use Rattle.std.specs.declared.vec.Vec.{Vec}
 use Rattle.std.specs.declared.alloc.Global.{Global}
 use Rattle.std.proofs.lemmas.List.{take_more}
@@ -14,10 +14,10 @@ pub nodes-preserved : goal.nodes-preserved
 nodes-preserved c =
     let nodes = take_more c.args.nodes.now c.nodes.node-index 0 c.nodes-test.true in
     elim c.if-not-index.branch [
-    | then-not-index+in_ok-push w ↦
-      IsSpread-at _ _ _ _ _ _ _ _ (ap (λ (v : Vec Bool Global). v.items) w.seen-is) (ap (λ (v : Vec ℕ Global). v.items) w.noted-is ∙ w.in_ok-push.ensures.items) nodes
-      (IsSpread-more _ _ _ _ _ _ (within c) (unmarked_read _ _ _ c.index.ensures (within c) w.if-not-index.true) c.nodes.invariant)
-    | else-not-index w ↦
-      IsSpread-at _ _ _ _ _ _ _ _ (ap (λ (v : Vec Bool Global). v.items) w.seen-is) (ap (λ (v : Vec ℕ Global). v.items) w.noted-is) nodes
-      (IsSpread-skip _ _ _ _ _ _ (marked_read _ _ _ c.index.ensures (within c) w.if-not-index.false) c.nodes.invariant)
+      | then-not-index+in_ok-push w ↦
+          IsSpread-at _ _ _ _ _ _ _ _ (ap (λ (v : Vec Bool Global). v.items) w.seen-is) (ap (λ (v : Vec ℕ Global). v.items) w.noted-is ∙ w.in_ok-push.ensures.items) nodes
+          (IsSpread-more _ _ _ _ _ _ (within c) (unmarked_read _ _ _ c.index.ensures (within c) w.if-not-index.true) c.nodes.invariant)
+      | else-not-index w ↦
+          IsSpread-at _ _ _ _ _ _ _ _ (ap (λ (v : Vec Bool Global). v.items) w.seen-is) (ap (λ (v : Vec ℕ Global). v.items) w.noted-is) nodes
+          (IsSpread-skip _ _ _ _ _ _ (marked_read _ _ _ c.index.ensures (within c) w.if-not-index.false) c.nodes.invariant)
     ]

@@ -1,4 +1,4 @@
-use Rattle.std.proofs.Common.{◌≡◌, ◌++◌, ◌⊎◌, ◌<◌, ℕ, List, length, ap, sym, ◌∙◌, arith, refl, inl, inr}
+use Rattle.std.proofs.Common.{◌≡◌, ◌++◌, ◌⊎◌, ◌<◌, ℕ, List, length, ap, ◌∙◌, arith, refl, inl, inr}
 use Rattle.list_laws.specs.Members.{IsAmong}
 use Rattle.index_rows.specs.Rows.{row as row_of}
 use Rattle.index_rows.specs.RowLaws.{row-below}

@@ -1,4 +1,4 @@
-use Rattle.std.proofs.Common.{ℕ, ◌⊎◌}
+use Rattle.std.proofs.Common.{◌⊎◌}
 use Rattle.list_laws.specs.Members.{IsAmong}
 use Rattle.index_rows.specs.Rows.{row}
 use Rattle.index_rows.proofs.Building.{AreMade}

@@ -15,8 +15,8 @@ pub nodes-preserved : goal.nodes-preserved
 nodes-preserved c =
     let more = take_more c.args.nodes.now c.nodes.node-index 0 c.nodes-test.true in
     elim c.if-marks-node.branch [
-    | then-marks-node+in_ok-push w ↦ kept_more _ _ _ _ _ _ c.nodes.invariant more w.if-marks-node.true (ap (λ (v : Vec ℕ Global). v.items) w.kept-is ∙ w.in_ok-push.ensures.items)
-    | else-marks-node w ↦ kept_still _ _ _ _ _ _ c.nodes.invariant more (unset_here _ w.if-marks-node.false) (ap (λ (v : Vec ℕ Global). v.items) w.kept-is)
+      | then-marks-node+in_ok-push w ↦ kept_more _ _ _ _ _ _ c.nodes.invariant more w.if-marks-node.true (ap (λ (v : Vec ℕ Global). v.items) w.kept-is ∙ w.in_ok-push.ensures.items)
+      | else-marks-node w ↦ kept_still _ _ _ _ _ _ c.nodes.invariant more (unset_here _ w.if-marks-node.false) (ap (λ (v : Vec ℕ Global). v.items) w.kept-is)
     ]
 
 pub returns : goal.returns

@@ -11,7 +11,7 @@ loop-node-preserved c =
     let P : List (Vec ℕ Global) → Type 0 = λ l. (u : ℕ) → row_of l u ≡ [] in
     record {
       units = (let a = ap (λ (l : List (Vec ℕ Global)). length l) items in
-               let b : length (c.loop-node.rows.items ++ c.new.result ∷ []) ≡ length c.loop-node.rows.items + 1 = length-append c.loop-node.rows.items (c.new.result ∷ []) in
-               omega (arith, a, b, c.loop-node.invariant.units));
+          let b : length (c.loop-node.rows.items ++ c.new.result ∷ []) ≡ length c.loop-node.rows.items + 1 = length-append c.loop-node.rows.items (c.new.result ∷ []) in
+          omega (arith, a, b, c.loop-node.invariant.units));
       rows = subst P (sym items) (row-push_none c.loop-node.rows.items c.new.result c.new.ensures.items c.loop-node.invariant.rows);
     }

@@ -1,4 +1,4 @@
-use Rattle.std.proofs.Common.{◌≡◌, ◌<◌, ℕ, List, length, subst, sym}
+use Rattle.std.proofs.Common.{◌<◌, ℕ, List, length, subst, sym}
 use Rattle.std.specs.List.{All}
 use Rattle.std.specs.Ordering.{nat_cmp}
 use Rattle.list_laws.specs.Members.{IsAmong}

@@ -16,5 +16,5 @@ returns c =
     let P : List ℕ → Type 0 = λ l. IsCycle nat_cmp (Marked c.args.stuck.now) (Precedes c.args.before.now) l in
     subst P (sym c.rotate_left.ensures.items)
     (cycle_of_walk (Marked c.args.stuck.now) (Precedes c.args.before.now) c.in_ok-met.met.items c.in_ok-met.next c.position_of.result c.least_at-first.result c.reverse.new.self.items c.in_ok-met.ensures.walk
-      (subst E c.deref-2.ensures.value c.position_of.ensures.within) (subst A c.deref-2.ensures.value c.position_of.ensures.at) ring_is
-      (subst W c.deref-3.ensures.value c.least_at-first.ensures.within) (subst L c.deref-3.ensures.value c.least_at-first.ensures.least))
+    (subst E c.deref-2.ensures.value c.position_of.ensures.within) (subst A c.deref-2.ensures.value c.position_of.ensures.at) ring_is
+    (subst W c.deref-3.ensures.value c.least_at-first.ensures.within) (subst L c.deref-3.ensures.value c.least_at-first.ensures.least))

@@ -1,12 +1,9 @@
-use Rattle.std.proofs.Common.{◌≡◌, ℕ, Bool, List, ◌<◌, ◌≤◌, get_or, length, arith, subst, sym, ap, ◌∙◌}
-use Rattle.std.specs.List.{Contains}
-use Rattle.std.specs.Ordering.{nat_cmp}
+use Rattle.std.proofs.Common.{◌≡◌, ℕ, Bool, List, ◌<◌, ◌≤◌, get_or, length, arith, subst, sym, ◌∙◌}
 use Rattle.std.proofs.lemmas.List.{get_or_default}
 use Rattle.list_laws.specs.Members.{IsAmong, among_from_contains, contains_from_among}
 use Rattle.index_rows.specs.Rows.{Marked}
 use Rattle.index_rows.specs.MarkLaws.{Marked-within}
 use Rattle.index_rows.specs.ListLaws.{cmp_below}
-use Rattle.index_rows.specs.Least.{IsLeast}
 use Rattle.start_order.proofs.cycles.least_stuck.Goals as goal
 
 -- no marked node of the list is below `least`

@@ -1,4 +1,4 @@
-use Rattle.std.proofs.Common.{◌≡◌, ◌<◌, ◌+◌, ◌↔◌, ℕ, Bool, true, List, ◌++◌, ◌∷◌, [], length, set, subst, sym, ◌∙◌, arith, length-set}
+use Rattle.std.proofs.Common.{◌≡◌, ◌<◌, ◌↔◌, ℕ, true, List, ◌++◌, ◌∷◌, [], length, set, subst, sym, ◌∙◌, arith, length-set}
 use Rattle.list_laws.specs.Members.{IsAmong}
 use Rattle.index_rows.specs.Rows.{Marked}
 use Rattle.index_rows.specs.MarkLaws.{unset-set, unmarked_read, marked_read, Marked-within}

@@ -1,9 +1,8 @@
-use Rattle.std.proofs.Common.{◌≡◌, ◌+◌, ◌<◌, ◌≤◌, ◌↔◌, ℕ, Bool, true, List, [], ◌∷◌, ◌++◌, arith, length, get_or, set, subst, sym, ◌∙◌}
+use Rattle.std.proofs.Common.{◌≡◌, ◌<◌, ◌≤◌, ℕ, true, List, [], ◌∷◌, ◌++◌, arith, length, get_or, set, subst, sym}
 use Rattle.std.specs.List.{All}
-use Rattle.index_rows.specs.Rows.{Marked, times, row as row_of}
+use Rattle.index_rows.specs.Rows.{times, row as row_of}
 use Rattle.index_rows.specs.MarkLaws.{unset-set}
 use Rattle.index_rows.specs.RowLaws.{All-row}
-use Rattle.start_order.specs.Counts.{IsLowered}
 use Rattle.start_order.proofs.States.{IsState, IsState-begin, step, done, unmarked_of, within_of, enough_of}
 use Rattle.start_order.proofs.orders.listed.Goals as goal
 

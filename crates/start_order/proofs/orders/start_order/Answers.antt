@@ -21,6 +21,6 @@ returns-in-None-clause-all c =
 pub returns-clause-cycle : goal.returns-clause-cycle
 returns-clause-cycle c =
     let left = left_is c.args.chosen.now c.in_ok-list.standing.items c.deref-2.result.now c.in_ok-left.left.items c.deref-in-Some.result.now c.args.before.now c.in_ok-list.list.items
-      c.in_ok-list.ensures.list c.in_ok-list.ensures.marks c.deref-2.ensures.value c.in_ok-left.ensures.left c.deref-in-Some.ensures.value in
+    c.in_ok-list.ensures.list c.in_ok-list.ensures.marks c.deref-2.ensures.value c.in_ok-left.ensures.left c.deref-in-Some.ensures.value in
     cycle_along nat_cmp (Marked c.deref-in-Some.result.now) (IsStuck (Marked c.args.chosen.now) (Precedes c.args.before.now)) (Precedes c.args.before.now)
     (left_stuck _ _ _ _ _ left) (stuck_left _ _ _ _ _ left) _ c.in_ok-cycle_from-in-Some.ensures
