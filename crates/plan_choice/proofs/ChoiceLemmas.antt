@@ -1,5 +1,5 @@
 -- What is pulled, what loses, and what is chosen, by marks and rows.
-use Rattle.std.proofs.Common.{◌≡◌, ℕ, zero, suc, ◌+◌, ◌<◌, ◌≤◌, ◌⊎◌, ◌↔◌, inl, inr, Bool, true, false, IsTrue, List, [], ◌∷◌, ◌++◌, length, get_or, set, refl, ap, sym, ◌∙◌, subst, arith, length-set, get_or-set_same, get_or-set_other}
+use Rattle.std.proofs.Common.{◌≡◌, ℕ, ◌<◌, ◌⊎◌, ◌↔◌, inl, inr, Bool, true, false, List, [], ◌∷◌, ◌++◌, length, get_or, set, refl, sym, ◌∙◌, subst, length-set, get_or-set_same, get_or-set_other}
 use Rattle.std.specs.Ordering.{nat_cmp}
 use Rattle.std.specs.declared.vec.Vec.{Vec}
 use Rattle.std.specs.declared.alloc.Global.{Global}
@@ -11,7 +11,7 @@ use Rattle.index_rows.specs.Rows.{Marked, row}
 use Rattle.index_rows.specs.ListLaws.{IsAmong-push_cases, below_cmp, cmp_below}
 use Rattle.index_rows.specs.MarkLaws.{marked_or_not}
 use Rattle.plan_choice.specs.declared.cases.PlanRows.{PlanRows}
-use Rattle.plan_choice.specs.Sets.{Needs, IsNeeded, IsGood, Pulls, IsPulled, IsExtra, LosesTo, IsDropped, Keeps, IsChosen}
+use Rattle.plan_choice.specs.Sets.{IsGood, Pulls, IsPulled, IsExtra, IsDropped, Keeps, IsChosen}
 use Rattle.plan_choice.specs.RowCases.{case_of, count_of}
 use Rattle.plan_choice.specs.Marking.{AreMarksOf, ArePairsOf, IsListOf}
 use Rattle.plan_choice.specs.Losing.{IsLoser, SetsMarks}
@@ -27,10 +27,10 @@ pub SetsMarks-more : (old marks : List Bool) (nodes more : List ℕ) (x : ℕ) (
 SetsMarks-more old marks nodes more x value lt e h = subst (λ l. SetsMarks old (set marks x value) l value) (sym e) (record {
   units = length-set marks x value ∙ h.units;
   there = λ v k. elim (cases_eq x v) [
-  | inl same ↦ subst (λ w. get_or (set marks x value) w false ≡ value) same (get_or-set_same marks x value false lt)
-  | inr ne ↦ elim (IsAmong-push_cases x v nodes k) [
-    | inl a ↦ get_or-set_other marks x v value false (λ f. ne (sym f)) ∙ h.there v a
-    | inr same ↦ absurd (ne same)
+    | inl same ↦ subst (λ w. get_or (set marks x value) w false ≡ value) same (get_or-set_same marks x value false lt)
+    | inr ne ↦ elim (IsAmong-push_cases x v nodes k) [
+      | inl a ↦ get_or-set_other marks x v value false (λ f. ne (sym f)) ∙ h.there v a
+      | inr same ↦ absurd (ne same)
     ]
   ];
   others = λ v out. get_or-set_other marks x v value false (λ f. out (IsAmong-append_right v nodes (x ∷ []) (inl (sym f)))) ∙ h.others v (λ a. out (IsAmong-append_left v nodes (x ∷ []) a));
@@ -80,12 +80,15 @@ module _ (p : PlanRows) where
   pub loser_is : (extra named : List Bool) (named_by : List (Vec ℕ Global)) (u : ℕ) → AreMarksOf (count_of p) (IsExtra (case_of p)) extra
       → ((w v : ℕ) → IsAmong v (row named_by w) ↔ IsAmong w (row p.conflicts.items v)) → ((v : ℕ) → Marked named v ↔ IsAmong v (row p.conflicts.items u))
       → Marked extra u → (v : ℕ) × (IsAmong v (row named_by u) × Marked extra v × (Marked named v → v < u)) → IsLoser (case_of p) u
-  loser_is extra named named_by u e back m x l = (l.0, record {
-    extra = (e.marked u).0 x;
-    other_extra = (e.marked l.0).0 l.1.1;
-    is_named = (back u l.0).0 l.1.0;
-    greater = λ a. below_cmp l.0 u (l.1.2 ((m l.0).1 a));
-  })
+  loser_is extra named named_by u e back m x l = (
+    l.0,
+    record {
+      extra = (e.marked u).0 x;
+      other_extra = (e.marked l.0).0 l.1.1;
+      is_named = (back u l.0).0 l.1.0;
+      greater = λ a. below_cmp l.0 u (l.1.2 ((m l.0).1 a));
+    },
+  )
 
   pub loser_was : (extra named : List Bool) (named_by : List (Vec ℕ Global)) (u : ℕ) → AreMarksOf (count_of p) (IsExtra (case_of p)) extra
       → ((w v : ℕ) → IsAmong v (row named_by w) ↔ IsAmong w (row p.conflicts.items v)) → ((v : ℕ) → Marked named v ↔ IsAmong v (row p.conflicts.items u))
@@ -114,8 +117,8 @@ module _ (p : PlanRows) where
         marks_along (count_of p) (Listed (p.target ∷ [])) (Listed (p.target ∷ [])) (Named (row keeps)) (Keeps nat_cmp (case_of p)) marks r (λ u. (λ h. h, λ h. h))
         (λ u v. (
           λ h. (let b = (k u v).0 h in
-                let l = (left v).0 b.1 in
-                record { asked = (a u v).0 b.0; pulled = (is_pulled.marked v).0 l.0; stays = λ d. l.1 (dropped_fell v d) }),
+              let l = (left v).0 b.1 in
+              record { asked = (a u v).0 b.0; pulled = (is_pulled.marked v).0 l.0; stays = λ d. l.1 (dropped_fell v d) }),
           λ h. (k u v).1 ((a u v).1 h.asked, (left v).1 ((is_pulled.marked v).1 h.pulled, λ f. h.stays (fell_dropped v ((is_pulled.marked v).1 h.pulled) f))),
         ))
 

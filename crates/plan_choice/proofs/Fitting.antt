@@ -1,6 +1,6 @@
 -- Marks, rows and options, as the code reads them.
-use Rattle.std.proofs.Common.{◌≡◌, ℕ, ◌<◌, ◌⊎◌, ◌↔◌, inl, inr, Bool, true, false, not, IsTrue, List, [], ◌∷◌, length, refl, sym, ◌∙◌, subst, Option, Some, None, get_or}
-use Rattle.std.specs.List.{All, slice_index_or}
+use Rattle.std.proofs.Common.{◌≡◌, ℕ, ◌<◌, Bool, true, false, not, IsTrue, List, refl, sym, subst, Option, Some, None, get_or}
+use Rattle.std.specs.List.{All}
 use Rattle.std.specs.Option.{MatchOption, is_some}
 use Rattle.std.specs.declared.vec.Vec.{Vec}
 use Rattle.std.specs.declared.alloc.Global.{Global}
@@ -8,7 +8,7 @@ use Rattle.std.proofs.lemmas.List.Elements.{Contains-get_or}
 use Rattle.list_laws.specs.Members.{IsAmong, among_from_contains}
 use Rattle.name_closure.specs.Chains.{IsReached}
 use Rattle.name_closure.specs.SourceLaws.{same_reached, AreSameNodes, AreSameSteps}
-use Rattle.index_rows.specs.Rows.{Marked, AreRowsOf, row}
+use Rattle.index_rows.specs.Rows.{AreRowsOf, row}
 use Rattle.index_rows.specs.RowLaws.{All-row}
 use Rattle.plan_choice.specs.Marking.{AreMarksOf}
 

@@ -1,5 +1,5 @@
 -- What starts and what stops, by marks and rows.
-use Rattle.std.proofs.Common.{◌≡◌, ℕ, ◌<◌, ◌⊎◌, ◌↔◌, inl, inr, Bool, true, false, IsTrue, List, [], ◌∷◌, ◌++◌, length, refl, sym, ◌∙◌, subst, arith}
+use Rattle.std.proofs.Common.{ℕ, ◌↔◌, Bool, List, arith}
 use Rattle.std.specs.Ordering.{nat_cmp}
 use Rattle.std.specs.declared.vec.Vec.{Vec}
 use Rattle.std.specs.declared.alloc.Global.{Global}
@@ -7,16 +7,15 @@ use Rattle.list_laws.specs.Members.{IsAmong}
 use Rattle.name_closure.specs.Chains.{IsClosure}
 use Rattle.name_closure.specs.ListedLaws.{Listed, Named}
 use Rattle.name_closure.specs.SourceLaws.{same_closure}
-use Rattle.index_rows.specs.Least.{IsLeast}
 use Rattle.index_rows.specs.Rows.{Marked, row}
-use Rattle.start_order.specs.StartOrder.{CanStart, IsKnot, IsStuck, IsStartList, IsCycle}
+use Rattle.start_order.specs.StartOrder.{CanStart, IsStuck, IsStartList, IsCycle}
 use Rattle.start_order.specs.OrderLaws.{least_along}
 use Rattle.start_order.specs.CycleLaws.{cycle_along}
 use Rattle.plan_choice.specs.declared.cases.PlanRows.{PlanRows}
-use Rattle.plan_choice.specs.Sets.{AreInConflict, Precedes, IsChosen, Starts, IsOutside, IsOusted, TakesAlong}
-use Rattle.plan_choice.specs.Answers.{IsClearBelow, IsPlan, WaitsForever}
+use Rattle.plan_choice.specs.Sets.{AreInConflict, IsChosen, Starts, IsOutside, IsOusted, TakesAlong}
+use Rattle.plan_choice.specs.Answers.{IsClearBelow, WaitsForever}
 use Rattle.plan_choice.specs.RowCases.{case_of, count_of}
-use Rattle.plan_choice.specs.Marking.{AreMarksOf, ArePairsOf, IsListOf}
+use Rattle.plan_choice.specs.Marking.{AreMarksOf, ArePairsOf}
 
 -- ---- the same chosen nodes: the same start list, the same that are stuck, the same cycle
 module _ (s t : ℕ → Type 0) (before : ℕ → ℕ → Type 0) (same : (u : ℕ) → s u ↔ t u) where

@@ -1,5 +1,5 @@
 -- What is good needs nothing with which something is wrong.
-use Rattle.std.proofs.Common.{◌≡◌, ℕ, zero, suc, ◌+◌, ◌<◌, ◌⊎◌, ◌↔◌, inl, inr, Bool, true, false, IsTrue, List, [], ◌∷◌, ◌++◌, length, refl, sym, ◌∙◌, subst, arith}
+use Rattle.std.proofs.Common.{◌≡◌, ℕ, ◌+◌, ◌<◌, ◌↔◌, inl, inr, Bool, IsTrue, List, [], ◌∷◌, ◌++◌, sym, subst, arith}
 use Rattle.std.specs.declared.vec.Vec.{Vec}
 use Rattle.std.specs.declared.alloc.Global.{Global}
 use Rattle.std.proofs.lemmas.Bool.{cases_eq}
@@ -12,13 +12,12 @@ use Rattle.index_rows.specs.ListLaws.{IsAmong-push_cases}
 use Rattle.index_rows.specs.MarkLaws.{Marked-within}
 use Rattle.index_rows.specs.RowLaws.{row-below}
 use Rattle.plan_choice.specs.declared.cases.PlanRows.{PlanRows}
-use Rattle.plan_choice.specs.Case.{Case}
-use Rattle.plan_choice.specs.Sets.{Needs, IsNeeded, AreInConflict, IsGood}
+use Rattle.plan_choice.specs.Sets.{Needs, IsGood}
 use Rattle.plan_choice.specs.SetLaws.{needs_itself, needs_all}
 use Rattle.plan_choice.specs.RowCases.{case_of, count_of}
 use Rattle.plan_choice.specs.Marking.{AreMarksOf, ArePairsOf, IsListOf}
 use Rattle.plan_choice.specs.Soundness.{IsSound, IsIdle}
-use Rattle.plan_choice.proofs.Fitting.{stable, untrue}
+use Rattle.plan_choice.proofs.Fitting.{stable}
 
 module _ (p : PlanRows) where
   -- the requisites of a unit run where none of them is idle
@@ -87,9 +86,11 @@ module _ (p : PlanRows) where
     pub good_is : (u : ℕ) → Marked good u ↔ IsGood (case_of p) u
     good_is u = (
       λ m. (let o = (others u).0 m in
-            sound_good u (λ v n. stable_sound v (λ out. o.1 ((spoilt u).1 (source_needed needed_by back faulty u v ((faults.members v).1 (needs_within u v o.0 n, out)) n))))),
-      λ g. (others u).1 (Marked-within p.loaded.items u (g.all_loaded u (needs_itself (case_of p) u)),
-            (λ b. (let s = needs_source needed_by back faulty u ((spoilt u).0 b) in ((faults.members s.0).0 s.1.0).1 (good_sound u g s.0 s.1.1)))),
+          sound_good u (λ v n. stable_sound v (λ out. o.1 ((spoilt u).1 (source_needed needed_by back faulty u v ((faults.members v).1 (needs_within u v o.0 n, out)) n))))),
+      λ g. (others u).1 (
+        Marked-within p.loaded.items u (g.all_loaded u (needs_itself (case_of p) u)),
+        (λ b. (let s = needs_source needed_by back faulty u ((spoilt u).0 b) in ((faults.members s.0).0 s.1.0).1 (good_sound u g s.0 s.1.1))),
+      ),
     )
 
 -- the members of a list of those below i with P, after one more turn
@@ -102,12 +103,12 @@ module _ (P : ℕ → Type 0) (old new : List ℕ) (i : ℕ) (h : (v : ℕ) → 
       let Q : List ℕ → Type 0 = λ l. IsAmong v l ↔ ((v < i + 1) × P v) in
       subst Q (sym e) (
         λ k. elim (IsAmong-push_cases i v old k) [
-        | inl a ↦ (let f = (h v).0 a in let l : v < i = f.0 in (omega arith, f.1))
-        | inr same ↦ (omega arith, subst P same p)
+          | inl a ↦ (let f = (h v).0 a in let l : v < i = f.0 in (omega arith, f.1))
+          | inr same ↦ (omega arith, subst P same p)
         ],
         λ k. elim (cases_eq i v) [
-        | inl same ↦ IsAmong-append_right v old (i ∷ []) (inl same)
-        | inr ne ↦ IsAmong-append_left v old (i ∷ []) ((h v).1 (below_still i v k.0 ne, k.1))
+          | inl same ↦ IsAmong-append_right v old (i ∷ []) (inl same)
+          | inr ne ↦ IsAmong-append_left v old (i ∷ []) ((h v).1 (below_still i v k.0 ne, k.1))
         ],
       )
 
@@ -117,8 +118,8 @@ module _ (P : ℕ → Type 0) (old new : List ℕ) (i : ℕ) (h : (v : ℕ) → 
       subst Q (sym e) (
         λ k. (let f = (h v).0 k in let l : v < i = f.0 in (omega arith, f.1)),
         λ k. elim (cases_eq i v) [
-        | inl same ↦ absurd (out (subst P (sym same) k.1))
-        | inr ne ↦ (h v).1 (below_still i v k.0 ne, k.1)
+          | inl same ↦ absurd (out (subst P (sym same) k.1))
+          | inr ne ↦ (h v).1 (below_still i v k.0 ne, k.1)
         ],
       )
 

@@ -1,16 +1,15 @@
 -- A plan has one answer at most, and what a plan promises.
-use Rattle.std.proofs.Common.{◌≡◌, ℕ, ◌<◌, ◌≤◌, Bool, true, false, IsTrue, refl, ap, sym, ◌∙◌, subst, arith, List, [], ◌∷◌, ◌++◌, inl}
+use Rattle.std.proofs.Common.{◌≡◌, ℕ, ◌<◌, ◌≤◌, Bool, true, false, IsTrue, refl, ap, sym, ◌∙◌, subst, arith, List, ◌∷◌, ◌++◌, inl}
 use Rattle.std.specs.Cmp.{IsTotalOrder}
 use Rattle.std.specs.FinMap.{IsAntisymmetric}
 use Rattle.std.specs.declared.cmp.Ordering.{Ordering}
 use Rattle.list_laws.specs.Members.{IsAmong}
 use Rattle.name_closure.specs.ClosureLaws.{one_closure}
 use Rattle.index_rows.specs.Least.{IsLeast}
-use Rattle.start_order.specs.StartOrder.{IsStartList, IsStuck}
 use Rattle.start_order.specs.OrderLaws.{one_least, one_start_list}
 use Rattle.start_order.specs.CycleLaws.{one_cycle, cycle_stuck}
 use Rattle.plan_choice.specs.Case.{Case}
-use Rattle.plan_choice.specs.Sets.{IsNeeded, AreInConflict, Precedes, IsChosen, Starts, IsOusted, TakesAlong}
+use Rattle.plan_choice.specs.Sets.{AreInConflict, Precedes, IsChosen, Starts, IsOusted, TakesAlong}
 use Rattle.plan_choice.specs.SetLaws.{SparesItself, chosen_closed, chosen_loaded, chosen_requisites, chosen_peace}
 use Rattle.plan_choice.specs.Answers.{Refusal, rank, IsFirstPair, IsUnloadedNeed, LacksRequisite, AreNeededRivals, WaitsForever, Stands, IsClearBelow, IsRefusal, IsPlan}
 use Rattle.plan_choice.specs.Answers.Refusal.{target_fault, need_fault, manual_start, requisite, conflict, cycle}

@@ -7,7 +7,7 @@ use Rattle.name_closure.specs.Chains.{IsClosure}
 use Rattle.index_rows.specs.Least.{IsLeast}
 use Rattle.start_order.specs.StartOrder.{IsStartList, IsStuck, IsCycle}
 use Rattle.plan_choice.specs.Case.{Case}
-use Rattle.plan_choice.specs.Sets.{IsNeeded, AreInConflict, Precedes, IsChosen, Starts, IsOusted, TakesAlong}
+use Rattle.plan_choice.specs.Sets.{IsNeeded, AreInConflict, Precedes, Starts, IsOusted, TakesAlong}
 
 -- Why there is no plan, in the order in which the causes are looked at.
 pub data Refusal (N : Type 0) : Type 0 where

@@ -1,5 +1,5 @@
 -- Plans and refusals are carried from numbers to names.
-use Rattle.std.proofs.Common.{◌≡◌, ℕ, zero, suc, ◌<◌, ◌⊎◌, ◌↔◌, inl, inr, Bool, true, false, IsTrue, List, [], ◌∷◌, map, refl, ap, sym, ◌∙◌, subst}
+use Rattle.std.proofs.Common.{◌≡◌, ℕ, ◌<◌, ◌⊎◌, ◌↔◌, inl, inr, Bool, true, false, IsTrue, List, [], ◌∷◌, map, refl, ap, sym, ◌∙◌, subst}
 use Rattle.std.specs.Cmp.{IsTotalOrder}
 use Rattle.std.specs.Ordering.{nat_cmp}
 use Rattle.std.specs.declared.cmp.Ordering.{Ordering}
@@ -7,12 +7,11 @@ use Rattle.std.specs.declared.cmp.Ordering.TheVariants.{Less}
 use Rattle.list_laws.specs.Members.{IsAmong}
 use Rattle.name_closure.specs.Chains.{IsReached}
 use Rattle.name_closure.specs.ListedLaws.{Listed, Named}
-use Rattle.index_rows.specs.Least.{IsLeast}
 use Rattle.index_rows.specs.Numbering.{IsNumbering, AreNames, AreNamedSteps}
 use Rattle.index_rows.specs.NumberingLaws.{names_compare, number_of, listed_names, reached_named, closure_named}
 use Rattle.start_order.specs.NamedOrders.{least_named, both_named, start_list_named, stuck_named, cycle_named}
 use Rattle.plan_choice.specs.Case.{Case}
-use Rattle.plan_choice.specs.Sets.{Needs, IsNeeded, AreInConflict, IsGood, Pulls, IsPulled, IsExtra, LosesTo, IsDropped, Keeps, IsChosen, Precedes, Starts, IsOutside, IsOusted, TakesAlong}
+use Rattle.plan_choice.specs.Sets.{Needs, IsNeeded, AreInConflict, IsGood, Pulls, IsPulled, IsExtra, IsDropped, Keeps, IsChosen, Precedes, Starts, IsOutside, IsOusted, TakesAlong}
 use Rattle.plan_choice.specs.SetLaws.{needs_itself}
 use Rattle.plan_choice.specs.Answers.{Refusal, rank, IsFirstPair, IsUnloadedNeed, LacksRequisite, AreNeededRivals, WaitsForever, Stands, IsClearBelow, IsRefusal, IsPlan}
 use Rattle.plan_choice.specs.Answers.Refusal.{target_fault, need_fault, manual_start, requisite, conflict, cycle}
@@ -68,7 +67,7 @@ module _ {N : Type 0} (count : ℕ) (name : ℕ → N) (order : N → N → Orde
     from_target E F s =
         subst (λ t. AreNames count name (IsReached (Listed (c.target ∷ [])) E) (IsReached (Listed (t ∷ [])) F)) h.target
         (reached_named count name (Listed (c.target ∷ [])) (Listed (name c.target ∷ [])) E F
-          (listed_names count name (c.target ∷ []) (λ j k. elim k [ inl e ↦ subst (λ x. x < count) e h.below | inr none ↦ absurd none ])) s)
+        (listed_names count name (c.target ∷ []) (λ j k. elim k [ inl e ↦ subst (λ x. x < count) e h.below | inr none ↦ absurd none ])) s)
 
     needed_named : AreNames count name (IsNeeded c) (IsNeeded d)
     needed_named = from_target (Named c.needs) (Named d.needs) h.needs
@@ -97,26 +96,31 @@ module _ {N : Type 0} (count : ℕ) (name : ℕ → N) (order : N → N → Orde
             record {
               all_loaded = λ v k. (let j = (needs_named i l).numbered v k in subst (λ x. IsTrue (d.is_loaded x)) j.1.1 (h.loaded.named j.0 (g.all_loaded j.0 j.1.0)));
               requisites_run = λ v w k a. (let j = (needs_named i l).numbered v k in
-                                           let m = (h.requisites j.0 ((needs_named i l).within j.0 j.1.0)).numbered w (subst (λ x. IsAmong w (d.requisites x)) (sym j.1.1) a) in
-                                           subst (λ x. IsTrue (d.is_running x)) m.1.1 (h.running.named m.0 (g.requisites_run j.0 m.0 j.1.0 m.1.0)));
+                  let m = (h.requisites j.0 ((needs_named i l).within j.0 j.1.0)).numbered w (subst (λ x. IsAmong w (d.requisites x)) (sym j.1.1) a) in
+                  subst (λ x. IsTrue (d.is_running x)) m.1.1 (h.running.named m.0 (g.requisites_run j.0 m.0 j.1.0 m.1.0)));
               at_peace = λ v w k m r. (let j = (needs_named i l).numbered v k in
-                                       let o = needed_named.numbered w m in
-                                       let q = subst (λ x. AreInConflict d x w) (sym j.1.1) r in
-                                       g.at_peace j.0 o.0 j.1.0 o.1.0 (conflict_number j.0 o.0 ((needs_named i l).within j.0 j.1.0) (needed_named.within o.0 o.1.0) (subst (λ x. AreInConflict d (name j.0) x) (sym o.1.1) q)));
+                  let o = needed_named.numbered w m in
+                  let q = subst (λ x. AreInConflict d x w) (sym j.1.1) r in
+                  g.at_peace j.0 o.0 j.1.0 o.1.0 (conflict_number j.0 o.0 ((needs_named i l).within j.0 j.1.0) (needed_named.within o.0 o.1.0) (subst (λ x. AreInConflict d (name j.0) x) (sym o.1.1) q)));
             }
 
         from : (u : N) → IsGood d u → (i : ℕ) × (IsGood c i × (name i ≡ u))
         from u g =
             let r = h.loaded.numbered u (g.all_loaded u (needs_itself d u)) in
             let l = h.loaded.within r.0 r.1.0 in
-            let g' : IsGood d (name r.0) = subst (IsGood d) (sym r.1.1) g in
-            (r.0, (record {
-              all_loaded = λ v k. number_of count name order total n (λ i. IsTrue (c.is_loaded i)) (λ x. IsTrue (d.is_loaded x)) h.loaded v ((needs_named r.0 l).within v k) (g'.all_loaded (name v) ((needs_named r.0 l).named v k));
-              requisites_run = λ v w k a. (let lv = (needs_named r.0 l).within v k in
-                                           number_of count name order total n (λ i. IsTrue (c.is_running i)) (λ x. IsTrue (d.is_running x)) h.running w ((h.requisites v lv).within w a)
-                                           (g'.requisites_run (name v) (name w) ((needs_named r.0 l).named v k) ((h.requisites v lv).named w a)));
-              at_peace = λ v w k m q. g'.at_peace (name v) (name w) ((needs_named r.0 l).named v k) (needed_named.named w m) (conflict_named v w ((needs_named r.0 l).within v k) (needed_named.within w m) q);
-            }, r.1.1))
+            let g' : IsGood d (name r.0) = subst (IsGood d) (sym r.1.1) g in (
+              r.0,
+              (
+                record {
+                  all_loaded = λ v k. number_of count name order total n (λ i. IsTrue (c.is_loaded i)) (λ x. IsTrue (d.is_loaded x)) h.loaded v ((needs_named r.0 l).within v k) (g'.all_loaded (name v) ((needs_named r.0 l).named v k));
+                  requisites_run = λ v w k a. (let lv = (needs_named r.0 l).within v k in
+                      number_of count name order total n (λ i. IsTrue (c.is_running i)) (λ x. IsTrue (d.is_running x)) h.running w ((h.requisites v lv).within w a)
+                      (g'.requisites_run (name v) (name w) ((needs_named r.0 l).named v k) ((h.requisites v lv).named w a)));
+                  at_peace = λ v w k m q. g'.at_peace (name v) (name w) ((needs_named r.0 l).named v k) (needed_named.named w m) (conflict_named v w ((needs_named r.0 l).within v k) (needed_named.within w m) q);
+                },
+                r.1.1,
+              ),
+            )
 
     pulled_named : AreNames count name (IsPulled c) (IsPulled d)
     pulled_named = from_target (Pulls c) (Pulls d) (λ i l. either_named count name (λ v. IsAmong v (c.needs i)) (λ v. IsAmong v (c.wants i) × IsGood c v) (λ v. IsAmong v (d.needs (name i))) (λ v. IsAmong v (d.wants (name i)) × IsGood d v) (h.needs i l)
@@ -159,15 +163,20 @@ module _ {N : Type 0} (count : ℕ) (name : ℕ → N) (order : N → N → Orde
             let b : Needs d (name r.0) (name x.0) = subst (λ v. Needs d v (name x.0)) (sym r.1.1) (subst (λ v. Needs d u v) (sym x.1.1) k.needed) in
             let greater : IsAmong w.0 (c.conflicts x.0) → nat_cmp w.0 x.0 ≡ Less =
             λ m. (let named : IsAmong k.winner (d.conflicts k.loser) = subst (λ v. IsAmong v (d.conflicts k.loser)) w.1.1 (subst (λ v. IsAmong (name w.0) (d.conflicts v)) x.1.1 ((h.conflicts x.0 lx).named w.0 m)) in
-                  let less : order (name w.0) (name x.0) ≡ Less = subst (λ v. order v (name x.0) ≡ Less) (sym w.1.1) (subst (λ v. order k.winner v ≡ Less) (sym x.1.1) (k.lost.greater named)) in
-                  sym (names_compare count name order total n w.0 x.0 lw lx) ∙ less) in
-            (r.0, (record {
-              pulled = r.1.0;
-              loser = x.0;
-              winner = w.0;
-              lost = record { extra = x.1.0; other_extra = w.1.0; is_named = step_number c.conflicts d.conflicts h.conflicts w.0 x.0 lw lx a; greater = greater };
-              needed = number_of count name order total n (Needs c r.0) (Needs d (name r.0)) (needs_named r.0 l) x.0 lx b;
-            }, r.1.1))
+            let less : order (name w.0) (name x.0) ≡ Less = subst (λ v. order v (name x.0) ≡ Less) (sym w.1.1) (subst (λ v. order k.winner v ≡ Less) (sym x.1.1) (k.lost.greater named)) in
+            sym (names_compare count name order total n w.0 x.0 lw lx) ∙ less) in (
+              r.0,
+              (
+                record {
+                  pulled = r.1.0;
+                  loser = x.0;
+                  winner = w.0;
+                  lost = record { extra = x.1.0; other_extra = w.1.0; is_named = step_number c.conflicts d.conflicts h.conflicts w.0 x.0 lw lx a; greater = greater };
+                  needed = number_of count name order total n (Needs c r.0) (Needs d (name r.0)) (needs_named r.0 l) x.0 lx b;
+                },
+                r.1.1,
+              ),
+            )
 
     chosen_named : AreNames count name (IsChosen nat_cmp c) (IsChosen order d)
     chosen_named = from_target (Keeps nat_cmp c) (Keeps order d) keeps
@@ -176,9 +185,9 @@ module _ {N : Type 0} (count : ℕ) (name : ℕ → N) (order : N → N → Orde
         keeps i l = same_names count name (λ v. (IsAmong v (c.needs i) ⊎ IsAmong v (c.wants i)) × (IsPulled c v × ¬ IsDropped nat_cmp c v)) (Keeps nat_cmp c i)
             (λ v. (IsAmong v (d.needs (name i)) ⊎ IsAmong v (d.wants (name i))) × (IsPulled d v × ¬ IsDropped order d v)) (Keeps order d (name i))
             (both_named count name order total n (λ v. IsAmong v (c.needs i) ⊎ IsAmong v (c.wants i)) (λ v. IsPulled c v × ¬ IsDropped nat_cmp c v)
-              (λ v. IsAmong v (d.needs (name i)) ⊎ IsAmong v (d.wants (name i))) (λ v. IsPulled d v × ¬ IsDropped order d v)
-              (either_named count name (λ v. IsAmong v (c.needs i)) (λ v. IsAmong v (c.wants i)) (λ v. IsAmong v (d.needs (name i))) (λ v. IsAmong v (d.wants (name i))) (h.needs i l) (h.wants i l))
-              (without_named (IsPulled c) (IsDropped nat_cmp c) (IsPulled d) (IsDropped order d) pulled_named dropped_named))
+            (λ v. IsAmong v (d.needs (name i)) ⊎ IsAmong v (d.wants (name i))) (λ v. IsPulled d v × ¬ IsDropped order d v)
+            (either_named count name (λ v. IsAmong v (c.needs i)) (λ v. IsAmong v (c.wants i)) (λ v. IsAmong v (d.needs (name i))) (λ v. IsAmong v (d.wants (name i))) (h.needs i l) (h.wants i l))
+            (without_named (IsPulled c) (IsDropped nat_cmp c) (IsPulled d) (IsDropped order d) pulled_named dropped_named))
             (λ v. (λ p. record { asked = p.0; pulled = p.1.0; stays = p.1.1 }, λ k. (k.asked, (k.pulled, k.stays))))
             (λ v. (λ p. record { asked = p.0; pulled = p.1.0; stays = p.1.1 }, λ k. (k.asked, (k.pulled, k.stays))))
 
@@ -202,9 +211,9 @@ module _ {N : Type 0} (count : ℕ) (name : ℕ → N) (order : N → N → Orde
         conflict = conflict_named i k.rival (outside_named.within i k.outside) (chosen_named.within k.rival k.chosen) k.conflict;
       };
       numbered = λ u k. (let r = outside_named.numbered u k.outside in
-                         let o = chosen_named.numbered k.rival k.chosen in
-                         let q : AreInConflict d (name r.0) (name o.0) = subst (λ v. AreInConflict d v (name o.0)) (sym r.1.1) (subst (λ v. AreInConflict d u v) (sym o.1.1) k.conflict) in
-                         (r.0, (record { outside = r.1.0; rival = o.0; chosen = o.1.0; conflict = conflict_number r.0 o.0 (outside_named.within r.0 r.1.0) (chosen_named.within o.0 o.1.0) q }, r.1.1)));
+          let o = chosen_named.numbered k.rival k.chosen in
+          let q : AreInConflict d (name r.0) (name o.0) = subst (λ v. AreInConflict d v (name o.0)) (sym r.1.1) (subst (λ v. AreInConflict d u v) (sym o.1.1) k.conflict) in
+          (r.0, (record { outside = r.1.0; rival = o.0; chosen = o.1.0; conflict = conflict_number r.0 o.0 (outside_named.within r.0 r.1.0) (chosen_named.within o.0 o.1.0) q }, r.1.1)));
     }
 
     takes_named : AreNamedSteps count name (TakesAlong nat_cmp c) (TakesAlong order d)
@@ -212,9 +221,9 @@ module _ {N : Type 0} (count : ℕ) (name : ℕ → N) (order : N → N → Orde
       within = λ j k. outside_named.within j k.outside;
       named = λ j k. record { outside = outside_named.named j k.outside; tied = (h.stops_with j (outside_named.within j k.outside)).named i k.tied };
       numbered = λ u k. (let r = outside_named.numbered u k.outside in
-                         let lr = outside_named.within r.0 r.1.0 in
-                         let a : IsAmong (name i) (d.stops_with (name r.0)) = subst (λ v. IsAmong (name i) (d.stops_with v)) (sym r.1.1) k.tied in
-                         (r.0, (record { outside = r.1.0; tied = step_number c.stops_with d.stops_with h.stops_with r.0 i lr l a }, r.1.1)));
+          let lr = outside_named.within r.0 r.1.0 in
+          let a : IsAmong (name i) (d.stops_with (name r.0)) = subst (λ v. IsAmong (name i) (d.stops_with v)) (sym r.1.1) k.tied in
+          (r.0, (record { outside = r.1.0; tied = step_number c.stops_with d.stops_with h.stops_with r.0 i lr l a }, r.1.1)));
     }
 
     waits_named : AreNames count name (WaitsForever nat_cmp c) (WaitsForever order d)
@@ -226,12 +235,12 @@ module _ {N : Type 0} (count : ℕ) (name : ℕ → N) (order : N → N → Orde
       needs_loaded = λ l u m. (let r = needed_named.numbered u m in subst (λ v. IsTrue (d.is_loaded v)) r.1.1 (h.loaded.named r.0 (s.needs_loaded l r.0 r.1.0)));
       may_start = λ l. h.refuses ∙ s.may_start l;
       requisites_run = λ l u v m a. (let r = needed_named.numbered u m in
-                                     let o = (h.requisites r.0 (needed_named.within r.0 r.1.0)).numbered v (subst (λ x. IsAmong v (d.requisites x)) (sym r.1.1) a) in
-                                     subst (λ x. IsTrue (d.is_running x)) o.1.1 (h.running.named o.0 (s.requisites_run l r.0 o.0 r.1.0 o.1.0)));
+          let o = (h.requisites r.0 (needed_named.within r.0 r.1.0)).numbered v (subst (λ x. IsAmong v (d.requisites x)) (sym r.1.1) a) in
+          subst (λ x. IsTrue (d.is_running x)) o.1.1 (h.running.named o.0 (s.requisites_run l r.0 o.0 r.1.0 o.1.0)));
       at_peace = λ l u v m k q. (let r = needed_named.numbered u m in
-                                 let o = needed_named.numbered v k in
-                                 s.at_peace l r.0 o.0 r.1.0 o.1.0 (conflict_number r.0 o.0 (needed_named.within r.0 r.1.0) (needed_named.within o.0 o.1.0)
-                                   (subst (λ x. AreInConflict d x (name o.0)) (sym r.1.1) (subst (λ x. AreInConflict d u x) (sym o.1.1) q))));
+          let o = needed_named.numbered v k in
+          s.at_peace l r.0 o.0 r.1.0 o.1.0 (conflict_number r.0 o.0 (needed_named.within r.0 r.1.0) (needed_named.within o.0 o.1.0)
+          (subst (λ x. AreInConflict d x (name o.0)) (sym r.1.1) (subst (λ x. AreInConflict d u x) (sym o.1.1) q))));
       none_waits = λ l u w. (let r = waits_named.numbered u w in s.none_waits l r.0 r.1.0);
     }
 
@@ -285,8 +294,8 @@ module _ {N : Type 0} (count : ℕ) (name : ℕ → N) (order : N → N → Orde
           within = λ i k. needed_named.within i k.1.0;
           named = λ i k. (name k.0, lacks_to i k.0 k.1);
           numbered = λ x k. (let r = needed_named.numbered x k.1.0 in
-                             let j = lacks_from r.0 (needed_named.within r.0 r.1.0) k.0 (subst (λ y. LacksRequisite order d y k.0) (sym r.1.1) k.1) in
-                             (r.0, ((j.0, j.1.0), r.1.1)));
+              let j = lacks_from r.0 (needed_named.within r.0 r.1.0) k.0 (subst (λ y. LacksRequisite order d y k.0) (sym r.1.1) k.1) in
+              (r.0, ((j.0, j.1.0), r.1.1)));
         })
         (λ i l. record { within = λ j k. (h.requisites i l).within j k.1; named = lacks_to i; numbered = lacks_from i l }) u v s
     stands_named (conflict u v) s = pair_named (AreNeededRivals nat_cmp c) (AreNeededRivals order d)
@@ -294,8 +303,8 @@ module _ {N : Type 0} (count : ℕ) (name : ℕ → N) (order : N → N → Orde
           within = λ i k. needed_named.within i k.1.0;
           named = λ i k. (name k.0, rivals_to i k.0 k.1);
           numbered = λ x k. (let r = needed_named.numbered x k.1.0 in
-                             let j = rivals_from r.0 (needed_named.within r.0 r.1.0) k.0 (subst (λ y. AreNeededRivals order d y k.0) (sym r.1.1) k.1) in
-                             (r.0, ((j.0, j.1.0), r.1.1)));
+              let j = rivals_from r.0 (needed_named.within r.0 r.1.0) k.0 (subst (λ y. AreNeededRivals order d y k.0) (sym r.1.1) k.1) in
+              (r.0, ((j.0, j.1.0), r.1.1)));
         })
         (λ i l. record { within = λ j k. needed_named.within j k.1; named = rivals_to i; numbered = rivals_from i l }) u v s
     stands_named (cycle list) s = cycle_named count name order total n (WaitsForever nat_cmp c) (Precedes c) (WaitsForever order d) (Precedes d) waits_named h.predecessors list s

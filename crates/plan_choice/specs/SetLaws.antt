@@ -1,12 +1,12 @@
 -- What a plan chooses is closed under need, loaded, at peace, and has its requisites running.
-use Rattle.std.proofs.Common.{◌≡◌, ℕ, zero, suc, ◌<◌, ◌⊎◌, inl, inr, Bool, true, false, IsTrue, refl, ap, sym, ◌∙◌, subst, List, [], ◌∷◌}
+use Rattle.std.proofs.Common.{◌≡◌, ℕ, zero, suc, ◌⊎◌, inl, inr, IsTrue, refl, sym, subst, [], ◌∷◌}
 use Rattle.std.specs.Cmp.{IsTotalOrder}
 use Rattle.std.specs.FinMap.{IsAntisymmetric}
 use Rattle.std.specs.declared.cmp.Ordering.{Ordering}
 use Rattle.std.specs.declared.cmp.Ordering.TheVariants.{Less, Equal, Greater}
 use Rattle.list_laws.specs.Members.{IsAmong}
 use Rattle.list_laws.specs.Orderings.{turned}
-use Rattle.name_closure.specs.Chains.{IsReached, IsChain}
+use Rattle.name_closure.specs.Chains.{IsChain}
 use Rattle.name_closure.specs.ClosureLaws.{reached_closed, reached_least}
 use Rattle.name_closure.specs.ListedLaws.{Listed, Named}
 use Rattle.plan_choice.specs.Case.{Case}

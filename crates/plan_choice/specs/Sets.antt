@@ -1,7 +1,7 @@
 -- The sets of units of which a plan speaks. Each closure is one of `name_closure`'s: what is reached from sources by steps.
 -- Source: systemd.unit(5), "Wants=", "Requires=", "Requisite=", "BindsTo=", "PartOf=", "Conflicts="; which wishes are good and who loses a conflict
 -- is this project's own.
-use Rattle.std.specs.Prelude.{◌≡◌, ◌⊎◌, IsTrue, List, [], ◌∷◌}
+use Rattle.std.specs.Prelude.{◌≡◌, ◌⊎◌, IsTrue, [], ◌∷◌}
 use Rattle.std.specs.declared.cmp.Ordering.{Ordering}
 use Rattle.std.specs.declared.cmp.Ordering.TheVariants.{Less}
 use Rattle.list_laws.specs.Members.{IsAmong}

@@ -22,7 +22,7 @@ fn first_pair(sources: &[bool], rows: &[Vec<usize>], marks: &[bool]) -> Option<(
     ensures { MatchOption result
         ((u v : ℕ) → ¬ (Marked sources.now u × IsAmong v (row_of rows.now u) × Marked marks.now v))
         (λ pair. IsFirstPair nat_cmp (λ u v. Marked sources.now u × IsAmong v (row_of rows.now u) × Marked marks.now v)
-            pair.0 pair.1) }
+        pair.0 pair.1) }
 {
     'sources: for unit in 0..sources.len() {
         if sources[unit] {

@@ -19,7 +19,13 @@ pub fn rivals(alloc: Global, case: &PlanRows) -> Result<Vec<Vec<usize>>, AllocEr
 }
 
 // Whether nothing is wrong with the unit itself.
-fn is_sound(case: &PlanRows, idle: &[bool], needed: &[bool], rivals: &[Vec<usize>], unit: usize) -> bool
+fn is_sound(
+    case: &PlanRows,
+    idle: &[bool],
+    needed: &[bool],
+    rivals: &[Vec<usize>],
+    unit: usize,
+) -> bool
     requires unit { unit < count_of case.now }
     requires idle { AreMarksOf (count_of case.now) (IsIdle (count_of case.now) (case_of case.now)) idle.now }
     requires needed { AreMarksOf (count_of case.now) (IsNeeded (case_of case.now)) needed.now }
@@ -36,7 +42,13 @@ fn is_sound(case: &PlanRows, idle: &[bool], needed: &[bool], rivals: &[Vec<usize
 }
 
 // The units with which something is wrong.
-fn faults(alloc: Global, case: &PlanRows, idle: &[bool], needed: &[bool], rivals: &[Vec<usize>]) -> Result<Vec<usize>, AllocError>
+fn faults(
+    alloc: Global,
+    case: &PlanRows,
+    idle: &[bool],
+    needed: &[bool],
+    rivals: &[Vec<usize>],
+) -> Result<Vec<usize>, AllocError>
     requires idle { AreMarksOf (count_of case.now) (IsIdle (count_of case.now) (case_of case.now)) idle.now }
     requires needed { AreMarksOf (count_of case.now) (IsNeeded (case_of case.now)) needed.now }
     requires rivals { ArePairsOf (count_of case.now) (AreInConflict (case_of case.now)) rivals.now }

@@ -1,10 +1,10 @@
-use Rattle.std.proofs.Common.{◌≡◌, ◌<◌, ◌↔◌, ℕ, Bool, true, false, IsTrue, List, length, refl, arith, subst, sym, ap, ◌∙◌}
+use Rattle.std.proofs.Common.{◌<◌, ℕ, length, arith, subst}
 use Rattle.std.specs.Ordering.{nat_cmp}
 use Rattle.list_laws.specs.Members.{IsAmong}
 use Rattle.index_rows.specs.Least.{IsLeast}
 use Rattle.index_rows.specs.Rows.{Marked, row as row_of}
 use Rattle.index_rows.specs.MarkLaws.{marked_read, unmarked_read}
-use Rattle.plan_choice.specs.RowCases.{case_of, count_of}
+use Rattle.plan_choice.specs.RowCases.{case_of}
 use Rattle.plan_choice.specs.Answers.{LacksRequisite, AreNeededRivals, IsFirstPair}
 use Rattle.plan_choice.proofs.Fitting.{is_false}
 use Rattle.plan_choice.proofs.CauseLemmas.{pair_along, all_loaded, first_unloaded, lacking, all_run, rivalry, clear_2, clear_4, clear_5, clear_6}
@@ -27,10 +27,10 @@ returns-in-Some-first_pair c =
     let inside : c.args.case.now.target < length c.args.case.now.refuses_manual_start.items = omega (arith, c.args.case.now.lawful_target, c.args.case.now.lawful_refuses) in
     let willing = is_false _ (unmarked_read c.args.case.now.refuses_manual_start.items c.args.case.now.target c.index-2.result.now c.index-2.ensures inside c.if-index.false) in
     let found = subst (λ l. IsFirstPair nat_cmp (λ u v. Marked c.args.needed.now u × IsAmong v (row_of l u) × Marked c.args.idle.now v) c.in-Some-first_pair.unit c.in-Some-first_pair.requisite)
-      c.deref-3.ensures.value c.in-Some-first_pair.ensures in
+    c.deref-3.ensures.value c.in-Some-first_pair.ensures in
     record {
       stands = pair_along (λ u v. Marked c.args.needed.now u × IsAmong v (row_of c.args.case.now.requisites.items u) × Marked c.args.idle.now v) (LacksRequisite nat_cmp (case_of c.args.case.now))
-        (lacking c.args.case.now c.args.needed.now c.requires.needed c.args.idle.now c.requires.idle) c.in-Some-first_pair.unit c.in-Some-first_pair.requisite found;
+          (lacking c.args.case.now c.args.needed.now c.requires.needed c.args.idle.now c.requires.idle) c.in-Some-first_pair.unit c.in-Some-first_pair.requisite found;
       clear = clear_4 c.args.case.now loaded all willing;
     }
 
@@ -55,6 +55,6 @@ returns c =
     let none = subst (λ l. (u v : ℕ) → ¬ (Marked c.args.needed.now u × IsAmong v (row_of l u) × Marked c.args.idle.now v)) c.deref-3.ensures.value c.in_default-first_pair.ensures in
     record {
       stands = pair_along (λ u v. Marked c.args.needed.now u × IsAmong v (row_of c.args.rivals.now u) × Marked c.args.needed.now v) (AreNeededRivals nat_cmp (case_of c.args.case.now))
-        (rivalry c.args.case.now c.args.needed.now c.requires.needed c.args.rivals.now c.requires.rivals) c.in-Some-first_pair-2.unit c.in-Some-first_pair-2.rival c.in-Some-first_pair-2.ensures;
+          (rivalry c.args.case.now c.args.needed.now c.requires.needed c.args.rivals.now c.requires.rivals) c.in-Some-first_pair-2.unit c.in-Some-first_pair-2.rival c.in-Some-first_pair-2.ensures;
       clear = clear_5 c.args.case.now loaded all willing (all_run c.args.case.now c.args.needed.now c.requires.needed c.args.idle.now c.requires.idle none);
     }

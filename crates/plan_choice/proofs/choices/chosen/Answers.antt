@@ -1,10 +1,9 @@
-use Rattle.std.proofs.Common.{◌≡◌, ◌<◌, ◌↔◌, ℕ, Bool, List, length, ap, subst, sym, ◌∙◌}
+use Rattle.std.proofs.Common.{◌≡◌, ◌<◌, length, ap, subst, sym, ◌∙◌}
 use Rattle.std.specs.List.{All}
 use Rattle.list_laws.specs.Members.{IsAmong}
 use Rattle.index_rows.specs.Rows.{AreRowsOf}
-use Rattle.plan_choice.specs.Sets.{IsExtra}
 use Rattle.plan_choice.specs.RowCases.{case_of, count_of}
-use Rattle.plan_choice.specs.Marking.{AreMarksOf, ArePairsOf}
+use Rattle.plan_choice.specs.Marking.{ArePairsOf}
 use Rattle.plan_choice.proofs.Fitting.{all_places}
 use Rattle.plan_choice.proofs.ChoiceLemmas.{chosen_is, marks_are}
 use Rattle.plan_choice.proofs.choices.chosen.Goals as goal

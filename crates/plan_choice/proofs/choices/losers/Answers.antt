@@ -1,8 +1,8 @@
-use Rattle.std.proofs.Common.{◌≡◌, ◌<◌, ◌≤◌, ◌+◌, ◌↔◌, ℕ, Bool, true, false, IsTrue, List, length, refl, arith, ap, subst, sym, ◌∙◌}
+use Rattle.std.proofs.Common.{◌≡◌, ◌<◌, ◌↔◌, ℕ, Bool, true, false, IsTrue, List, length, arith, ap, subst, sym, ◌∙◌}
 use Rattle.std.specs.declared.vec.Vec.{Vec}
 use Rattle.std.specs.declared.alloc.Global.{Global}
 use Rattle.list_laws.specs.Members.{IsAmong}
-use Rattle.index_rows.specs.Rows.{Marked, AreRowsOf, row as row_of}
+use Rattle.index_rows.specs.Rows.{Marked, row as row_of}
 use Rattle.index_rows.specs.MarkLaws.{Marked-within, Marked-none}
 use Rattle.plan_choice.specs.RowCases.{case_of, count_of}
 use Rattle.plan_choice.specs.Losing.{IsLoser, SetsMarks}
@@ -55,15 +55,15 @@ units-preserved c =
       marks = c.set_marks-in-units.ensures.units ∙ c.set_marks.ensures.units ∙ c.units.invariant.marks;
       clean = clean_again c.units.named.items c.set_marks.new.marks.items c.set_marks-in-units.new.marks.items (row_of c.args.case.now.conflicts.items c.units.unit) c.units.invariant.clean set cleared;
       listed = elim c.if-lost.branch [
-      | then-lost+then-extra-unit+in_ok-push w ↦
-        listed_more (IsLoser (case_of c.args.case.now)) _ _ _ c.units.invariant.listed
-        (loser_is c.args.case.now c.args.extra.now c.set_marks.new.marks.items c.in_ok-named_by.named_by.items c.units.unit c.requires back marked w.if-extra-unit.true (lost.0 w.if-lost.true))
-        (ap (λ (v : Vec ℕ Global). v.items) w.units-is ∙ w.in_ok-push.ensures.items)
-      | else-lost w ↦ elim w.else-lost.branch [
-        | else-lost-via-then-lost+else-extra-unit v ↦
-          listed_still (IsLoser (case_of c.args.case.now)) _ _ _ c.units.invariant.listed (λ l. untrue _ v.if-extra-unit.false (was l).0) (ap (λ (v : Vec ℕ Global). v.items) w.units-is)
-        | else-lost-via-else-lost v ↦
-          listed_still (IsLoser (case_of c.args.case.now)) _ _ _ c.units.invariant.listed (λ l. untrue _ v.if-lost.false (lost.1 (was l).1)) (ap (λ (v : Vec ℕ Global). v.items) w.units-is)
+        | then-lost+then-extra-unit+in_ok-push w ↦
+            listed_more (IsLoser (case_of c.args.case.now)) _ _ _ c.units.invariant.listed
+            (loser_is c.args.case.now c.args.extra.now c.set_marks.new.marks.items c.in_ok-named_by.named_by.items c.units.unit c.requires back marked w.if-extra-unit.true (lost.0 w.if-lost.true))
+            (ap (λ (v : Vec ℕ Global). v.items) w.units-is ∙ w.in_ok-push.ensures.items)
+        | else-lost w ↦ elim w.else-lost.branch [
+          | else-lost-via-then-lost+else-extra-unit v ↦
+              listed_still (IsLoser (case_of c.args.case.now)) _ _ _ c.units.invariant.listed (λ l. untrue _ v.if-extra-unit.false (was l).0) (ap (λ (v : Vec ℕ Global). v.items) w.units-is)
+          | else-lost-via-else-lost v ↦
+              listed_still (IsLoser (case_of c.args.case.now)) _ _ _ c.units.invariant.listed (λ l. untrue _ v.if-lost.false (lost.1 (was l).1)) (ap (λ (v : Vec ℕ Global). v.items) w.units-is)
         ]
       ];
     }

@@ -1,5 +1,4 @@
-use Rattle.std.proofs.Common.{◌≡◌, ◌<◌, ◌↔◌, ℕ, Bool, List, length, subst, sym, ap, ◌∙◌}
-use Rattle.plan_choice.specs.RowCases.{case_of, count_of}
+use Rattle.std.proofs.Common.{length, ap, ◌∙◌}
 use Rattle.plan_choice.proofs.ChoiceLemmas.{pulled_is, marks_are}
 use Rattle.plan_choice.proofs.choices.pulled.Goals as goal
 

@@ -1,4 +1,4 @@
-use Rattle.std.proofs.Common.{◌<◌, ◌≤◌, arith, get_or, length, subst}
+use Rattle.std.proofs.Common.{◌<◌, arith, get_or, length, subst}
 use Rattle.std.proofs.lemmas.List.{take_more, take_all}
 use Rattle.plan_choice.specs.Losing.{SetsMarks}
 use Rattle.plan_choice.proofs.ChoiceLemmas.{SetsMarks-none, SetsMarks-more}

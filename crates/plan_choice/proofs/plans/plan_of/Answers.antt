@@ -1,11 +1,11 @@
-use Rattle.std.proofs.Common.{◌≡◌, ◌<◌, ◌↔◌, ℕ, Bool, List, length, ap, subst, sym, ◌∙◌}
+use Rattle.std.proofs.Common.{ℕ, subst}
 use Rattle.std.specs.Ordering.{nat_cmp}
 use Rattle.index_rows.specs.Rows.{Marked}
 use Rattle.start_order.specs.Precedes.{Precedes}
 use Rattle.start_order.specs.StartOrder.{IsStartList, IsStuck, IsCycle}
 use Rattle.list_laws.specs.Members.{IsAmong}
 use Rattle.plan_choice.specs.Sets.{Starts}
-use Rattle.plan_choice.specs.RowCases.{case_of, count_of}
+use Rattle.plan_choice.specs.RowCases.{case_of}
 use Rattle.plan_choice.proofs.PlanLemmas.{starting_is, start_list_same, stuck_back, cycle_same, clear_7}
 use Rattle.plan_choice.proofs.plans.plan_of.Goals as goal
 

@@ -1,4 +1,4 @@
-use Rattle.std.proofs.Common.{◌≡◌, ◌<◌, ◌↔◌, ℕ, Bool, List, length, arith, ap, subst, sym, ◌∙◌}
+use Rattle.std.proofs.Common.{◌≡◌, ◌<◌, ◌↔◌, ℕ, length, ap, subst, sym, ◌∙◌}
 use Rattle.std.specs.List.{All}
 use Rattle.list_laws.specs.Members.{IsAmong}
 use Rattle.index_rows.specs.Rows.{Marked, row as row_of}
@@ -20,7 +20,7 @@ pub returns : goal.returns
 returns c =
     let left = rw c.deref.ensures.value at c.in_ok-outside.ensures.left in
     let ousted = subst (λ l. (u : ℕ) → IsAmong u c.in_ok-ousted.ousted.items ↔ (Marked l u × ((v : ℕ) × (IsAmong v (row_of c.args.rivals.now u) × Marked c.args.chosen.now v))))
-      c.deref-2.ensures.value c.in_ok-ousted.ensures.members in
+    c.deref-2.ensures.value c.in_ok-ousted.ensures.members in
     let tied = rw c.deref-3.ensures.value at c.in_ok-tied.ensures.steps in
     let takes = rw (c.deref-4.ensures.value, c.deref-5.ensures.value) at c.in_ok-takes.ensures.steps in
     let stops = rw (c.deref-6.ensures.value, c.deref-7.ensures.value) at c.in_ok-closure.ensures in

@@ -1,10 +1,9 @@
 use Rattle.std.proofs.Common.{◌≡◌, ◌<◌, ◌↔◌, ℕ, Bool, List, length, subst, sym, ap, ◌∙◌}
 use Rattle.std.specs.List.{All}
-use Rattle.list_laws.specs.Members.{IsAmong}
 use Rattle.name_closure.specs.Chains.{IsReached}
 use Rattle.name_closure.specs.ListedLaws.{Listed, Named}
 use Rattle.index_rows.specs.Rows.{Marked, AllBelow, row as row_of}
-use Rattle.plan_choice.specs.RowCases.{case_of, count_of}
+use Rattle.plan_choice.specs.RowCases.{count_of}
 use Rattle.plan_choice.proofs.Fitting.{all_places}
 use Rattle.plan_choice.proofs.WishLemmas.{good_is}
 use Rattle.plan_choice.proofs.wishes.good_wishes.Goals as goal

@@ -3,7 +3,7 @@ use Rattle.std.specs.declared.vec.Vec.{Vec}
 use Rattle.std.specs.declared.alloc.Global.{Global}
 use Rattle.list_laws.specs.Members.{IsAmong}
 use Rattle.index_rows.specs.Rows.{AreRowsOf, row as row_of}
-use Rattle.plan_choice.specs.RowCases.{case_of, count_of}
+use Rattle.plan_choice.specs.RowCases.{count_of}
 use Rattle.plan_choice.proofs.wishes.rivals.Goals as goal
 
 pub joined-requires : goal.joined-requires
