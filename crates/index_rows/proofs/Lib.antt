@@ -3,3 +3,4 @@ pub mod Spreading
 pub mod Notes
 pub mod Works
 pub mod Building
+pub mod Levels

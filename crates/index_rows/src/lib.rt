@@ -8,8 +8,10 @@ mod closures;
 mod laws;
 mod marks;
 mod rows;
+mod shortest;
 
 pub use closures::{closure, reached};
 pub use laws::closures_by_name;
 pub use marks::{first_marked, least_marked, marked_nodes, no_marks, unmarked, without};
 pub use rows::{joined, kept, row, turned};
+pub use shortest::distances;
