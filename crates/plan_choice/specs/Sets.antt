@@ -1,6 +1,6 @@
 -- The sets of units of which a plan speaks. Each closure is one of `name_closure`'s: what is reached from sources by steps.
--- Source: systemd.unit(5), "Wants=", "Requires=", "Requisite=", "BindsTo=", "PartOf=", "Conflicts="; which wishes are good and who loses a conflict
--- is this project's own.
+-- Source: systemd.unit(5), "Wants=", "Requires=", "Requisite=", "BindsTo=", "PartOf=", "Conflicts=";
+-- which wishes are good and who loses a conflict is this project's own.
 use Rattle.std.specs.Prelude.{◌≡◌, ◌⊎◌, IsTrue, [], ◌∷◌}
 use Rattle.std.specs.declared.cmp.Ordering.{Ordering}
 use Rattle.std.specs.declared.cmp.Ordering.TheVariants.{Less}
@@ -21,7 +21,8 @@ module _ {N : Type 0} (c : Case N) where
   abbrev pub AreInConflict : N → N → Type 0
   AreInConflict u v = IsAmong v (c.conflicts u) ⊎ IsAmong u (c.conflicts v)
 
-  -- A unit that may be pulled by a mere wish: all that it needs is loaded, has its requisites running, and conflicts with nothing that the target needs.
+  -- A unit that may be pulled by a mere wish: all that it needs is loaded, has its requisites running,
+  -- and conflicts with nothing that the target needs.
   pub record IsGood (u : N) : Type 0 where
     pub all_loaded : (v : N) → Needs u v → IsTrue (c.is_loaded v)
     pub requisites_run : (v w : N) → Needs u v → IsAmong w (c.requisites v) → IsTrue (c.is_running w)

@@ -52,7 +52,8 @@ fn faults(
     requires idle { AreMarksOf (count_of case.now) (IsIdle (count_of case.now) (case_of case.now)) idle.now }
     requires needed { AreMarksOf (count_of case.now) (IsNeeded (case_of case.now)) needed.now }
     requires rivals { ArePairsOf (count_of case.now) (AreInConflict (case_of case.now)) rivals.now }
-    ensures { IfOk result (λ units. IsListOf (count_of case.now) (λ u. (u < count_of case.now) × ¬ IsSound (case_of case.now) u) units.items) }
+    ensures { IfOk result (λ units. IsListOf (count_of case.now)
+        (λ u. (u < count_of case.now) × ¬ IsSound (case_of case.now) u) units.items) }
 {
     let mut units = Vec::new(alloc);
     'units: for unit in 0..case.loaded.len() {

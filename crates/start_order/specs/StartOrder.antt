@@ -30,7 +30,8 @@ module _ {N : Type 0} (order : N → N → Ordering) (chosen : N → Type 0) (be
   -- Wherever the list is cut, the node behind the cut is the least that can start once those before the cut stand.
   -- When all of the list stand, none can start.
   pub record IsStartList (list : List N) : Type 0 where
-    pub each_least : (front : List N) (u : N) (rest : List N) → list ≡ front ++ u ∷ rest → IsLeast order (CanStart chosen before (Listed front)) u
+    pub each_least : (front : List N) (u : N) (rest : List N) → list ≡ front ++ u ∷ rest
+        → IsLeast order (CanStart chosen before (Listed front)) u
     pub whole : (u : N) → ¬ CanStart chosen before (Listed list) u
 
 module _ {N : Type 0} (order : N → N → Ordering) (stuck : N → Type 0) (before : N → N → Type 0) where
