@@ -1,0 +1,6 @@
+pub mod Listing
+pub mod Spreading
+pub mod Notes
+pub mod Works
+pub mod Building
+pub mod Levels

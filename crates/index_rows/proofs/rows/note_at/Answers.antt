@@ -1,0 +1,11 @@
+use Rattle.std.proofs.Common.{◌≡◌, ◌++◌, ◌∷◌, [], ℕ, List, ap, sym, ◌∙◌}
+use Rattle.index_rows.specs.Rows.{row as row_of}
+use Rattle.index_rows.specs.RowLaws.{row-at}
+use Rattle.index_rows.proofs.Notes.{IsNoted-one}
+use Rattle.index_rows.proofs.rows.note_at.Goals as goal
+
+pub returns : goal.returns
+returns c =
+    let e : row_of c.args.rows.now.items c.args.at ≡ c.index_mut.result.now.items = row-at c.args.rows.now.items c.args.at c.index_mut.result.now c.requires c.index_mut.ensures.value in
+    let f : c.push.new.self.items ≡ c.index_mut.result.now.items ++ c.args.node ∷ [] = c.in_ok-push.ensures.items in
+    IsNoted-one _ _ _ c.push.new.self c.requires (f ∙ ap (λ (l : List ℕ). l ++ c.args.node ∷ []) (sym e))

@@ -1,0 +1,42 @@
+use Rattle.std.proofs.Common.{◌≡◌, ◌<◌, ◌==◌, ℕ, Bool, true, false, inl, inr, vec_len, length, get_or, arith, subst, sym}
+use Rattle.std.specs.List.{All}
+use Rattle.std.proofs.lemmas.Bool.{cases_eq, ne_eqb, eq-eqb}
+use Rattle.std.proofs.lemmas.List.Elements.{Contains-get_or}
+use Rattle.list_laws.specs.Members.{IsAmong, among_from_contains}
+use Rattle.index_rows.specs.MarkLaws.{Marked-within}
+use Rattle.index_rows.specs.ListLaws.{empty_list}
+use Rattle.index_rows.proofs.Levels.{IsLevel-init, IsLevel-next, IsLevel-done}
+use Rattle.index_rows.proofs.shortest.distances.Goals as goal
+
+pub levels-init : goal.levels-init
+levels-init c = IsLevel-init c.args.rows.now c.args.sources.now _ _ _ _ _ c.in_ok-seen.ensures.none c.new-level.ensures.items c.new-pairs.ensures.items c.in_ok-spread.ensures
+
+pub next_level-requires-clause-level : goal.next_level-requires-clause-level
+next_level-requires-clause-level c =
+    let h = c.levels.invariant in
+    subst (λ l. All (λ v. v < length c.args.rows.now) l) (sym c.deref-in-levels.ensures.value)
+    (λ k d lt.
+    (let a : IsAmong (get_or c.put_in_order.new.nodes.items k d) c.put_in_order.new.nodes.items = among_from_contains _ c.put_in_order.new.nodes.items (Contains-get_or c.put_in_order.new.nodes.items k d lt) in
+    let at = h.level_at (get_or c.put_in_order.new.nodes.items k d) ((c.put_in_order.ensures.members (get_or c.put_in_order.new.nodes.items k d)).0 a) in
+    let w = Marked-within c.levels.seen.items (get_or c.put_in_order.new.nodes.items k d) (h.near c.levels.distance (get_or c.put_in_order.new.nodes.items k d) (omega arith) at.chain) in
+    omega (arith, w, h.units)))
+
+-- what a test for nothing says
+empty_when : (n : ℕ) (b : Bool) → b ≡ (n == 0) → b ≡ true → n ≡ 0
+empty_when n b e t = elim (cases_eq n 0) [ inl z ↦ z | inr ne ↦ (let f = ne_eqb n 0 ne in cc) ]
+
+some_when : (n : ℕ) (b : Bool) → b ≡ (n == 0) → b ≡ false → 0 < n
+some_when n b e f = (let out : ¬ (n ≡ 0) = λ z. (let g = eq-eqb n 0 z in cc) in omega arith)
+
+pub levels-preserved : goal.levels-preserved
+levels-preserved c =
+    let some : 0 < length c.levels.level.items = (let a = some_when (vec_len c.levels.level) c.is_empty.result c.is_empty.ensures c.levels-test.true in omega (arith, a, c.levels.level.ok)) in
+    let more = rw c.deref.ensures.value at c.in_ok-push_level.ensures in
+    let spread = rw c.deref-in-levels.ensures.value at c.in_ok-level.ensures in
+    IsLevel-next c.args.rows.now c.args.sources.now c.levels.distance c.levels.seen.items c.levels.level.items c.put_in_order.new.nodes.items c.levels.pairs.items c.levels.invariant
+    c.put_in_order.ensures.rising c.put_in_order.ensures.members some c.next_level.new.seen.items c.in_ok-level.level.items c.push_level.new.pairs.items more spread
+
+pub returns : goal.returns
+returns c =
+    let none : length c.levels.level.items ≡ 0 = (let a = empty_when (vec_len c.levels.level) c.is_empty.result c.is_empty.ensures c.levels-test.false in omega (arith, a, c.levels.level.ok)) in
+    IsLevel-done c.args.rows.now c.args.sources.now c.levels.distance c.levels.seen.items c.levels.level.items c.levels.pairs.items (empty_list c.levels.level.items none) c.levels.invariant

@@ -1,0 +1,108 @@
+//! Sets of nodes by marks.
+ghost use Rattle.std.specs.Prelude.{◌≡◌, ◌<◌, ◌≤◌, ◌↔◌, ℕ, length, replicate, false, MatchOption, IfOk, OnOk};
+ghost use Rattle.std.specs.List.{All};
+ghost use Rattle.std.specs.List.Sorted.{IsStrictlySortedBy};
+ghost use Rattle.std.specs.Ordering.{nat_cmp};
+ghost use Rattle.list_laws.specs.Members.{IsAmong};
+ghost use Rattle.index_rows.specs.Least.{IsLeast};
+ghost use Rattle.index_rows.specs.Rows.{Marked};
+ghost use Rattle.index_rows.specs.Spreads.{IsSpread};
+
+use std::alloc::{AllocError, Global};
+
+/// So many marks, of which none is set.
+pub fn no_marks(alloc: Global, count: usize) -> Result<Vec<bool>, AllocError>
+    ensures none { IfOk result (λ marks. marks.items ≡ replicate count false) }
+    ensures units { IfOk result (λ marks. length marks.items ≡ count) }
+{
+    vec![in alloc; false; count]
+}
+
+/// The marked nodes, rising. O(n).
+pub fn marked_nodes(alloc: Global, marks: &[bool]) -> Result<Vec<usize>, AllocError>
+    ensures rising { IfOk result (λ nodes. IsStrictlySortedBy nat_cmp nodes.items) }
+    ensures members { IfOk result (λ nodes. (v : ℕ) → IsAmong v nodes.items ↔ Marked marks.now v) }
+{
+    let mut nodes = Vec::new(alloc);
+    for node in 0..marks.len() {
+        if marks[node] {
+            nodes.push(node)?;
+        }
+    }
+    Ok(nodes)
+}
+
+/// Marks at the nodes that have none. O(n).
+pub fn unmarked(alloc: Global, marks: &[bool]) -> Result<Vec<bool>, AllocError>
+    ensures units { IfOk result (λ others. length others.items ≡ length marks.now) }
+    ensures others { IfOk result (λ others. (v : ℕ) → Marked others.items v
+        ↔ ((v < length marks.now) × ¬ Marked marks.now v)) }
+{
+    let mut others = Vec::new(alloc);
+    for node in 0..marks.len() {
+        others.push(!marks[node])?;
+    }
+    Ok(others)
+}
+
+/// Marks at the nodes that are marked in the first and not in the second. O(n).
+pub fn without(alloc: Global, marks: &[bool], others: &[bool]) -> Result<Vec<bool>, AllocError>
+    requires { length others.now ≡ length marks.now }
+    ensures units { IfOk result (λ left. length left.items ≡ length marks.now) }
+    ensures left { IfOk result (λ left. (v : ℕ) → Marked left.items v ↔ (Marked marks.now v × ¬ Marked others.now v)) }
+{
+    let mut left = Vec::new(alloc);
+    for node in 0..marks.len() {
+        left.push(marks[node] && !others[node])?;
+    }
+    Ok(left)
+}
+
+/// The least marked node. O(n).
+pub fn first_marked(marks: &[bool]) -> Option<usize>
+    ensures { MatchOption result ((v : ℕ) → ¬ Marked marks.now v) (IsLeast nat_cmp (Marked marks.now)) }
+{
+    for node in 0..marks.len() {
+        if marks[node] {
+            return Some(node);
+        }
+    }
+    None
+}
+
+/// The least marked node of a list. O(its length).
+pub fn least_marked(nodes: &[usize], marks: &[bool]) -> Option<usize>
+    requires { All (λ v. v < length marks.now) nodes.now }
+    ensures { MatchOption result ((v : ℕ) → IsAmong v nodes.now → ¬ Marked marks.now v)
+        (IsLeast nat_cmp (λ v. IsAmong v nodes.now × Marked marks.now v)) }
+{
+    let mut least = marks.len();
+    'nodes: for node in nodes {
+        if marks[*node] && *node < least {
+            least = *node;
+        }
+    }
+    if least < marks.len() {
+        Some(least)
+    } else {
+        None
+    }
+}
+
+// Marks the nodes, and notes those that weren't marked.
+pub fn spread(
+    seen: &mut Vec<bool>,
+    noted: &mut Vec<usize>,
+    nodes: &[usize],
+) -> Result<(), AllocError>
+    requires { All (λ v. v < length seen.old.items) nodes.now }
+    ensures { OnOk result (IsSpread seen.old.items seen.new.items noted.old.items noted.new.items nodes.now) }
+{
+    'nodes: for node in nodes {
+        if !seen[*node] {
+            seen[*node] = true;
+            noted.push(*node)?;
+        }
+    }
+    Ok(())
+}

@@ -1,0 +1,116 @@
+//! Steps between nodes by rows.
+ghost use Rattle.std.specs.Prelude.{◌≡◌, ◌<◌, ◌↔◌, ◌⊎◌, ◌∷◌, [], ℕ, length, IfOk, OnOk};
+ghost use Rattle.std.specs.List.{All};
+ghost use Rattle.list_laws.specs.Members.{IsAmong};
+ghost use Rattle.index_rows.specs.Rows.{Marked, AllBelow, AreRowsOf, AreTurned, row as row_of};
+ghost use Rattle.index_rows.specs.Spreads.{IsNoted};
+
+use std::alloc::{AllocError, Global};
+
+/// The row of a node.
+pub fn row(rows: &[Vec<usize>], node: usize) -> &[usize]
+    requires { node < length rows.now }
+    ensures { result.now ≡ row_of rows.now node }
+{
+    &rows[node]
+}
+
+// So many rows, with nothing in them.
+fn no_rows(alloc: Global, count: usize) -> Result<Vec<Vec<usize>>, AllocError>
+    ensures units { IfOk result (λ rows. length rows.items ≡ count) }
+    ensures empty { IfOk result (λ rows. (u : ℕ) → row_of rows.items u ≡ []) }
+{
+    let mut rows = Vec::new(alloc);
+    for _node in 0..count {
+        rows.push(Vec::new(alloc))?;
+    }
+    Ok(rows)
+}
+
+// Adds the node to the row of `at`.
+fn note_at(rows: &mut Vec<Vec<usize>>, at: usize, node: usize) -> Result<(), AllocError>
+    requires { at < length rows.old.items }
+    ensures { OnOk result (IsNoted rows.old.items rows.new.items (at ∷ []) node) }
+{
+    rows[at].push(node)?;
+    Ok(())
+}
+
+// Adds the node to the rows of the nodes of a list.
+fn note(rows: &mut Vec<Vec<usize>>, nodes: &[usize], node: usize) -> Result<(), AllocError>
+    requires { All (λ v. v < length rows.old.items) nodes.now }
+    ensures { OnOk result (IsNoted rows.old.items rows.new.items nodes.now node) }
+{
+    'nodes: for other in nodes {
+        note_at(rows, *other, node)?;
+    }
+    Ok(())
+}
+
+/// The same steps the other way round. O(n) and the steps.
+pub fn turned(alloc: Global, rows: &[Vec<usize>]) -> Result<Vec<Vec<usize>>, AllocError>
+    requires { AllBelow (length rows.now) rows.now }
+    ensures turned { IfOk result (λ others. AreTurned rows.now others.items) }
+    ensures steps { IfOk result (λ others. (u v : ℕ) → IsAmong v (row_of others.items u)
+        ↔ IsAmong u (row_of rows.now v)) }
+    ensures rows { IfOk result (λ others. AreRowsOf (length rows.now) others.items) }
+{
+    let mut others = no_rows(alloc, rows.len())?;
+    'rows: for node in 0..rows.len() {
+        note(&mut others, row(rows, node), node)?;
+    }
+    Ok(others)
+}
+
+/// Rows with the steps of both. O(n) and the steps.
+pub fn joined(
+    alloc: Global,
+    first: &[Vec<usize>],
+    second: &[Vec<usize>],
+) -> Result<Vec<Vec<usize>>, AllocError>
+    requires first { AreRowsOf (length first.now) first.now }
+    requires second { AreRowsOf (length first.now) second.now }
+    ensures steps { IfOk result (λ rows. (u v : ℕ) → IsAmong v (row_of rows.items u)
+        ↔ (IsAmong v (row_of first.now u) ⊎ IsAmong v (row_of second.now u))) }
+    ensures rows { IfOk result (λ rows. AreRowsOf (length first.now) rows.items) }
+{
+    let mut rows = Vec::new(alloc);
+    'rows: for node in 0..first.len() {
+        let mut nodes = Vec::from_slice(alloc, row(first, node))?;
+        nodes.extend_from_slice(row(second, node))?;
+        rows.push(nodes)?;
+    }
+    Ok(rows)
+}
+
+// The marked nodes of a list.
+fn kept_nodes(alloc: Global, nodes: &[usize], marks: &[bool]) -> Result<Vec<usize>, AllocError>
+    requires { All (λ v. v < length marks.now) nodes.now }
+    ensures { IfOk result (λ kept. (v : ℕ) → IsAmong v kept.items ↔ (IsAmong v nodes.now × Marked marks.now v)) }
+{
+    let mut kept = Vec::new(alloc);
+    'nodes: for node in nodes {
+        if marks[*node] {
+            kept.push(*node)?;
+        }
+    }
+    Ok(kept)
+}
+
+/// Rows with those steps alone that lead to marked nodes. O(n) and the steps.
+pub fn kept(
+    alloc: Global,
+    rows: &[Vec<usize>],
+    marks: &[bool],
+) -> Result<Vec<Vec<usize>>, AllocError>
+    requires { AreRowsOf (length marks.now) rows.now }
+    ensures steps { IfOk result (λ kept. (u v : ℕ) → IsAmong v (row_of kept.items u)
+        ↔ (IsAmong v (row_of rows.now u) × Marked marks.now v)) }
+    ensures rows { IfOk result (λ kept. AreRowsOf (length marks.now) kept.items) }
+{
+    let mut kept = Vec::new(alloc);
+    'rows: for node in 0..rows.len() {
+        kept.push(kept_nodes(alloc, row(rows, node), marks)?)?;
+    }
+    Ok(kept)
+}

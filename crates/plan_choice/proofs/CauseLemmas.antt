@@ -1,0 +1,104 @@
+-- The causes of refusals, by marks and rows.
+use Rattle.std.proofs.Common.{◌≡◌, ℕ, ◌↔◌, Bool, false, IsTrue, List, arith}
+use Rattle.std.specs.Ordering.{nat_cmp}
+use Rattle.std.specs.declared.vec.Vec.{Vec}
+use Rattle.std.specs.declared.alloc.Global.{Global}
+use Rattle.list_laws.specs.Members.{IsAmong}
+use Rattle.index_rows.specs.Least.{IsLeast}
+use Rattle.index_rows.specs.Rows.{Marked, row}
+use Rattle.index_rows.specs.RowLaws.{row-below}
+use Rattle.start_order.specs.OrderLaws.{least_along}
+use Rattle.plan_choice.specs.declared.cases.PlanRows.{PlanRows}
+use Rattle.plan_choice.specs.Sets.{IsNeeded, AreInConflict}
+use Rattle.plan_choice.specs.Answers.{IsFirstPair, IsUnloadedNeed, LacksRequisite, AreNeededRivals, IsClearBelow}
+use Rattle.plan_choice.specs.RowCases.{case_of, count_of}
+use Rattle.plan_choice.specs.Marking.{AreMarksOf, ArePairsOf}
+use Rattle.plan_choice.specs.Soundness.{IsIdle}
+use Rattle.plan_choice.proofs.Fitting.{stable, untrue, is_false}
+
+pub pair_along : (R S : ℕ → ℕ → Type 0) → ((u v : ℕ) → R u v ↔ S u v) → (a b : ℕ) → IsFirstPair nat_cmp R a b → IsFirstPair nat_cmp S a b
+pair_along R S same a b f = record {
+  outer = least_along nat_cmp (λ x. (y : ℕ) × R x y) (λ x. (y : ℕ) × S x y) (λ x h. (h.0, (same x h.0).0 h.1)) (λ x h. (h.0, (same x h.0).1 h.1)) a f.outer;
+  inner = least_along nat_cmp (R a) (S a) (λ y. (same a y).0) (λ y. (same a y).1) b f.inner;
+}
+
+module _ (p : PlanRows) (needed : List Bool) (n : AreMarksOf (count_of p) (IsNeeded (case_of p)) needed) where
+  module _ (unloaded : List Bool) (left : (v : ℕ) → Marked unloaded v ↔ (Marked needed v × ¬ Marked p.loaded.items v)) where
+    pub all_loaded : ((v : ℕ) → ¬ Marked unloaded v) → (u : ℕ) → IsNeeded (case_of p) u → IsTrue ((case_of p).is_loaded u)
+    all_loaded none u h = stable ((case_of p).is_loaded u) (λ out. none u ((left u).1 ((n.marked u).1 h, out)))
+
+    pub first_unloaded : (u : ℕ) → IsLeast nat_cmp (Marked unloaded) u → IsLeast nat_cmp (IsUnloadedNeed nat_cmp (case_of p)) u
+    first_unloaded u l = least_along nat_cmp (Marked unloaded) (IsUnloadedNeed nat_cmp (case_of p))
+        (λ v m. (let k = (left v).0 m in ((n.marked v).0 k.0, is_false ((case_of p).is_loaded v) k.1)))
+        (λ v h. (left v).1 ((n.marked v).1 h.0, untrue ((case_of p).is_loaded v) h.1)) u l
+
+  module _ (idle : List Bool) (i : AreMarksOf (count_of p) (IsIdle (count_of p) (case_of p)) idle) where
+    pub lacking : (u v : ℕ) → (Marked needed u × IsAmong v (row p.requisites.items u) × Marked idle v) ↔ LacksRequisite nat_cmp (case_of p) u v
+    lacking u v = (
+      λ h. ((n.marked u).0 h.0, h.1, is_false ((case_of p).is_running v) ((i.marked v).0 h.2).1),
+      λ h. ((n.marked u).1 h.0, h.1, (i.marked v).1 (row-below (count_of p) p.requisites.items u v p.lawful_requisites.within h.1, untrue ((case_of p).is_running v) h.2)),
+    )
+
+    pub all_run : ((u v : ℕ) → ¬ (Marked needed u × IsAmong v (row p.requisites.items u) × Marked idle v)) → (u v : ℕ) → IsNeeded (case_of p) u → IsAmong v ((case_of p).requisites u) → IsTrue ((case_of p).is_running v)
+    all_run none u v h a = stable ((case_of p).is_running v) (λ out. none u v ((lacking u v).1 (h, a, is_false ((case_of p).is_running v) out)))
+
+  module _ (rivals : List (Vec ℕ Global)) (r : ArePairsOf (count_of p) (AreInConflict (case_of p)) rivals) where
+    pub rivalry : (u v : ℕ) → (Marked needed u × IsAmong v (row rivals u) × Marked needed v) ↔ AreNeededRivals nat_cmp (case_of p) u v
+    rivalry u v = (
+      λ h. ((n.marked u).0 h.0, (n.marked v).0 h.2, (r.pairs u v).0 h.1),
+      λ h. ((n.marked u).1 h.0, (r.pairs u v).1 h.2, (n.marked v).1 h.1),
+    )
+
+-- what was looked at so far
+module _ (p : PlanRows) where
+  pub clear_2 : IsTrue ((case_of p).is_loaded p.target) → IsClearBelow nat_cmp (case_of p) 2
+  clear_2 t = record {
+    target_loaded = λ l. t;
+    needs_loaded = λ l. absurd (omega arith);
+    may_start = λ l. absurd (omega arith);
+    requisites_run = λ l. absurd (omega arith);
+    at_peace = λ l. absurd (omega arith);
+    none_waits = λ l. absurd (omega arith);
+  }
+
+  pub clear_3 : IsTrue ((case_of p).is_loaded p.target) → ((u : ℕ) → IsNeeded (case_of p) u → IsTrue ((case_of p).is_loaded u)) → IsClearBelow nat_cmp (case_of p) 3
+  clear_3 t n = record {
+    target_loaded = λ l. t;
+    needs_loaded = λ l. n;
+    may_start = λ l. absurd (omega arith);
+    requisites_run = λ l. absurd (omega arith);
+    at_peace = λ l. absurd (omega arith);
+    none_waits = λ l. absurd (omega arith);
+  }
+
+  module _ (t : IsTrue ((case_of p).is_loaded p.target)) (n : (u : ℕ) → IsNeeded (case_of p) u → IsTrue ((case_of p).is_loaded u)) (m : (case_of p).refuses_manual_start p.target ≡ false) where
+    pub clear_4 : IsClearBelow nat_cmp (case_of p) 4
+    clear_4 = record {
+      target_loaded = λ l. t;
+      needs_loaded = λ l. n;
+      may_start = λ l. m;
+      requisites_run = λ l. absurd (omega arith);
+      at_peace = λ l. absurd (omega arith);
+      none_waits = λ l. absurd (omega arith);
+    }
+
+    pub clear_5 : ((u v : ℕ) → IsNeeded (case_of p) u → IsAmong v ((case_of p).requisites u) → IsTrue ((case_of p).is_running v)) → IsClearBelow nat_cmp (case_of p) 5
+    clear_5 r = record {
+      target_loaded = λ l. t;
+      needs_loaded = λ l. n;
+      may_start = λ l. m;
+      requisites_run = λ l. r;
+      at_peace = λ l. absurd (omega arith);
+      none_waits = λ l. absurd (omega arith);
+    }
+
+    pub clear_6 : ((u v : ℕ) → IsNeeded (case_of p) u → IsAmong v ((case_of p).requisites u) → IsTrue ((case_of p).is_running v))
+        → ((u v : ℕ) → IsNeeded (case_of p) u → IsNeeded (case_of p) v → ¬ AreInConflict (case_of p) u v) → IsClearBelow nat_cmp (case_of p) 6
+    clear_6 r a = record {
+      target_loaded = λ l. t;
+      needs_loaded = λ l. n;
+      may_start = λ l. m;
+      requisites_run = λ l. r;
+      at_peace = λ l. a;
+      none_waits = λ l. absurd (omega arith);
+    }

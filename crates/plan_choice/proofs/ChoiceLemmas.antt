@@ -1,0 +1,127 @@
+-- What is pulled, what loses, and what is chosen, by marks and rows.
+use Rattle.std.proofs.Common.{◌≡◌, ℕ, ◌<◌, ◌⊎◌, ◌↔◌, inl, inr, Bool, true, false, List, [], ◌∷◌, ◌++◌, length, get_or, set, refl, sym, ◌∙◌, subst, length-set, get_or-set_same, get_or-set_other}
+use Rattle.std.specs.Ordering.{nat_cmp}
+use Rattle.std.specs.declared.vec.Vec.{Vec}
+use Rattle.std.specs.declared.alloc.Global.{Global}
+use Rattle.std.proofs.lemmas.Bool.{cases_eq}
+use Rattle.list_laws.specs.Members.{IsAmong, IsAmong-append_left, IsAmong-append_right}
+use Rattle.name_closure.specs.Chains.{IsReached}
+use Rattle.name_closure.specs.ListedLaws.{Listed, Named}
+use Rattle.index_rows.specs.Rows.{Marked, row}
+use Rattle.index_rows.specs.ListLaws.{IsAmong-push_cases, below_cmp, cmp_below}
+use Rattle.index_rows.specs.MarkLaws.{marked_or_not}
+use Rattle.plan_choice.specs.declared.cases.PlanRows.{PlanRows}
+use Rattle.plan_choice.specs.Sets.{IsGood, Pulls, IsPulled, IsExtra, IsDropped, Keeps, IsChosen}
+use Rattle.plan_choice.specs.RowCases.{case_of, count_of}
+use Rattle.plan_choice.specs.Marking.{AreMarksOf, ArePairsOf, IsListOf}
+use Rattle.plan_choice.specs.Losing.{IsLoser, SetsMarks}
+use Rattle.plan_choice.proofs.Fitting.{marks_along}
+use Rattle.plan_choice.proofs.WishLemmas.{needs_source, source_needed}
+
+-- ---- marks that are set
+
+pub SetsMarks-none : (old : List Bool) (value : Bool) → SetsMarks old old [] value
+SetsMarks-none old value = record { units = refl; there = λ v h. absurd h; others = λ v h. refl }
+
+pub SetsMarks-more : (old marks : List Bool) (nodes more : List ℕ) (x : ℕ) (value : Bool) → x < length marks → more ≡ nodes ++ x ∷ [] → SetsMarks old marks nodes value → SetsMarks old (set marks x value) more value
+SetsMarks-more old marks nodes more x value lt e h = subst (λ l. SetsMarks old (set marks x value) l value) (sym e) (record {
+  units = length-set marks x value ∙ h.units;
+  there = λ v k. elim (cases_eq x v) [
+    | inl same ↦ subst (λ w. get_or (set marks x value) w false ≡ value) same (get_or-set_same marks x value false lt)
+    | inr ne ↦ elim (IsAmong-push_cases x v nodes k) [
+      | inl a ↦ get_or-set_other marks x v value false (λ f. ne (sym f)) ∙ h.there v a
+      | inr same ↦ absurd (ne same)
+    ]
+  ];
+  others = λ v out. get_or-set_other marks x v value false (λ f. out (IsAmong-append_right v nodes (x ∷ []) (inl (sym f)))) ∙ h.others v (λ a. out (IsAmong-append_left v nodes (x ∷ []) a));
+})
+
+-- marks of a row alone, and none again
+pub marks_of_row : (none marks : List Bool) (nodes : List ℕ) → ((v : ℕ) → ¬ Marked none v) → SetsMarks none marks nodes true → (v : ℕ) → Marked marks v ↔ IsAmong v nodes
+marks_of_row none marks nodes clean s v = (to, s.there v)
+  where
+    is_or_not : (xs : List ℕ) → IsAmong v xs ⊎ ¬ IsAmong v xs
+    is_or_not [] = inr (λ h. h)
+    is_or_not (x ∷ xs) = elim (cases_eq x v) [
+      | inl e ↦ inl (inl e)
+      | inr ne ↦ elim (is_or_not xs) [ inl a ↦ inl (inr a) | inr out ↦ inr (λ h. elim h [ inl e ↦ ne e | inr a ↦ out a ]) ]
+    ]
+
+    to : Marked marks v → IsAmong v nodes
+    to m = elim (is_or_not nodes) [ inl a ↦ a | inr out ↦ absurd (clean v (sym (s.others v out) ∙ m)) ]
+
+pub clean_again : (none marks after : List Bool) (nodes : List ℕ) → ((v : ℕ) → ¬ Marked none v) → SetsMarks none marks nodes true → SetsMarks marks after nodes false → (v : ℕ) → ¬ Marked after v
+clean_again none marks after nodes clean s t v m = by (marked_or_not marks v)
+  where
+    by : Marked marks v ⊎ ¬ Marked marks v → ⊥
+    by (inl k) = (let a = (marks_of_row none marks nodes clean s v).0 k in let e = t.there v a in unlike (get_or after v false) e m)
+      where
+        unlike : (b : Bool) → b ≡ false → b ≡ true → ⊥
+        unlike b f g = cc
+    by (inr out) = out (sym (t.others v (λ a. out (s.there v a))) ∙ m)
+
+module _ (p : PlanRows) where
+  -- ---- pulled
+
+  pub pulled_is : (good marks : List Bool) (wishes pulls : List (Vec ℕ Global)) → AreMarksOf (count_of p) (IsGood (case_of p)) good
+      → ((u v : ℕ) → IsAmong v (row wishes u) ↔ (IsAmong v (row p.wants.items u) × Marked good v))
+      → ((u v : ℕ) → IsAmong v (row pulls u) ↔ (IsAmong v (row p.needs.items u) ⊎ IsAmong v (row wishes u)))
+      → AreMarksOf (count_of p) (IsReached (Listed (p.target ∷ [])) (Named (row pulls))) marks → AreMarksOf (count_of p) (IsPulled (case_of p)) marks
+  pulled_is good marks wishes pulls g w s r =
+      marks_along (count_of p) (Listed (p.target ∷ [])) (Listed (p.target ∷ [])) (Named (row pulls)) (Pulls (case_of p)) marks r (λ u. (λ h. h, λ h. h))
+      (λ u v. (
+        λ h. elim ((s u v).0 h) [ inl a ↦ inl a | inr b ↦ (let k = (w u v).0 b in inr (k.0, (g.marked v).0 k.1)) ],
+        λ h. (s u v).1 (elim h [ inl a ↦ inl a | inr b ↦ inr ((w u v).1 (b.0, (g.marked v).1 b.1)) ]),
+      ))
+
+  -- ---- losers
+
+  -- one loses just where it is extra, and another extra one names it, and isn't named by it or is less
+  pub loser_is : (extra named : List Bool) (named_by : List (Vec ℕ Global)) (u : ℕ) → AreMarksOf (count_of p) (IsExtra (case_of p)) extra
+      → ((w v : ℕ) → IsAmong v (row named_by w) ↔ IsAmong w (row p.conflicts.items v)) → ((v : ℕ) → Marked named v ↔ IsAmong v (row p.conflicts.items u))
+      → Marked extra u → (v : ℕ) × (IsAmong v (row named_by u) × Marked extra v × (Marked named v → v < u)) → IsLoser (case_of p) u
+  loser_is extra named named_by u e back m x l = (
+    l.0,
+    record {
+      extra = (e.marked u).0 x;
+      other_extra = (e.marked l.0).0 l.1.1;
+      is_named = (back u l.0).0 l.1.0;
+      greater = λ a. below_cmp l.0 u (l.1.2 ((m l.0).1 a));
+    },
+  )
+
+  pub loser_was : (extra named : List Bool) (named_by : List (Vec ℕ Global)) (u : ℕ) → AreMarksOf (count_of p) (IsExtra (case_of p)) extra
+      → ((w v : ℕ) → IsAmong v (row named_by w) ↔ IsAmong w (row p.conflicts.items v)) → ((v : ℕ) → Marked named v ↔ IsAmong v (row p.conflicts.items u))
+      → IsLoser (case_of p) u → Marked extra u × ((v : ℕ) × (IsAmong v (row named_by u) × Marked extra v × (Marked named v → v < u)))
+  loser_was extra named named_by u e back m l =
+      ((e.marked u).1 l.1.extra, (l.0, ((back u l.0).1 l.1.is_named, (e.marked l.0).1 l.1.other_extra, λ k. cmp_below l.0 u (l.1.greater ((m l.0).0 k)))))
+
+  -- ---- chosen
+
+  module _ (needed_by : List (Vec ℕ Global)) (back : ArePairsOf (count_of p) (λ u v. IsAmong u ((case_of p).needs v)) needed_by) (pulled fallen rest : List Bool) (losers : List ℕ)
+      (is_pulled : AreMarksOf (count_of p) (IsPulled (case_of p)) pulled) (lost : IsListOf (count_of p) (IsLoser (case_of p)) losers)
+      (fell : (v : ℕ) → Marked fallen v ↔ IsReached (Listed losers) (Named (row needed_by)) v) (left : (v : ℕ) → Marked rest v ↔ (Marked pulled v × ¬ Marked fallen v)) where
+    dropped_fell : (v : ℕ) → IsDropped nat_cmp (case_of p) v → Marked fallen v
+    dropped_fell v d = (fell v).1 (source_needed p needed_by back losers v d.loser ((lost.members d.loser).1 (d.winner, d.lost)) d.needed)
+
+    fell_dropped : (v : ℕ) → Marked pulled v → Marked fallen v → IsDropped nat_cmp (case_of p) v
+    fell_dropped v m f =
+        let s = needs_source p needed_by back losers v ((fell v).0 f) in
+        let l = (lost.members s.0).0 s.1.0 in
+        record { pulled = (is_pulled.marked v).0 m; loser = s.0; winner = l.0; lost = l.1; needed = s.1.1 }
+
+    pub chosen_is : (marks : List Bool) (asked keeps : List (Vec ℕ Global)) → ((u v : ℕ) → IsAmong v (row asked u) ↔ (IsAmong v (row p.needs.items u) ⊎ IsAmong v (row p.wants.items u)))
+        → ((u v : ℕ) → IsAmong v (row keeps u) ↔ (IsAmong v (row asked u) × Marked rest v))
+        → AreMarksOf (count_of p) (IsReached (Listed (p.target ∷ [])) (Named (row keeps))) marks → AreMarksOf (count_of p) (IsChosen nat_cmp (case_of p)) marks
+    chosen_is marks asked keeps a k r =
+        marks_along (count_of p) (Listed (p.target ∷ [])) (Listed (p.target ∷ [])) (Named (row keeps)) (Keeps nat_cmp (case_of p)) marks r (λ u. (λ h. h, λ h. h))
+        (λ u v. (
+          λ h. (let b = (k u v).0 h in
+              let l = (left v).0 b.1 in
+              record { asked = (a u v).0 b.0; pulled = (is_pulled.marked v).0 l.0; stays = λ d. l.1 (dropped_fell v d) }),
+          λ h. (k u v).1 ((a u v).1 h.asked, (left v).1 ((is_pulled.marked v).1 h.pulled, λ f. h.stays (fell_dropped v ((is_pulled.marked v).1 h.pulled) f))),
+        ))
+
+-- marks of units by what a closure ensures of them
+pub marks_are : (count n : ℕ) (set : ℕ → Type 0) (marks : List Bool) → length marks ≡ n → n ≡ count → ((v : ℕ) → Marked marks v ↔ set v) → AreMarksOf count set marks
+marks_are count n set marks e f m = record { units = e ∙ f; marked = m }

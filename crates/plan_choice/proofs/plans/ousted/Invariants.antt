@@ -1,0 +1,7 @@
+use Rattle.std.proofs.Common.{ℕ, ◌<◌, ◌↔◌}
+use Rattle.list_laws.specs.Members.{IsAmong}
+use Rattle.index_rows.specs.Rows.{Marked, row as row_of}
+use Rattle.plan_choice.proofs.plans.ousted.Given as goal
+
+abbrev pub invariant-units : goal.invariant-units
+invariant-units l = (u : ℕ) → IsAmong u l.units.items ↔ ((u < l.unit) × (Marked l.outside u × ((v : ℕ) × (IsAmong v (row_of l.rivals u) × Marked l.chosen v))))

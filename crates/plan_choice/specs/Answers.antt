@@ -1,0 +1,82 @@
+-- Which answer a plan is: what stops and starts, or the first refusal whose cause stands.
+-- Source: this project's own.
+use Rattle.std.specs.Prelude.{◌≡◌, ◌<◌, ℕ, false, IsTrue, List}
+use Rattle.std.specs.declared.cmp.Ordering.{Ordering}
+use Rattle.list_laws.specs.Members.{IsAmong}
+use Rattle.name_closure.specs.Chains.{IsClosure}
+use Rattle.index_rows.specs.Least.{IsLeast}
+use Rattle.start_order.specs.StartOrder.{IsStartList, IsStuck, IsCycle}
+use Rattle.plan_choice.specs.Case.{Case}
+use Rattle.plan_choice.specs.Sets.{IsNeeded, AreInConflict, Precedes, Starts, IsOusted, TakesAlong}
+
+-- Why there is no plan, in the order in which the causes are looked at.
+pub data Refusal (N : Type 0) : Type 0 where
+  -- the target isn't loaded
+  target_fault : N → Refusal N
+  -- a needed unit isn't loaded
+  need_fault : N → Refusal N
+  -- the target refuses to be started by hand
+  manual_start : Refusal N
+  -- a needed unit has a requisite that doesn't run
+  requisite : N → N → Refusal N
+  -- two needed units conflict
+  conflict : N → N → Refusal N
+  -- units that are to start wait for each other
+  cycle : List N → Refusal N
+
+abbrev pub rank : {N : Type 0} → Refusal N → ℕ
+rank (target_fault u) = 1
+rank (need_fault u) = 2
+rank manual_start = 3
+rank (requisite u v) = 4
+rank (conflict u v) = 5
+rank (cycle list) = 6
+
+module _ {N : Type 0} (order : N → N → Ordering) where
+  -- the first pair of a relation, by the first unit and then by the second
+  pub record IsFirstPair (relation : N → N → Type 0) (u v : N) : Type 0 where
+    pub outer : IsLeast order (λ x. (y : N) × relation x y) u
+    pub inner : IsLeast order (relation u) v
+
+  module _ (c : Case N) where
+    abbrev pub IsUnloadedNeed : N → Type 0
+    IsUnloadedNeed u = IsNeeded c u × (c.is_loaded u ≡ false)
+
+    abbrev pub LacksRequisite : N → N → Type 0
+    LacksRequisite u v = IsNeeded c u × IsAmong v (c.requisites u) × (c.is_running v ≡ false)
+
+    abbrev pub AreNeededRivals : N → N → Type 0
+    AreNeededRivals u v = IsNeeded c u × IsNeeded c v × AreInConflict c u v
+
+    -- started units that wait for each other
+    abbrev pub WaitsForever : N → Type 0
+    WaitsForever = IsStuck (Starts order c) (Precedes c)
+
+    -- the cause of the refusal stands, with the units that it names
+    abbrev pub Stands : Refusal N → Type 0
+    Stands (target_fault u) = (u ≡ c.target) × (c.is_loaded c.target ≡ false)
+    Stands (need_fault u) = IsLeast order IsUnloadedNeed u
+    Stands manual_start = IsTrue (c.refuses_manual_start c.target)
+    Stands (requisite u v) = IsFirstPair LacksRequisite u v
+    Stands (conflict u v) = IsFirstPair AreNeededRivals u v
+    Stands (cycle list) = IsCycle order WaitsForever (Precedes c) list
+
+    -- None of the causes of lesser rank stands.
+    pub record IsClearBelow (k : ℕ) : Type 0 where
+      pub target_loaded : 1 < k → IsTrue (c.is_loaded c.target)
+      pub needs_loaded : 2 < k → (u : N) → IsNeeded c u → IsTrue (c.is_loaded u)
+      pub may_start : 3 < k → c.refuses_manual_start c.target ≡ false
+      pub requisites_run : 4 < k → (u v : N) → IsNeeded c u → IsAmong v (c.requisites u) → IsTrue (c.is_running v)
+      pub at_peace : 5 < k → (u v : N) → IsNeeded c u → IsNeeded c v → ¬ AreInConflict c u v
+      pub none_waits : 6 < k → (u : N) → ¬ WaitsForever u
+
+    -- its cause stands, and none that is looked at before it
+    pub record IsRefusal (refusal : Refusal N) : Type 0 where
+      pub stands : Stands refusal
+      pub clear : IsClearBelow (rank refusal)
+
+    -- no cause stands; what stops is listed in order, and what starts in the order in which it starts
+    pub record IsPlan (stops starts : List N) : Type 0 where
+      pub clear : IsClearBelow 7
+      pub stopped : IsClosure (IsOusted order c) (TakesAlong order c) order stops
+      pub started : IsStartList order (Starts order c) (Precedes c) starts

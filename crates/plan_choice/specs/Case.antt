@@ -1,0 +1,19 @@
+-- What a plan is made from: the target, and what is known of each unit. Units are of any type, so names or numbers.
+-- Source: systemd.unit(5), "[Unit] Section Options".
+use Rattle.std.specs.Prelude.{Bool, List}
+
+pub record Case (N : Type 0) : Type 0 where
+  pub target : N
+  pub is_loaded : N → Bool
+  pub refuses_manual_start : N → Bool
+  pub is_running : N → Bool
+  -- what the unit requires or binds to
+  pub needs : N → List N
+  pub wants : N → List N
+  pub requisites : N → List N
+  -- what the unit's own settings conflict with
+  pub conflicts : N → List N
+  -- what is to start before the unit
+  pub predecessors : N → List N
+  -- what the unit stops with: what it requires, has as requisite, binds to or is part of
+  pub stops_with : N → List N

@@ -1,0 +1,12 @@
+pub mod Case
+pub mod Sets
+pub mod Answers
+pub mod SetLaws
+pub mod AnswerLaws
+pub mod RowCases
+pub mod RowRefusals
+pub mod Marking
+pub mod Soundness
+pub mod Losing
+pub mod NamedCases
+pub mod NamedPlans

@@ -1,0 +1,93 @@
+-- The sets of units of which a plan speaks. Each closure is one of `name_closure`'s: what is reached from sources by steps.
+-- Source: systemd.unit(5), "Wants=", "Requires=", "Requisite=", "BindsTo=", "PartOf=", "Conflicts=";
+-- which wishes are good and who loses a conflict is this project's own.
+use Rattle.std.specs.Prelude.{◌≡◌, ◌⊎◌, IsTrue, [], ◌∷◌}
+use Rattle.std.specs.declared.cmp.Ordering.{Ordering}
+use Rattle.std.specs.declared.cmp.Ordering.TheVariants.{Less}
+use Rattle.list_laws.specs.Members.{IsAmong}
+use Rattle.name_closure.specs.Chains.{IsReached}
+use Rattle.name_closure.specs.ListedLaws.{Listed, Named}
+use Rattle.plan_choice.specs.Case.{Case}
+
+module _ {N : Type 0} (c : Case N) where
+  -- v is u, or u needs it, itself or by what it needs
+  abbrev pub Needs : N → N → Type 0
+  Needs u v = IsReached (Listed (u ∷ [])) (Named c.needs) v
+
+  abbrev pub IsNeeded : N → Type 0
+  IsNeeded = Needs c.target
+
+  -- either names the other
+  abbrev pub AreInConflict : N → N → Type 0
+  AreInConflict u v = IsAmong v (c.conflicts u) ⊎ IsAmong u (c.conflicts v)
+
+  -- A unit that may be pulled by a mere wish: all that it needs is loaded, has its requisites running,
+  -- and conflicts with nothing that the target needs.
+  pub record IsGood (u : N) : Type 0 where
+    pub all_loaded : (v : N) → Needs u v → IsTrue (c.is_loaded v)
+    pub requisites_run : (v w : N) → Needs u v → IsAmong w (c.requisites v) → IsTrue (c.is_running w)
+    pub at_peace : (v w : N) → Needs u v → IsNeeded w → ¬ AreInConflict v w
+
+  -- u needs v, or wants v, which is good
+  abbrev pub Pulls : N → N → Type 0
+  Pulls u v = IsAmong v (c.needs u) ⊎ (IsAmong v (c.wants u) × IsGood v)
+
+  abbrev pub IsPulled : N → Type 0
+  IsPulled = IsReached (Listed (c.target ∷ [])) Pulls
+
+  -- pulled, and not needed by the target
+  pub record IsExtra (u : N) : Type 0 where
+    pub pulled : IsPulled u
+    pub beyond : ¬ IsNeeded u
+
+  -- v precedes u: u starts after it
+  abbrev pub Precedes : N → N → Type 0
+  Precedes v u = IsAmong v (c.predecessors u)
+
+module _ {N : Type 0} (order : N → N → Ordering) (c : Case N) where
+  -- Of two extra units in conflict the one that is named loses; where each names the other, the greater one.
+  pub record LosesTo (loser winner : N) : Type 0 where
+    pub extra : IsExtra c loser
+    pub other_extra : IsExtra c winner
+    pub is_named : IsAmong loser (c.conflicts winner)
+    pub greater : IsAmong winner (c.conflicts loser) → order winner loser ≡ Less
+
+  -- a loser, or pulled and in need of one
+  pub record IsDropped (u : N) : Type 0 where
+    pub pulled : IsPulled c u
+    pub loser : N
+    pub winner : N
+    pub lost : LosesTo loser winner
+    pub needed : Needs c u loser
+
+  -- u needs or wants v, which is pulled and not dropped
+  pub record Keeps (u v : N) : Type 0 where
+    pub asked : IsAmong v (c.needs u) ⊎ IsAmong v (c.wants u)
+    pub pulled : IsPulled c v
+    pub stays : ¬ IsDropped v
+
+  -- what the target reaches inside what is pulled and not dropped
+  abbrev pub IsChosen : N → Type 0
+  IsChosen = IsReached (Listed (c.target ∷ [])) Keeps
+
+  -- what the plan starts
+  pub record Starts (u : N) : Type 0 where
+    pub chosen : IsChosen u
+    pub rests : ¬ IsTrue (c.is_running u)
+
+  -- what the plan may stop
+  pub record IsOutside (u : N) : Type 0 where
+    pub runs : IsTrue (c.is_running u)
+    pub unchosen : ¬ IsChosen u
+
+  -- a running unit outside that conflicts with a chosen one
+  pub record IsOusted (u : N) : Type 0 where
+    pub outside : IsOutside u
+    pub rival : N
+    pub chosen : IsChosen rival
+    pub conflict : AreInConflict c u rival
+
+  -- where v stops, the running unit u outside stops with it
+  pub record TakesAlong (v u : N) : Type 0 where
+    pub outside : IsOutside u
+    pub tied : IsAmong v (c.stops_with u)

@@ -1,0 +1,68 @@
+//! Why there is no plan: what the target needs is looked at first.
+ghost use Rattle.std.specs.Prelude.{◌≡◌, ◌<◌, ℕ, length, IfOk, IsTrue, MatchOption};
+ghost use Rattle.std.specs.Ordering.{nat_cmp};
+ghost use Rattle.list_laws.specs.Members.{IsAmong};
+ghost use Rattle.index_rows.specs.Rows.{Marked, AreRowsOf, row as row_of};
+ghost use Rattle.plan_choice.specs.RowCases.{case_of, count_of};
+ghost use Rattle.plan_choice.specs.RowRefusals.{refusal_of};
+ghost use Rattle.plan_choice.specs.Sets.{IsNeeded, AreInConflict};
+ghost use Rattle.plan_choice.specs.Answers.{IsFirstPair, IsRefusal, IsClearBelow};
+ghost use Rattle.plan_choice.specs.Marking.{AreMarksOf, ArePairsOf};
+ghost use Rattle.plan_choice.specs.Soundness.{IsIdle};
+
+use crate::answers::RowRefusal;
+use crate::cases::PlanRows;
+use index_rows::{first_marked, least_marked, row, without};
+use std::alloc::{AllocError, Global};
+
+// The first pair of a marked unit and a marked one of its row.
+fn first_pair(sources: &[bool], rows: &[Vec<usize>], marks: &[bool]) -> Option<(usize, usize)>
+    requires sources { length sources.now ≡ length marks.now }
+    requires rows { AreRowsOf (length marks.now) rows.now }
+    ensures { MatchOption result
+        ((u v : ℕ) → ¬ (Marked sources.now u × IsAmong v (row_of rows.now u) × Marked marks.now v))
+        (λ pair. IsFirstPair nat_cmp (λ u v. Marked sources.now u × IsAmong v (row_of rows.now u) × Marked marks.now v)
+        pair.0 pair.1) }
+{
+    'sources: for unit in 0..sources.len() {
+        if sources[unit] {
+            if let Some(other) = least_marked(row(rows, unit), marks) {
+                return Some((unit, other));
+            }
+        }
+    }
+    None
+}
+
+// The first cause that stands of those that are looked at before what starts.
+pub fn refused(
+    alloc: Global,
+    case: &PlanRows,
+    idle: &[bool],
+    needed: &[bool],
+    rivals: &[Vec<usize>],
+) -> Result<Option<RowRefusal>, AllocError>
+    requires idle { AreMarksOf (count_of case.now) (IsIdle (count_of case.now) (case_of case.now)) idle.now }
+    requires needed { AreMarksOf (count_of case.now) (IsNeeded (case_of case.now)) needed.now }
+    requires rivals { ArePairsOf (count_of case.now) (AreInConflict (case_of case.now)) rivals.now }
+    ensures { IfOk result (λ answer. MatchOption answer (IsClearBelow nat_cmp (case_of case.now) 6)
+        (λ refusal. IsRefusal nat_cmp (case_of case.now) (refusal_of refusal))) }
+{
+    if !case.loaded[case.target] {
+        return Ok(Some(RowRefusal::Target(case.target)));
+    }
+    let unloaded = without(alloc, needed, &case.loaded)?;
+    if let Some(unit) = first_marked(&unloaded) {
+        return Ok(Some(RowRefusal::Need(unit)));
+    }
+    if case.refuses_manual_start[case.target] {
+        return Ok(Some(RowRefusal::ManualStart));
+    }
+    if let Some((unit, requisite)) = first_pair(needed, &case.requisites, idle) {
+        return Ok(Some(RowRefusal::Requisite(unit, requisite)));
+    }
+    match first_pair(needed, rivals, needed) {
+        None => Ok(None),
+        Some((unit, rival)) => Ok(Some(RowRefusal::Conflict(unit, rival))),
+    }
+}

@@ -1,0 +1,111 @@
+//! The plan, or the first refusal whose cause stands.
+ghost use Rattle.std.specs.Prelude.{◌≡◌, ℕ, length, IfOk, IfErr};
+ghost use Rattle.std.specs.Ordering.{nat_cmp};
+ghost use Rattle.list_laws.specs.Members.{IsAmong};
+ghost use Rattle.index_rows.specs.Rows.{Marked, AreRowsOf, row as row_of};
+ghost use Rattle.name_closure.specs.Chains.{IsClosure};
+ghost use Rattle.plan_choice.specs.RowCases.{case_of, count_of};
+ghost use Rattle.plan_choice.specs.RowRefusals.{refusal_of};
+ghost use Rattle.plan_choice.specs.Sets.{IsNeeded, AreInConflict, IsChosen, Starts, IsOusted, TakesAlong};
+ghost use Rattle.plan_choice.specs.Answers.{IsClearBelow, IsRefusal, IsPlan};
+ghost use Rattle.plan_choice.specs.Marking.{AreMarksOf, ArePairsOf, IsListOf};
+ghost use Rattle.plan_choice.specs.Soundness.{IsIdle};
+
+use crate::answers::{RowPlan, RowRefusal};
+use crate::cases::PlanRows;
+use crate::causes::refused;
+use crate::choices::chosen;
+use crate::wishes::rivals;
+use index_rows::{closure, kept, least_marked, reached, row, turned, unmarked, without};
+use start_order::start_order;
+use std::alloc::{AllocError, Global};
+
+// The running units outside that conflict with a chosen one.
+fn ousted(
+    alloc: Global,
+    outside: &[bool],
+    rivals: &[Vec<usize>],
+    chosen: &[bool],
+) -> Result<Vec<usize>, AllocError>
+    requires units { length chosen.now ≡ length outside.now }
+    requires rivals { AreRowsOf (length chosen.now) rivals.now }
+    ensures { IfOk result (λ units. IsListOf (length chosen.now) (λ u. Marked outside.now u
+        × ((v : ℕ) × (IsAmong v (row_of rivals.now u) × Marked chosen.now v))) units.items) }
+{
+    let mut units = Vec::new(alloc);
+    'units: for unit in 0..outside.len() {
+        if outside[unit] && least_marked(row(rivals, unit), chosen).is_some() {
+            units.push(unit)?;
+        }
+    }
+    Ok(units)
+}
+
+// What stops, rising: what is ousted, and what stops with it.
+fn stops(
+    alloc: Global,
+    case: &PlanRows,
+    rivals: &[Vec<usize>],
+    chosen: &[bool],
+) -> Result<Vec<usize>, AllocError>
+    requires rivals { ArePairsOf (count_of case.now) (AreInConflict (case_of case.now)) rivals.now }
+    requires chosen { AreMarksOf (count_of case.now) (IsChosen nat_cmp (case_of case.now)) chosen.now }
+    ensures { IfOk result (λ units. IsClosure (IsOusted nat_cmp (case_of case.now))
+        (TakesAlong nat_cmp (case_of case.now)) nat_cmp units.items) }
+{
+    let outside = without(alloc, &case.running, chosen)?;
+    let ousted = ousted(alloc, &outside, rivals, chosen)?;
+    let tied = turned(alloc, &case.stops_with)?;
+    let takes = kept(alloc, &tied, &outside)?;
+    Ok(closure(alloc, &takes, &ousted)?)
+}
+
+// The plan where nothing is wrong with what the target needs, or the cycle of what is to start.
+fn plan_of(
+    alloc: Global,
+    case: &PlanRows,
+    idle: &[bool],
+    needed: &[bool],
+    rivals: &[Vec<usize>],
+) -> Result<Result<RowPlan, RowRefusal>, AllocError>
+    requires idle { AreMarksOf (count_of case.now) (IsIdle (count_of case.now) (case_of case.now)) idle.now }
+    requires needed { AreMarksOf (count_of case.now) (IsNeeded (case_of case.now)) needed.now }
+    requires rivals { ArePairsOf (count_of case.now) (AreInConflict (case_of case.now)) rivals.now }
+    requires clear { IsClearBelow nat_cmp (case_of case.now) 6 }
+    ensures plan { IfOk result (λ answer. IfOk answer (λ plan. IsPlan nat_cmp (case_of case.now) plan.stops.items
+        plan.starts.items)) }
+    ensures all { IfOk result (λ answer. IfOk answer (λ plan. (u : ℕ) → Starts nat_cmp (case_of case.now) u
+        → IsAmong u plan.starts.items)) }
+    ensures refusal { IfOk result (λ answer. IfErr answer (λ refusal. IsRefusal nat_cmp (case_of case.now)
+        (refusal_of refusal))) }
+{
+    let chosen = chosen(alloc, case, idle, needed, rivals)?;
+    let starting = without(alloc, &chosen, &case.running)?;
+    match start_order(alloc, &starting, &case.predecessors)? {
+        Err(cycle) => Ok(Err(RowRefusal::Cycle(cycle))),
+        Ok(starts) => {
+            let stops = stops(alloc, case, rivals, &chosen)?;
+            Ok(Ok(RowPlan { stops, starts }))
+        }
+    }
+}
+
+/// The plan of numbered units, or why there is none: the first refusal whose cause stands.
+///
+/// O(n log n) and the rows.
+pub fn plan_rows(alloc: Global, case: &PlanRows) -> Result<Result<RowPlan, RowRefusal>, AllocError>
+    ensures plan { IfOk result (λ answer. IfOk answer (λ plan. IsPlan nat_cmp (case_of case.now) plan.stops.items
+        plan.starts.items)) }
+    ensures all { IfOk result (λ answer. IfOk answer (λ plan. (u : ℕ) → Starts nat_cmp (case_of case.now) u
+        → IsAmong u plan.starts.items)) }
+    ensures refusal { IfOk result (λ answer. IfErr answer (λ refusal. IsRefusal nat_cmp (case_of case.now)
+        (refusal_of refusal))) }
+{
+    let needed = reached(alloc, &case.needs, &[case.target])?;
+    let rivals = rivals(alloc, case)?;
+    let idle = unmarked(alloc, &case.running)?;
+    match refused(alloc, case, &idle, &needed, &rivals)? {
+        Some(refusal) => Ok(Err(refusal)),
+        None => Ok(plan_of(alloc, case, &idle, &needed, &rivals)?),
+    }
+}

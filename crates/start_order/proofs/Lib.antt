@@ -1,0 +1,5 @@
+pub mod Keys
+pub mod Waiting
+pub mod Rings
+pub mod States
+pub mod Left

@@ -1,0 +1,9 @@
+use Rattle.std.proofs.Common.{arith, ◌∙◌}
+use Rattle.std.proofs.lemmas.List.{get_or_default}
+use Rattle.list_laws.specs.Members.{contains_from_among}
+use Rattle.start_order.proofs.cycles.position_of.Goals as goal
+
+pub returns : goal.returns
+returns c =
+    let k = contains_from_among c.args.node c.args.list.now c.requires in
+    absurd (c.loop-i.invariant k.0 (omega (arith, k.1)) (get_or_default c.args.list.now k.0 0 c.args.node k.1 ∙ k.2))

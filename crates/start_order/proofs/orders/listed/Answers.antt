@@ -1,0 +1,47 @@
+use Rattle.std.proofs.Common.{◌≡◌, ◌<◌, ◌≤◌, ℕ, true, List, [], ◌∷◌, ◌++◌, arith, length, get_or, set, subst, sym}
+use Rattle.std.specs.List.{All}
+use Rattle.index_rows.specs.Rows.{times, row as row_of}
+use Rattle.index_rows.specs.MarkLaws.{unset-set}
+use Rattle.index_rows.specs.RowLaws.{All-row}
+use Rattle.start_order.proofs.States.{IsState, IsState-begin, step, done, unmarked_of, within_of, enough_of}
+use Rattle.start_order.proofs.orders.listed.Goals as goal
+
+pub starts-init : goal.starts-init
+starts-init c =
+    IsState-begin _ _ _ _ _ _ _ _ c.in_ok-standing.ensures.none c.deref.ensures.value c.deref-2.ensures.value c.new-list.ensures.items c.requires.before.one_each
+    c.in_ok-counts.ensures.units c.in_ok-counts.ensures.counts c.in_ok-free.ensures
+
+pub index_mut-requires : goal.index_mut-requires
+index_mut-requires c = let a = within_of _ _ _ _ _ _ c.starts.invariant c.in-Some.node c.in-Some.ensures.least.0 in omega (arith, a, c.starts.invariant.units, c.starts.standing.ok)
+
+pub row-requires : goal.row-requires
+row-requires c = let a = within_of _ _ _ _ _ _ c.starts.invariant c.in-Some.node c.in-Some.ensures.least.0 in omega (arith, a, c.requires.after.one_each)
+
+pub lower-requires-clause-nodes : goal.lower-requires-clause-nodes
+lower-requires-clause-nodes c =
+    let P : List ℕ → Type 0 = λ r. All (λ v. v < length c.args.chosen.now) r in
+    subst P (sym c.row.ensures) (All-row _ _ c.in-Some.node c.requires.after.within)
+
+pub lower-requires-clause-enough : goal.lower-requires-clause-enough
+lower-requires-clause-enough c v =
+    let P : List ℕ → Type 0 = λ r. times v r ≤ get_or c.starts.counts.items v 0 in
+    let e = c.requires.turned c.in-Some.node v in
+    subst P (sym c.row.ensures) (enough_of _ _ _ _ _ _ c.starts.invariant c.in-Some.node c.in-Some.ensures.least.0 v _ e)
+
+pub starts-smaller : goal.starts-smaller
+starts-smaller c =
+    let a = within_of _ _ _ _ _ _ c.starts.invariant c.in-Some.node c.in-Some.ensures.least.0 in
+    let e = unset-set c.starts.standing.items c.in-Some.node (omega (arith, a, c.starts.invariant.units)) (unmarked_of _ _ _ _ _ _ c.starts.invariant c.in-Some.node c.in-Some.ensures.least.0) in
+    omega (arith, e)
+
+pub starts-preserved : goal.starts-preserved
+starts-preserved c =
+    let items : c.push.new.self.items ≡ c.starts.list.items ++ c.in-Some.node ∷ [] = c.in_ok-push.ensures.items in
+    let P : List ℕ → Type 0 = λ l. IsState c.args.chosen.now c.args.before.now (set c.starts.standing.items c.in-Some.node true) c.lower.new.counts.items l c.lower.new.free.keys in
+    let Q : List ℕ → Type 0 = λ r. (v : ℕ) → times v r ≡ times c.in-Some.node (row_of c.args.before.now v) in
+    let turned = subst Q (sym c.row.ensures) (c.requires.turned c.in-Some.node) in
+    subst P (sym items)
+    (step _ _ _ _ _ _ c.starts.invariant c.in-Some.node c.in-Some.ensures.least.0 c.in-Some.ensures.least.1 _ _ _ _ c.in-Some.ensures.rest c.in_ok-lower.ensures turned)
+
+pub returns-clause-list : goal.returns-clause-list
+returns-clause-list c = done _ _ _ _ _ _ c.starts.invariant c.in_default.ensures.least

@@ -1,0 +1,115 @@
+//! The cycle to which one comes from the least stuck node.
+ghost use Rattle.std.specs.Prelude.{◌≡◌, ◌<◌, ◌≤◌, ℕ, slice_index, length, IfOk};
+ghost use Rattle.std.specs.List.{All};
+ghost use Rattle.std.specs.Ordering.{nat_cmp};
+ghost use Rattle.list_laws.specs.Members.{IsAmong};
+ghost use Rattle.index_rows.specs.Rows.{Marked, AllBelow};
+ghost use Rattle.index_rows.specs.Least.{IsLeast};
+ghost use Rattle.start_order.specs.StartOrder.{IsBlocker, IsCycle};
+ghost use Rattle.start_order.specs.Precedes.{Precedes};
+ghost use Rattle.start_order.specs.Walks.{IsWalk};
+
+use index_rows::{no_marks, row};
+use std::alloc::{AllocError, Global};
+
+// The least stuck node of `nodes`, which has one.
+fn least_stuck(stuck: &[bool], nodes: &[usize]) -> usize
+    requires nodes { All (λ v. v < length stuck.now) nodes.now }
+    requires some { (v : ℕ) × (Marked stuck.now v × IsAmong v nodes.now) }
+    ensures { IsLeast nat_cmp (λ w. Marked stuck.now w × IsAmong w nodes.now) result }
+{
+    let mut least = stuck.len();
+    'nodes: for other in nodes {
+        if stuck[*other] && *other < least {
+            least = *other;
+        }
+    }
+    least
+}
+
+// The least stuck node before a stuck one.
+fn blocker(stuck: &[bool], before: &[Vec<usize>], node: usize) -> usize
+    requires units { length before.now ≡ length stuck.now }
+    requires rows { AllBelow (length stuck.now) before.now }
+    requires node { node < length stuck.now }
+    requires blocked { (v : ℕ) × (Marked stuck.now v × Precedes before.now v node) }
+    ensures { IsBlocker nat_cmp (Marked stuck.now) (Precedes before.now) result node }
+{
+    least_stuck(stuck, row(before, node))
+}
+
+// The walk from the least stuck node up to a node that it met already: what it met, and that node.
+fn walk(
+    alloc: Global,
+    stuck: &[bool],
+    before: &[Vec<usize>],
+    start: usize,
+) -> Result<(Vec<usize>, usize), AllocError>
+    requires units { length before.now ≡ length stuck.now }
+    requires rows { AllBelow (length stuck.now) before.now }
+    requires start { IsLeast nat_cmp (Marked stuck.now) start }
+    requires blocked { (u : ℕ) → Marked stuck.now u → (v : ℕ) × (Marked stuck.now v × Precedes before.now v u) }
+    ensures walk { IfOk result (λ r. IsWalk (Marked stuck.now) (Precedes before.now) r.0.items r.1) }
+    ensures met { IfOk result (λ r. IsAmong r.1 r.0.items) }
+{
+    let mut seen = no_marks(alloc, stuck.len())?;
+    let mut met = Vec::new(alloc);
+    let mut next = start;
+    'walk: while !seen[next] {
+        met.push(next)?;
+        seen[next] = true;
+        next = blocker(stuck, before, next);
+    }
+    Ok((met, next))
+}
+
+// Where `node`, which is in the list, stands first.
+fn position_of(list: &[usize], node: usize) -> usize
+    requires { IsAmong node list.now }
+    ensures within { result < length list.now }
+    ensures at { slice_index list.now result ≡ node }
+{
+    for (i, other) in list.iter().enumerate() {
+        if *other == node {
+            return i;
+        }
+    }
+    list.len()
+}
+
+// Where the least number of a list stands.
+fn least_at(list: &[usize]) -> usize
+    requires { 0 < length list.now }
+    ensures within { result < length list.now }
+    ensures least { (k : ℕ) → k < length list.now → slice_index list.now result ≤ slice_index list.now k }
+{
+    let mut at = 0;
+    for i in 0..list.len() {
+        if list[i] < list[at] {
+            at = i;
+        }
+    }
+    at
+}
+
+// The cycle to which one comes from `start`, the least stuck node.
+pub fn cycle_from(
+    alloc: Global,
+    stuck: &[bool],
+    before: &[Vec<usize>],
+    start: usize,
+) -> Result<Vec<usize>, AllocError>
+    requires units { length before.now ≡ length stuck.now }
+    requires rows { AllBelow (length stuck.now) before.now }
+    requires start { IsLeast nat_cmp (Marked stuck.now) start }
+    requires blocked { (u : ℕ) → Marked stuck.now u → (v : ℕ) × (Marked stuck.now v × Precedes before.now v u) }
+    ensures { IfOk result (λ cycle. IsCycle nat_cmp (Marked stuck.now) (Precedes before.now) cycle.items) }
+{
+    let (met, next) = walk(alloc, stuck, before, start)?;
+    let (_, round) = met.split_at(position_of(&met, next));
+    let mut ring = Vec::from_slice(alloc, round)?;
+    ring.reverse();
+    let first = least_at(&ring);
+    ring.rotate_left(first);
+    Ok(ring)
+}
