@@ -50,7 +50,7 @@ pub trait Loads<K: Key> {
     /// The nodes that are named in what was loaded for one. Those can be loaded too.
     fn names(&self, alloc: Global, one: &Self::Loaded) -> Result<Vec<K>, AllocError>
         ensures named { IfOk result (λ names. names.items ≡ named self.now one.now) }
-        ensures nodes { IfOk result (λ names. (node : K) → is_loaded self.now node one.now
+        ensures nodes { IfOk result (λ names. (node : K) → is_node self.now node → is_loaded self.now node one.now
             → All (is_node self.now) names.items) };
 
     // One thing at most is loaded for a node.

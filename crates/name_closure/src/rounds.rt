@@ -45,6 +45,7 @@ pub fn add_loaded<K: Key, L: Loads<K>>(
 ) -> Result<Vec<K>, AllocError>
     requires rising { IsStrictlySortedBy K.cmp (keys found.old) }
     requires found { AreLoaded (L.is_loaded loader.now) found.old.entries }
+    requires nodes { All (L.is_node loader.now) (keys_of pairs.items) }
     requires pairs { AreLoaded (L.is_loaded loader.now) pairs.items }
     ensures rising { IsStrictlySortedBy K.cmp (keys found.new) }
     ensures entries { OnOk result (AreLoaded (L.is_loaded loader.now) found.new.entries) }

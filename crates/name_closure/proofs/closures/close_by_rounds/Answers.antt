@@ -29,6 +29,11 @@ load_round-requires g c = c.requires.ready c.rounds.fresh c.rounds.invariant.way
 pub add_loaded-requires-clause-found : goal.add_loaded-requires-clause-found
 add_loaded-requires-clause-found g c = c.rounds.invariant.way.loaded
 
+pub add_loaded-requires-clause-nodes : goal.add_loaded-requires-clause-nodes
+add_loaded-requires-clause-nodes g c =
+    let loads = rw c.in_ok-pairs.was at (c.requires.loads c.rounds.fresh c.load_round.result c.load_round.ensures) in
+    rw loads.in_order c.rounds.invariant.way.fresh_nodes
+
 pub add_loaded-requires-clause-pairs : goal.add_loaded-requires-clause-pairs
 add_loaded-requires-clause-pairs g c =
     let loads = rw c.in_ok-pairs.was at (c.requires.loads c.rounds.fresh c.load_round.result c.load_round.ensures) in

@@ -1,4 +1,5 @@
-use Rattle.std.proofs.Common.{◌≡◌, arith}
+use Rattle.std.proofs.Common.{◌≡◌, ap, arith}
+use Rattle.std.specs.Map.{keys_of}
 use Rattle.std.proofs.lemmas.Grind.{common_steps}
 use Rattle.std.proofs.lemmas.List.Elements.{All-rest, All-append}
 use Rattle.name_closure.proofs.Insertions.{added_loaded, added_joins, holds_next, whole_more}
@@ -11,9 +12,15 @@ loop-node-preserved g c =
     let pair : g.row.K.Denot × g.row.L-Loaded.Denot = (c.in-Some.node, c.in-Some.one) in
     let steps = c.in-Some.ensures.steps.0 in
     let is = holds_next (λ p. is_loaded p.0 p.1) pair c.loop-node.node-iterator.rest.items c.next.new.self.rest.items steps before.left in
+    let is_node = g.L.Loads.is_node c.args.loader.now in
+    let keys_left = ap keys_of steps in
+    let node =
+    holds_next is_node c.in-Some.node (keys_of c.loop-node.node-iterator.rest.items) (keys_of c.next.new.self.rest.items) keys_left before.left_nodes in
     record {
       rising = c.insert.ensures.ordered;
       whole = whole_more c.loop-node.yielded pair c.loop-node.node-iterator.rest.items c.next.new.self.rest.items c.args.pairs.items steps before.whole;
+      left_nodes =
+          All-rest is_node c.in-Some.node (keys_of c.next.new.self.rest.items) (keys_of c.loop-node.node-iterator.rest.items) keys_left before.left_nodes;
       left = All-rest (λ p. is_loaded p.0 p.1) pair c.next.new.self.rest.items c.loop-node.node-iterator.rest.items steps before.left;
       entries =
           added_loaded g.K.Ord.cmp g.met.K.Key.exact c.in-Some.node c.in-Some.one c.loop-node.found.entries c.insert.new.self.entries
@@ -24,7 +31,7 @@ loop-node-preserved g c =
       names = grind (arith, common_steps);
       nodes =
           rw c.in_ok-append.ensures.items
-          (All-append (g.L.Loads.is_node c.args.loader.now) c.loop-node.names.items c.in_ok-more.more.items before.nodes (c.in_ok-more.ensures.nodes c.in-Some.node is));
+          (All-append is_node c.loop-node.names.items c.in_ok-more.more.items before.nodes (c.in_ok-more.ensures.nodes c.in-Some.node node is));
     }
 
 pub returns-clause-joined : goal.returns-clause-joined

@@ -10,6 +10,7 @@ abbrev pub invariant-loop-node : goal.invariant-loop-node
 invariant-loop-node g l = record {
   rising : IsStrictlySortedBy g.K.Ord.cmp (keys_of l.found.entries);
   whole : l.yielded ++ l.node-iterator.rest.items ≡ l.fn.pairs.items;
+  left_nodes : All (g.L.Loads.is_node l.loader) (keys_of l.node-iterator.rest.items);
   left : AreLoaded (g.L.Loads.is_loaded l.loader) l.node-iterator.rest.items;
   entries : AreLoaded (g.L.Loads.is_loaded l.loader) l.found.entries;
   joined : AreJoined (keys_of l.fn.found.entries) (keys_of l.yielded) (keys_of l.found.entries);
