@@ -25,10 +25,13 @@ module _ {X : Type 0} (P : X → Type 0) where
   holds_among (y ∷ ys) x a (inl e) = subst P e (All-head P y ys a)
   holds_among (y ∷ ys) x a (inr h) = holds_among ys x (All-tail P y ys a) h
 
+  holds_of_all : (xs : List X) → ((x : X) → IsAmong x xs → P x) → All P xs
+  holds_of_all [] each = All-nil P
+  holds_of_all (x ∷ xs) each = All-cons P x xs (each x (inl refl)) (holds_of_all xs (λ y h. each y (inr h)))
+
   -- what holds of all of a list holds of all of a part of it
-  pub holds_of_part : (xs ys : List X) → All P xs → ((x : X) → IsAmong x ys → IsAmong x xs) → All P ys
-  holds_of_part xs [] a part = All-nil P
-  holds_of_part xs (y ∷ ys) a part = All-cons P y ys (holds_among xs y a (part y (inl refl))) (holds_of_part xs ys a (λ x h. part x (inr h)))
+  holds_of_part : (xs ys : List X) → All P xs → ((x : X) → IsAmong x ys → IsAmong x xs) → All P ys
+  holds_of_part xs ys a part = holds_of_all ys (λ x h. holds_among xs x a (part x h))
 
 module _ {N U : Type 0} where
   -- a pair with the key
@@ -52,6 +55,7 @@ module _ {N U : Type 0} (order : N → N → Ordering) (is_node : N → Type 0) 
   -- between two rounds: what is found is loaded, and all that it names is found or fresh
   pub record IsUnderWay (found : List (N × U)) (fresh : List N) : Type 0 where
     pub loaded : AreLoaded is_loaded found
+    pub nodes : All is_node (keys_of found)
     pub rising : IsStrictlySortedBy order (keys_of found)
     pub fresh_rising : IsStrictlySortedBy order fresh
     pub fresh_nodes : All is_node fresh
@@ -62,11 +66,12 @@ module _ {N U : Type 0} (order : N → N → Ordering) (is_node : N → Type 0) 
     pub done : (n m : N) → IsAmong n (keys_of found) → Leads n m → IsAmong m (keys_of found) ⊎ IsAmong m fresh
 
   pub under_way_start : (found : List (N × U)) (fresh : List N) → found ≡ [] → IsStrictlySortedBy order (keys_of found) → All is_node sources → AreNew order (keys_of found) sources fresh → IsUnderWay found fresh
-  under_way_start found fresh e rising nodes new = record {
+  under_way_start found fresh e rising starts new = record {
     loaded = subst (AreLoaded is_loaded) (sym e) (All-nil (λ p. is_loaded p.0 p.1));
+    nodes = holds_of_all is_node (keys_of found) (λ n h. absurd (none n h));
     rising = rising;
     fresh_rising = new.rising;
-    fresh_nodes = holds_of_part is_node sources fresh nodes new.origin;
+    fresh_nodes = holds_of_part is_node sources fresh starts new.origin;
     apart = new.apart;
     sound = λ n h. absurd (none n h);
     fresh_sound = λ n h. record { steps = 0; chain = new.origin n h };
@@ -111,11 +116,12 @@ module _ {N U : Type 0} (order : N → N → Ordering) (is_node : N → Type 0) 
 
       pub under_way_more : (names fresh' : List N) → AreLoaded is_loaded found' → IsStrictlySortedBy order (keys_of found')
           → names ≡ flat_map (λ p. named p.1) pairs → All is_node names → AreNew order (keys_of found') names fresh' → IsUnderWay found' fresh'
-      under_way_more names fresh' loaded rising said nodes new = record {
+      under_way_more names fresh' loaded rising said named_nodes new = record {
         loaded = loaded;
+        nodes = holds_of_all is_node (keys_of found') found_node;
         rising = rising;
         fresh_rising = new.rising;
-        fresh_nodes = holds_of_part is_node names fresh' nodes new.origin;
+        fresh_nodes = holds_of_part is_node names fresh' named_nodes new.origin;
         apart = new.apart;
         sound = λ n h. elim (back n h) [ inl a ↦ way.sound n a | inr b ↦ way.fresh_sound n b ];
         fresh_sound = λ n h. names_reached n (named_by (λ (p : N × U). named p.1) pairs n (subst (IsAmong n) said (new.origin n h)));
@@ -125,6 +131,9 @@ module _ {N U : Type 0} (order : N → N → Ordering) (is_node : N → Type 0) 
           | inr b ↦ new.took m (subst (IsAmong m) (sym said) (leads_named n m b l))
         ];
       }
+        where
+          found_node : (n : N) → IsAmong n (keys_of found') → is_node n
+          found_node n h = elim (back n h) [ inl a ↦ holds_among is_node (keys_of found) n way.nodes a | inr b ↦ holds_among is_node fresh n way.fresh_nodes b ]
 
     module _ (total : IsTotalOrder order) (exact : (x y : N) → order x y ≡ Equal → x ≡ y) where
       -- as many are found as were found and fresh

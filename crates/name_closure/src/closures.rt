@@ -32,6 +32,7 @@ pub fn close_loaded<K: Key, L: Loads<K>>(
     ensures closure { IfOk result (λ found. IsClosure (Listed sources.now)
         (LeadsByLoad (L.is_loaded loader.now) (L.named loader.now)) K.cmp (keys found)) }
     ensures loaded { IfOk result (λ found. AreLoaded (L.is_loaded loader.now) found.entries) }
+    ensures nodes { IfOk result (λ found. All (L.is_node loader.now) (keys found)) }
     ensures room { IfOk result (λ found. length found.entries ≤ limit) }
     ensures over { IfErr result (λ fault. OnTooMany fault (HasOver (Listed sources.now)
         (LeadsByLoad (L.is_loaded loader.now) (L.named loader.now)) K.cmp limit)) }
@@ -68,6 +69,7 @@ pub fn close_by_rounds<
     ensures closure { IfOk result (λ found. IsClosure (Listed sources.now)
         (LeadsByLoad (L.is_loaded loader.now) (L.named loader.now)) K.cmp (keys found)) }
     ensures loaded { IfOk result (λ found. AreLoaded (L.is_loaded loader.now) found.entries) }
+    ensures nodes { IfOk result (λ found. All (L.is_node loader.now) (keys found)) }
     ensures room { IfOk result (λ found. length found.entries ≤ limit) }
     ensures over { IfErr result (λ fault. OnTooMany fault (HasOver (Listed sources.now)
         (LeadsByLoad (L.is_loaded loader.now) (L.named loader.now)) K.cmp limit)) }

@@ -77,6 +77,9 @@ returns-clause-closure g c =
 pub returns-clause-loaded : goal.returns-clause-loaded
 returns-clause-loaded g c = c.rounds.invariant.way.loaded
 
+pub returns-clause-nodes : goal.returns-clause-nodes
+returns-clause-nodes g c = c.rounds.invariant.way.nodes
+
 pub returns-clause-not_over : goal.returns-clause-not_over
 returns-clause-not_over g c =
     let loader = c.args.loader.now in
