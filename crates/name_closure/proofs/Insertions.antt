@@ -3,7 +3,7 @@ use Rattle.std.specs.Prelude.{◌≡◌, ◌⊎◌, ◌+◌, suc, List, [], ◌�
 use Rattle.std.specs.BTreeMap.{insert_entry}
 use Rattle.std.specs.BTreeSet.{insert_key}
 use Rattle.std.specs.Cmp.{IsTotalOrder}
-use Rattle.std.specs.List.{AllByRecursion}
+use Rattle.std.specs.List.{All, AllByRecursion}
 use Rattle.std.specs.List.Sorted.{IsStrictlySortedBy}
 use Rattle.std.specs.Map.{keys_of}
 use Rattle.std.specs.Ordering.{match_ordering, ordering_reverse}
@@ -11,18 +11,18 @@ use Rattle.std.specs.declared.cmp.Ordering.{Ordering}
 use Rattle.std.specs.declared.cmp.Ordering.TheVariants.{Less, Equal, Greater}
 use Rattle.std.proofs.Common.{inl, inr, refl, sym, arith, ap, ◌∙◌, subst, append_assoc}
 use Rattle.std.proofs.lemmas.List.{map-append}
+use Rattle.std.proofs.lemmas.List.Elements.{All-nil, All-cons, All-head, All-tail}
 use Rattle.list_laws.specs.Members.{IsAmong, IsAmong-append_cases, IsAmong-append_left, IsAmong-append_right}
 use Rattle.name_closure.specs.Growth.{AreJoined}
 use Rattle.name_closure.specs.LimitLaws.{not_in_tail}
-use Rattle.name_closure.specs.Loading.{each_with}
+use Rattle.name_closure.specs.Loading.{AreLoaded}
 
 module _ {N : Type 0} (order : N → N → Ordering) where
   put_kept : (k : N) (ks : List N) (n : N) → IsAmong n ks → IsAmong n (insert_key order ks k)
   put_kept k [] n h = absurd h
   put_kept k (x ∷ xs) n h = by (order k x) h (put_kept k xs n)
     where
-      by : (r : Ordering) → IsAmong n (x ∷ xs) → (IsAmong n xs → IsAmong n (insert_key order xs k))
-          → IsAmong n (match_ordering r (k ∷ x ∷ xs) (x ∷ xs) (x ∷ insert_key order xs k))
+      by : (r : Ordering) → IsAmong n (x ∷ xs) → (IsAmong n xs → IsAmong n (insert_key order xs k)) → IsAmong n (match_ordering r (k ∷ x ∷ xs) (x ∷ xs) (x ∷ insert_key order xs k))
       by Less a more = inr a
       by Equal a more = a
       by Greater (inl a) more = inl a
@@ -37,8 +37,7 @@ module _ {N : Type 0} (order : N → N → Ordering) where
       behind (inl a) = inl (inr a)
       behind (inr a) = inr a
 
-      by : (r : Ordering) → IsAmong n (match_ordering r (k ∷ x ∷ xs) (x ∷ xs) (x ∷ insert_key order xs k))
-          → (IsAmong n (insert_key order xs k) → IsAmong n xs ⊎ (k ≡ n)) → IsAmong n (x ∷ xs) ⊎ (k ≡ n)
+      by : (r : Ordering) → IsAmong n (match_ordering r (k ∷ x ∷ xs) (x ∷ xs) (x ∷ insert_key order xs k)) → (IsAmong n (insert_key order xs k) → IsAmong n xs ⊎ (k ≡ n)) → IsAmong n (x ∷ xs) ⊎ (k ≡ n)
       by Less (inl a) more = inr a
       by Less (inr a) more = inl a
       by Equal a more = inl a
@@ -50,8 +49,7 @@ module _ {N : Type 0} (order : N → N → Ordering) where
     put_there k [] = inl refl
     put_there k (x ∷ xs) = by (order k x) refl (put_there k xs)
       where
-        by : (r : Ordering) → order k x ≡ r → IsAmong k (insert_key order xs k)
-            → IsAmong k (match_ordering r (k ∷ x ∷ xs) (x ∷ xs) (x ∷ insert_key order xs k))
+        by : (r : Ordering) → order k x ≡ r → IsAmong k (insert_key order xs k) → IsAmong k (match_ordering r (k ∷ x ∷ xs) (x ∷ xs) (x ∷ insert_key order xs k))
         by Less e more = inl refl
         by Equal e more = inl (sym (exact k x e))
         by Greater e more = inr more
@@ -61,27 +59,10 @@ module _ {N : Type 0} (order : N → N → Ordering) where
     put_length k [] d = refl
     put_length k (x ∷ xs) d = by (order k x) refl (put_length k xs (λ h. d (inr h)))
       where
-        by : (r : Ordering) → order k x ≡ r → length (insert_key order xs k) ≡ suc (length xs)
-            → length (match_ordering r (k ∷ x ∷ xs) (x ∷ xs) (x ∷ insert_key order xs k)) ≡ suc (suc (length xs))
+        by : (r : Ordering) → order k x ≡ r → length (insert_key order xs k) ≡ suc (length xs) → length (match_ordering r (k ∷ x ∷ xs) (x ∷ xs) (x ∷ insert_key order xs k)) ≡ suc (suc (length xs))
         by Less e more = refl
         by Equal e more = absurd (d (inl (sym (exact k x e))))
         by Greater e more = ap suc more
-
-    -- an entry is put where its key is put
-    pub put_entry : {U : Type 0} (loaded : N → U) (k : N) (ks : List N)
-        → insert_entry order (each_with loaded ks) k (loaded k) ≡ each_with loaded (insert_key order ks k)
-    put_entry loaded k [] = refl
-    put_entry {U} loaded k (x ∷ xs) = by (order k x) refl (put_entry loaded k xs)
-      where
-        entry : N → N × U
-        entry n = (n, loaded n)
-
-        by : (r : Ordering) → order k x ≡ r → insert_entry order (each_with loaded xs) k (loaded k) ≡ each_with loaded (insert_key order xs k)
-            → match_ordering r (entry k ∷ entry x ∷ each_with loaded xs) ((x, loaded k) ∷ each_with loaded xs) (entry x ∷ insert_entry order (each_with loaded xs) k (loaded k))
-            ≡ each_with loaded (match_ordering r (k ∷ x ∷ xs) (x ∷ xs) (x ∷ insert_key order xs k))
-        by Less e more = refl
-        by Equal e more = ap (λ v. (x, v) ∷ each_with loaded xs) (ap loaded (exact k x e))
-        by Greater e more = ap (λ v. entry x ∷ v) more
 
     -- the keys with one more are those of both
     pub put_joins : (k : N) (ks : List N) → AreJoined ks (k ∷ []) (insert_key order ks k)
@@ -98,8 +79,7 @@ module _ {N : Type 0} (order : N → N → Ordering) where
     all_put P k [] p a = (p, tt)
     all_put P k (x ∷ xs) p a = by (order k x) (all_put P k xs p a.1)
       where
-        by : (r : Ordering) → AllByRecursion P (insert_key order xs k)
-            → AllByRecursion P (match_ordering r (k ∷ x ∷ xs) (x ∷ xs) (x ∷ insert_key order xs k))
+        by : (r : Ordering) → AllByRecursion P (insert_key order xs k) → AllByRecursion P (match_ordering r (k ∷ x ∷ xs) (x ∷ xs) (x ∷ insert_key order xs k))
         by Less more = (p, a)
         by Equal more = a
         by Greater more = (a.0, more)
@@ -113,8 +93,7 @@ module _ {N : Type 0} (order : N → N → Ordering) where
     put_rising k [] s = (tt, tt)
     put_rising k (x ∷ xs) s = by (order k x) refl (put_rising k xs s.1)
       where
-        by : (r : Ordering) → order k x ≡ r → IsStrictlySortedBy order (insert_key order xs k)
-            → IsStrictlySortedBy order (match_ordering r (k ∷ x ∷ xs) (x ∷ xs) (x ∷ insert_key order xs k))
+        by : (r : Ordering) → order k x ≡ r → IsStrictlySortedBy order (insert_key order xs k) → IsStrictlySortedBy order (match_ordering r (k ∷ x ∷ xs) (x ∷ xs) (x ∷ insert_key order xs k))
         by Less e more = ((e, all_above k x xs e s.0), s)
         by Equal e more = s
         by Greater e more = (all_put (λ y. order x y ≡ Less) k xs (total.antisymm x k ∙ ap ordering_reverse e) s.0, more)
@@ -145,8 +124,7 @@ module _ {N : Type 0} (order : N → N → Ordering) where
       )
 
       -- as many as both have, where they have none in common
-      pub length-together : (xs ys : List N) → IsStrictlySortedBy order xs → ((n : N) → IsAmong n xs → ¬ IsAmong n ys)
-          → length (together xs ys) ≡ length xs + length ys
+      pub length-together : (xs ys : List N) → IsStrictlySortedBy order xs → ((n : N) → IsAmong n xs → ¬ IsAmong n ys) → length (together xs ys) ≡ length xs + length ys
       unfolding together IsStrictlySortedBy
       length-together [] ys s d = omega arith
       length-together (x ∷ xs) ys s d =
@@ -157,54 +135,57 @@ module _ {N : Type 0} (order : N → N → Ordering) where
           absent : ¬ IsAmong x (together xs ys)
           absent h = elim ((together_joins xs ys x).0 h) [ inl a ↦ not_in_tail order total x xs s a | inr b ↦ d x (inl refl) b ]
 
-module _ {N U : Type 0} (loaded : N → U) where
-  pub keys_of-each_with : (ks : List N) → keys_of (each_with loaded ks) ≡ ks
-  keys_of-each_with [] = refl
-  keys_of-each_with (k ∷ ks) = ap (λ v. k ∷ v) (keys_of-each_with ks)
+module _ {N U : Type 0} (order : N → N → Ordering) where
+  -- an entry is put where its key is put
+  keys_with : (k : N) (v : U) (es : List (N × U)) → keys_of (insert_entry order es k v) ≡ insert_key order (keys_of es) k
+  keys_with k v [] = refl
+  keys_with k v (e ∷ es) = by (order k e.0) (keys_with k v es)
+    where
+      by : (r : Ordering) → keys_of (insert_entry order es k v) ≡ insert_key order (keys_of es) k
+          → keys_of (match_ordering r ((k, v) ∷ e ∷ es) ((e.0, v) ∷ es) (e ∷ insert_entry order es k v)) ≡ match_ordering r (k ∷ e.0 ∷ keys_of es) (e.0 ∷ keys_of es) (e.0 ∷ insert_key order (keys_of es) k)
+      by Less more = refl
+      by Equal more = refl
+      by Greater more = ap (λ ks. e.0 ∷ ks) more
 
-  pub each_itself : (pairs : List (N × U)) (ks : List N) → pairs ≡ each_with loaded ks → pairs ≡ each_with loaded (keys_of pairs)
-  each_itself pairs ks is = is ∙ ap (each_with loaded) (sym (ap keys_of is ∙ keys_of-each_with ks))
-
-  -- a pair was taken from those that are left
-  pub whole_more : (taken : List (N × U)) (p : N × U) (left left' all : List (N × U)) → left ≡ p ∷ left' → taken ++ left ≡ all
-      → (taken ++ p ∷ []) ++ left' ≡ all
-  whole_more taken p left left' all e whole = append_assoc taken (p ∷ []) left' ∙ ap (λ v. taken ++ v) (sym e) ∙ whole
-
-  -- beside each node stands what is loaded for it
-  loaded_at : (xs : List (N × U)) (p : N × U) (ys : List (N × U)) → xs ++ p ∷ ys ≡ each_with loaded (keys_of (xs ++ p ∷ ys)) → p.1 ≡ loaded p.0
-  loaded_at [] p ys e = cc
-  loaded_at (x ∷ xs) p ys e = loaded_at xs p ys cc
-
-  pub loaded_there : (taken : List (N × U)) (p : N × U) (left left' all : List (N × U)) → left ≡ p ∷ left' → taken ++ left ≡ all
-      → all ≡ each_with loaded (keys_of all) → p.1 ≡ loaded p.0
-  loaded_there taken p left left' all e whole each =
-      let same : taken ++ p ∷ left' ≡ all = ap (λ v. taken ++ v) (sym e) ∙ whole in
-      loaded_at taken p left' (same ∙ each ∙ ap (λ v. each_with loaded (keys_of v)) (sym same))
-
-  -- a node was put among those found, with what is loaded for it
-  module _ (order : N → N → Ordering) (exact : (x y : N) → order x y ≡ Equal → x ≡ y) (node : N) (one : U) (found found' : List (N × U)) (is : one ≡ loaded node)
-      (entries : found ≡ each_with loaded (keys_of found)) (put : found' ≡ insert_entry order found node one) where
-    put_each : found' ≡ each_with loaded (insert_key order (keys_of found) node)
-    put_each = put ∙ ap (λ v. insert_entry order found node v) is ∙ ap (λ v. insert_entry order v node (loaded node)) entries ∙ put_entry order exact loaded node (keys_of found)
-
-    keys_put : keys_of found' ≡ insert_key order (keys_of found) node
-    keys_put = ap keys_of put_each ∙ keys_of-each_with (insert_key order (keys_of found) node)
-
-    pub added_entries : found' ≡ each_with loaded (keys_of found')
-    added_entries = put_each ∙ ap (each_with loaded) (sym keys_put)
-
-    pub added_joins : (before : List N) (added : List (N × U)) → AreJoined before (keys_of added) (keys_of found)
-        → AreJoined before (keys_of (added ++ (node, one) ∷ [])) (keys_of found')
-    added_joins before added joined n = (
-      λ h. elim ((put_joins order exact node (keys_of found) n).0 (subst (IsAmong n) keys_put h)) [
-        | inl a ↦ elim ((joined n).0 a) [ inl b ↦ inl b | inr b ↦ inr (subst (IsAmong n) (sym keys_more) (IsAmong-append_left n (keys_of added) (node ∷ []) b)) ]
-        | inr o ↦ inr (subst (IsAmong n) (sym keys_more) (IsAmong-append_right n (keys_of added) (node ∷ []) o))
-      ],
-      λ h. subst (IsAmong n) (sym keys_put) ((put_joins order exact node (keys_of found) n).1 (elim h [
-        | inl a ↦ inl ((joined n).1 (inl a))
-        | inr b ↦ elim (IsAmong-append_cases n (keys_of added) (node ∷ []) (subst (IsAmong n) keys_more b)) [ inl a ↦ inl ((joined n).1 (inr a)) | inr o ↦ inr o ]
-      ])),
-    )
+  module _ (exact : (x y : N) → order x y ≡ Equal → x ≡ y) where
+    -- what holds of the entries and of one more holds of all
+    all_with : (P : N × U → Type 0) (k : N) (v : U) (es : List (N × U)) → P (k, v) → All P es → All P (insert_entry order es k v)
+    all_with P k v [] p a = All-cons P (k, v) [] p (All-nil P)
+    all_with P k v (e ∷ es) p a = by (order k e.0) refl (all_with P k v es p (All-tail P e es a))
       where
-        keys_more : keys_of (added ++ (node, one) ∷ []) ≡ keys_of added ++ node ∷ []
-        keys_more = map-append (λ (p : N × U). p.0) added ((node, one) ∷ [])
+        by : (r : Ordering) → order k e.0 ≡ r → All P (insert_entry order es k v) → All P (match_ordering r ((k, v) ∷ e ∷ es) ((e.0, v) ∷ es) (e ∷ insert_entry order es k v))
+        by Less is more = All-cons P (k, v) (e ∷ es) p a
+        by Equal is more = All-cons P (e.0, v) es (subst (λ n. P (n, v)) (exact k e.0 is) p) (All-tail P e es a)
+        by Greater is more = All-cons P e (insert_entry order es k v) (All-head P e es a) more
+
+    -- a node was put among those found, with what is loaded for it
+    module _ (node : N) (one : U) (found found' : List (N × U)) (put : found' ≡ insert_entry order found node one) where
+      pub added_loaded : (is_loaded : N → U → Type 0) → is_loaded node one → AreLoaded is_loaded found → AreLoaded is_loaded found'
+      added_loaded is_loaded is a = subst (AreLoaded is_loaded) (sym put) (all_with (λ p. is_loaded p.0 p.1) node one found is a)
+
+      keys_put : keys_of found' ≡ insert_key order (keys_of found) node
+      keys_put = ap keys_of put ∙ keys_with node one found
+
+      pub added_joins : (before : List N) (added : List (N × U)) → AreJoined before (keys_of added) (keys_of found) → AreJoined before (keys_of (added ++ (node, one) ∷ [])) (keys_of found')
+      added_joins before added joined n = (
+        λ h. elim ((put_joins order exact node (keys_of found) n).0 (subst (IsAmong n) keys_put h)) [
+          | inl a ↦ elim ((joined n).0 a) [ inl b ↦ inl b | inr b ↦ inr (subst (IsAmong n) (sym keys_more) (IsAmong-append_left n (keys_of added) (node ∷ []) b)) ]
+          | inr o ↦ inr (subst (IsAmong n) (sym keys_more) (IsAmong-append_right n (keys_of added) (node ∷ []) o))
+        ],
+        λ h. subst (IsAmong n) (sym keys_put) ((put_joins order exact node (keys_of found) n).1 (elim h [
+          | inl a ↦ inl ((joined n).1 (inl a))
+          | inr b ↦ elim (IsAmong-append_cases n (keys_of added) (node ∷ []) (subst (IsAmong n) keys_more b)) [ inl a ↦ inl ((joined n).1 (inr a)) | inr o ↦ inr o ]
+        ])),
+      )
+        where
+          keys_more : keys_of (added ++ (node, one) ∷ []) ≡ keys_of added ++ node ∷ []
+          keys_more = map-append (λ (p : N × U). p.0) added ((node, one) ∷ [])
+
+module _ {X : Type 0} where
+  -- one was taken from those that are left
+  pub whole_more : (taken : List X) (x : X) (left left' all : List X) → left ≡ x ∷ left' → taken ++ left ≡ all → (taken ++ x ∷ []) ++ left' ≡ all
+  whole_more taken x left left' all e whole = append_assoc taken (x ∷ []) left' ∙ ap (λ v. taken ++ v) (sym e) ∙ whole
+
+  -- what holds of all that are left holds of the one that is taken
+  pub holds_next : (P : X → Type 0) (x : X) (left left' : List X) → left ≡ x ∷ left' → All P left → P x
+  holds_next P x left left' e a = All-head P x left' (subst (All P) e a)

@@ -22,8 +22,7 @@ module _ {N : Type 0} (order : N → N → Ordering) (total : IsTotalOrder order
   found_by k [] h = cc (h)
   found_by k (x ∷ xs) h = by (is_at (order k) x) refl h (found_by k xs)
     where
-      by : (b : Bool) → is_at (order k) x ≡ b → (b || list_any (is_at (order k)) xs) ≡ true → (list_any (is_at (order k)) xs ≡ true
-          → IsAmong k xs) → IsAmong k (x ∷ xs)
+      by : (b : Bool) → is_at (order k) x ≡ b → (b || list_any (is_at (order k)) xs) ≡ true → (list_any (is_at (order k)) xs ≡ true → IsAmong k xs) → IsAmong k (x ∷ xs)
       by true e g more = inl (sym (exact k x (is_equal (order k x) e)))
       by false e g more = inr (more g)
 
@@ -48,8 +47,7 @@ module _ {N : Type 0} (order : N → N → Ordering) (total : IsTotalOrder order
   unknown_apart found [] n h a = h
   unknown_apart found (x ∷ xs) n h a = by (list_any (is_at (order x)) found) refl h (λ o. unknown_apart found xs n o a)
     where
-      by : (b : Bool) → list_any (is_at (order x)) found ≡ b → IsAmong n (cond (not b) (x ∷ unknown found xs) (unknown found xs))
-          → ¬ IsAmong n (unknown found xs) → ⊥
+      by : (b : Bool) → list_any (is_at (order x)) found ≡ b → IsAmong n (cond (not b) (x ∷ unknown found xs) (unknown found xs)) → ¬ IsAmong n (unknown found xs) → ⊥
       by true e o later = later o
       by false e (inl is) later = true≢false (sym (found_there x found (subst (λ v. IsAmong v found) (sym is) a)) ∙ e)
       by false e (inr o) later = later o
@@ -58,8 +56,7 @@ module _ {N : Type 0} (order : N → N → Ordering) (total : IsTotalOrder order
   unknown_origin found [] n h = h
   unknown_origin found (x ∷ xs) n h = by (list_any (is_at (order x)) found) h (unknown_origin found xs n)
     where
-      by : (b : Bool) → IsAmong n (cond (not b) (x ∷ unknown found xs) (unknown found xs)) → (IsAmong n (unknown found xs) → IsAmong n xs)
-          → IsAmong n (x ∷ xs)
+      by : (b : Bool) → IsAmong n (cond (not b) (x ∷ unknown found xs) (unknown found xs)) → (IsAmong n (unknown found xs) → IsAmong n xs) → IsAmong n (x ∷ xs)
       by true o more = inr (more o)
       by false (inl is) more = inl is
       by false (inr o) more = inr (more o)
@@ -68,8 +65,7 @@ module _ {N : Type 0} (order : N → N → Ordering) (total : IsTotalOrder order
   unknown_took found [] n h = absurd h
   unknown_took found (x ∷ xs) n h = by (list_any (is_at (order x)) found) refl h (unknown_took found xs n)
     where
-      behind : (b : Bool) → IsAmong n found ⊎ IsAmong n (unknown found xs)
-          → IsAmong n found ⊎ IsAmong n (cond (not b) (x ∷ unknown found xs) (unknown found xs))
+      behind : (b : Bool) → IsAmong n found ⊎ IsAmong n (unknown found xs) → IsAmong n found ⊎ IsAmong n (cond (not b) (x ∷ unknown found xs) (unknown found xs))
       behind b (inl a) = inl a
       behind true (inr a) = inr a
       behind false (inr a) = inr (inr a)
@@ -81,8 +77,7 @@ module _ {N : Type 0} (order : N → N → Ordering) (total : IsTotalOrder order
       by b e (inr o) more = behind b (more o)
 
   -- nodes that were sorted, freed of repeats, and of those that are found
-  pub news_are : (E : N → N → Bool) → IsEquivalence E → ((x y : N) → E x y ≡ is_eq (order x y)) → (found nodes sorted fresh : List N)
-      → IsPermutation nodes sorted → IsSorted order sorted
+  pub news_are : (E : N → N → Bool) → IsEquivalence E → ((x y : N) → E x y ≡ is_eq (order x y)) → (found nodes sorted fresh : List N) → IsPermutation nodes sorted → IsSorted order sorted
       → fresh ≡ unknown found (dedup E sorted) → AreNew order found nodes fresh
   news_are E same ties found nodes sorted fresh permutation rising is = record {
     rising = subst (IsStrictlySortedBy order) (sym is) (IsStrictlySortedBy-filter order (λ n. not (list_any (is_at (order n)) found)) single (IsStrictlySortedBy-dedup total ties sorted rising));

@@ -6,4 +6,5 @@ pub mod SourceLaws
 pub mod ListedLaws
 pub mod Faults
 pub mod Loading
+pub mod LoadingLaws
 pub mod Growth

@@ -18,20 +18,20 @@ Listed starts n = IsAmong n starts
 abbrev pub Named : {N : Type 0} → (N → List N) → N → N → Type 0
 Named named n m = IsAmong m (named n)
 
-module _ {N : Type 0} (named : N → List N) where
+module _ {A N : Type 0} (named : A → List N) where
   -- one of the list names the node
-  abbrev pub IsNamedBy : List N → N → Type 0
-  IsNamedBy ms n = (m : N) × (IsAmong m ms × IsAmong n (named m))
+  abbrev pub IsNamedBy : List A → N → Type 0
+  IsNamedBy ms n = (m : A) × (IsAmong m ms × IsAmong n (named m))
 
   -- what stands in the lists of several is named by one of them
-  pub named_by : (ms : List N) (n : N) → IsAmong n (flat_map named ms) → IsNamedBy ms n
+  pub named_by : (ms : List A) (n : N) → IsAmong n (flat_map named ms) → IsNamedBy ms n
   named_by [] n h = absurd h
   named_by (m ∷ ms) n h = elim (IsAmong-append_cases n (named m) (flat_map named ms) h) [
     | inl a ↦ (m, (inl refl, a))
     | inr b ↦ (let r = named_by ms n b in (r.0, (inr r.1.0, r.1.1)))
   ]
 
-  pub names_all : (ms : List N) (m n : N) → IsAmong m ms → IsAmong n (named m) → IsAmong n (flat_map named ms)
+  pub names_all : (ms : List A) (m : A) (n : N) → IsAmong m ms → IsAmong n (named m) → IsAmong n (flat_map named ms)
   names_all [] m n h a = absurd h
   names_all (o ∷ ms) m n (inl e) a = IsAmong-append_left n (named o) (flat_map named ms) (subst_named a)
     where
@@ -39,6 +39,7 @@ module _ {N : Type 0} (named : N → List N) where
       subst_named b = subst (λ v. IsAmong n (named v)) (sym e) b
   names_all (o ∷ ms) m n (inr h) a = IsAmong-append_right n (named o) (flat_map named ms) (names_all ms m n h a)
 
+module _ {N : Type 0} (named : N → List N) where
   module _ (starts : List N) where
     -- all that chains of so many steps lead to
     abbrev level : ℕ → List N
@@ -47,11 +48,11 @@ module _ {N : Type 0} (named : N → List N) where
 
     level_chain : (k : ℕ) (n : N) → IsAmong n (level k) → IsChain (Listed starts) (Named named) k n
     level_chain zero n h = h
-    level_chain (suc k) n h = let r = named_by (level k) n h in (r.0, (level_chain k r.0 r.1.0, r.1.1))
+    level_chain (suc k) n h = let r = named_by named (level k) n h in (r.0, (level_chain k r.0 r.1.0, r.1.1))
 
     chain_level : (k : ℕ) (n : N) → IsChain (Listed starts) (Named named) k n → IsAmong n (level k)
     chain_level zero n c = c
-    chain_level (suc k) n c = names_all (level k) c.0 n (chain_level k c.0 c.1.0) c.1.1
+    chain_level (suc k) n c = names_all named (level k) c.0 n (chain_level k c.0 c.1.0) c.1.1
 
     module _ (order : N → N → Ordering) (total : IsTotalOrder order) (exact : (x y : N) → order x y ≡ Equal → x ≡ y) where
       is_or_not : (x y : N) → IsDecided (x ≡ y)

@@ -1,13 +1,22 @@
--- What is loaded for nodes, and the steps to the nodes that are named there.
+-- What is loaded for nodes, and the steps to the nodes that are named there. That something is loaded for a node is any relation.
 -- Source: this project's own.
-use Rattle.std.specs.Prelude.{List, map}
-use Rattle.name_closure.specs.ListedLaws.{Named}
+use Rattle.std.specs.Prelude.{◌≡◌, List}
+use Rattle.std.specs.List.{All}
+use Rattle.std.specs.Map.{keys_of}
+use Rattle.list_laws.specs.Members.{IsAmong}
 
-module _ {N U : Type 0} (loaded : N → U) where
-  -- the second is one of those that are named in what is loaded for the first
-  abbrev pub NamedInLoad : (U → List N) → N → N → Type 0
-  NamedInLoad named = Named (λ n. named (loaded n))
+module _ {N U : Type 0} (is_loaded : N → U → Type 0) where
+  -- the second is one of those that are named in something that is loaded for the first
+  pub record LeadsByLoad (named : U → List N) (n m : N) : Type 0 where
+    pub one : U
+    pub loaded : is_loaded n one
+    pub names : IsAmong m (named one)
 
-  -- each node, and beside it what is loaded for it
-  abbrev pub each_with : List N → List (N × U)
-  each_with nodes = map (λ n. (n, loaded n)) nodes
+  -- beside each node stands what is loaded for it
+  abbrev pub AreLoaded : List (N × U) → Type 0
+  AreLoaded pairs = All (λ p. is_loaded p.0 p.1) pairs
+
+  -- the nodes in their order, and beside each what is loaded for it
+  pub record AreLoads (nodes : List N) (pairs : List (N × U)) : Type 0 where
+    pub in_order : keys_of pairs ≡ nodes
+    pub loaded : AreLoaded pairs

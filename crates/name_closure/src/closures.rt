@@ -1,11 +1,11 @@
 //! Least closed sets with what is loaded for their nodes, by rounds.
-ghost use Rattle.std.specs.Prelude.{◌≡◌, ◌≤◌, length, IfOk, IfErr};
+ghost use Rattle.std.specs.Prelude.{◌≤◌, length, All, IfOk, IfErr};
 ghost use Rattle.std.specs.BTreeMap.{keys};
 ghost use Rattle.std.specs.List.Sorted.{IsStrictlySortedBy};
 ghost use Rattle.name_closure.specs.Chains.{IsClosure, HasOver};
 ghost use Rattle.name_closure.specs.Faults.{OnTooMany};
 ghost use Rattle.name_closure.specs.ListedLaws.{Listed};
-ghost use Rattle.name_closure.specs.Loading.{NamedInLoad, each_with};
+ghost use Rattle.name_closure.specs.Loading.{LeadsByLoad, AreLoaded, AreLoads};
 
 use crate::loads::{CloseFault, Loads, load_each};
 use crate::rounds::{add_loaded, copy_of, new_of};
@@ -14,7 +14,8 @@ use std::alloc::{AllocError, Global};
 use std::collections::BTreeMap;
 
 /// All that is reached from the sources, each node with what is loaded for it: the least set that
-/// has the sources, and all nodes that are named in what is loaded for its nodes.
+/// has the sources, and all nodes that are named in what is loaded for its nodes. The sources are
+/// nodes that the loader can load.
 ///
 /// `TooMany` where that is more than the limit, and only there: the limit is met however the nodes
 /// are ordered, and before the nodes of a round that goes past it are loaded. `Memory` for want of
@@ -27,14 +28,16 @@ pub fn close_loaded<K: Key, L: Loads<K>>(
     sources: &[K],
     limit: usize,
 ) -> Result<BTreeMap<K, L::Loaded>, CloseFault>
+    requires sources { All (L.is_node loader.now) sources.now }
     ensures closure { IfOk result (λ found. IsClosure (Listed sources.now)
-        (NamedInLoad (L.loaded loader.now) (L.named loader.now)) K.cmp (keys found)) }
-    ensures loaded { IfOk result (λ found. found.entries ≡ each_with (L.loaded loader.now) (keys found)) }
+        (LeadsByLoad (L.is_loaded loader.now) (L.named loader.now)) K.cmp (keys found)) }
+    ensures loaded { IfOk result (λ found. AreLoaded (L.is_loaded loader.now) found.entries) }
+    ensures nodes { IfOk result (λ found. All (L.is_node loader.now) (keys found)) }
     ensures room { IfOk result (λ found. length found.entries ≤ limit) }
     ensures over { IfErr result (λ fault. OnTooMany fault (HasOver (Listed sources.now)
-        (NamedInLoad (L.loaded loader.now) (L.named loader.now)) K.cmp limit)) }
+        (LeadsByLoad (L.is_loaded loader.now) (L.named loader.now)) K.cmp limit)) }
     ensures not_over { IfOk result (λ _. ¬ HasOver (Listed sources.now)
-        (NamedInLoad (L.loaded loader.now) (L.named loader.now)) K.cmp limit) }
+        (LeadsByLoad (L.is_loaded loader.now) (L.named loader.now)) K.cmp limit) }
 {
     close_by_rounds(
         alloc,
@@ -46,7 +49,7 @@ pub fn close_loaded<K: Key, L: Loads<K>>(
 }
 
 /// The same, refusals and cost too, where a round's new nodes are loaded by a call. It is given them
-/// rising, and gives each with what the loader loads for it.
+/// rising, all of them nodes that the loader can load, and gives each with what the loader loads for it.
 pub fn close_by_rounds<
     K: Key,
     L: Loads<K>,
@@ -58,17 +61,20 @@ pub fn close_by_rounds<
     limit: usize,
     load_round: F,
 ) -> Result<BTreeMap<K, L::Loaded>, CloseFault>
-    requires ready { (fresh : _) → IsStrictlySortedBy K.cmp fresh.items → F.pre load_round fresh }
+    requires sources { All (L.is_node loader.now) sources.now }
+    requires ready { (fresh : _) → IsStrictlySortedBy K.cmp fresh.items → All (L.is_node loader.now) fresh.items
+        → F.pre load_round fresh }
     requires loads { (fresh : _) (loads : _) → F.post load_round fresh loads
-        → IfOk loads (λ pairs. pairs.items ≡ each_with (L.loaded loader.now) fresh.items) }
+        → IfOk loads (λ pairs. AreLoads (L.is_loaded loader.now) fresh.items pairs.items) }
     ensures closure { IfOk result (λ found. IsClosure (Listed sources.now)
-        (NamedInLoad (L.loaded loader.now) (L.named loader.now)) K.cmp (keys found)) }
-    ensures loaded { IfOk result (λ found. found.entries ≡ each_with (L.loaded loader.now) (keys found)) }
+        (LeadsByLoad (L.is_loaded loader.now) (L.named loader.now)) K.cmp (keys found)) }
+    ensures loaded { IfOk result (λ found. AreLoaded (L.is_loaded loader.now) found.entries) }
+    ensures nodes { IfOk result (λ found. All (L.is_node loader.now) (keys found)) }
     ensures room { IfOk result (λ found. length found.entries ≤ limit) }
     ensures over { IfErr result (λ fault. OnTooMany fault (HasOver (Listed sources.now)
-        (NamedInLoad (L.loaded loader.now) (L.named loader.now)) K.cmp limit)) }
+        (LeadsByLoad (L.is_loaded loader.now) (L.named loader.now)) K.cmp limit)) }
     ensures not_over { IfOk result (λ _. ¬ HasOver (Listed sources.now)
-        (NamedInLoad (L.loaded loader.now) (L.named loader.now)) K.cmp limit) }
+        (LeadsByLoad (L.is_loaded loader.now) (L.named loader.now)) K.cmp limit) }
 {
     let mut found = BTreeMap::new(alloc);
     let mut fresh = new_of(&found, copy_of(alloc, sources)?);

@@ -8,7 +8,7 @@ ghost use Rattle.name_closure.specs.Chains.{IsReached, IsDistance, IsClosure, Ha
 ghost use Rattle.name_closure.specs.ClosureLaws.{IsClosed};
 ghost use Rattle.name_closure.specs.DistanceLaws.{HasDistance, HasNodeBefore};
 ghost use Rattle.name_closure.specs.ListedLaws.{Listed, Named};
-ghost use Rattle.name_closure.specs.Loading.{NamedInLoad, each_with};
+ghost use Rattle.name_closure.specs.Loading.{LeadsByLoad, AreLoaded};
 ghost use Rattle.name_closure.specs.SourceLaws.{AreSameNodes, AreSameSteps, IsInEither};
 
 use crate::loads::Loads;
@@ -86,18 +86,22 @@ pub fn closures_of_same_steps<N: Ord, S: NodeSet<N>, T: NodeSet<N>, E: StepSet<N
         → (nodes : List N) → IsClosure S.holds E.leads N.cmp nodes → IsClosure T.holds F.leads N.cmp nodes }
 {}
 
-/// Of one loader and one list of sources there is one load, however it is made: two lists of all
-/// that is reached, each with what is loaded for it, are equal. One of no more than a limit and the
-/// refusal that more is reached exclude each other.
+/// A node for which something is loaded leads to just the nodes that are named there. Of one loader
+/// and one list of sources there is one load, however it is made: two lists of all that is reached,
+/// each with what is loaded for it, are equal. One of no more than a limit and the refusal that more
+/// is reached exclude each other.
 pub fn one_load<K: Key, L: Loads<K>>(loader: &L, sources: &[K])
+    ensures leads { (node : K) (one : L.Loaded) → L.is_loaded loader.now node one
+        → (name : K) → LeadsByLoad (L.is_loaded loader.now) (L.named loader.now) node name
+        ↔ IsAmong name (L.named loader.now one) }
     ensures same { (xs ys : List (K × L.Loaded))
-        → IsClosure (Listed sources.now) (NamedInLoad (L.loaded loader.now) (L.named loader.now)) K.cmp (keys_of xs)
-        → xs ≡ each_with (L.loaded loader.now) (keys_of xs)
-        → IsClosure (Listed sources.now) (NamedInLoad (L.loaded loader.now) (L.named loader.now)) K.cmp (keys_of ys)
-        → ys ≡ each_with (L.loaded loader.now) (keys_of ys)
+        → IsClosure (Listed sources.now) (LeadsByLoad (L.is_loaded loader.now) (L.named loader.now)) K.cmp (keys_of xs)
+        → AreLoaded (L.is_loaded loader.now) xs
+        → IsClosure (Listed sources.now) (LeadsByLoad (L.is_loaded loader.now) (L.named loader.now)) K.cmp (keys_of ys)
+        → AreLoaded (L.is_loaded loader.now) ys
         → xs ≡ ys }
     ensures not_over { (nodes : List K) (limit : ℕ)
-        → IsClosure (Listed sources.now) (NamedInLoad (L.loaded loader.now) (L.named loader.now)) K.cmp nodes
+        → IsClosure (Listed sources.now) (LeadsByLoad (L.is_loaded loader.now) (L.named loader.now)) K.cmp nodes
         → length nodes ≤ limit
-        → ¬ HasOver (Listed sources.now) (NamedInLoad (L.loaded loader.now) (L.named loader.now)) K.cmp limit }
+        → ¬ HasOver (Listed sources.now) (LeadsByLoad (L.is_loaded loader.now) (L.named loader.now)) K.cmp limit }
 {}

@@ -1,6 +1,6 @@
 //! Loads: what is loaded for a node, and the nodes that it names.
-ghost use Rattle.std.specs.Prelude.{◌≡◌, List, IfOk};
-ghost use Rattle.name_closure.specs.Loading.{each_with};
+ghost use Rattle.std.specs.Prelude.{◌≡◌, List, All, IfOk};
+ghost use Rattle.name_closure.specs.Loading.{AreLoads};
 
 use join_law::Key;
 use std::alloc::{AllocError, Global};
@@ -27,34 +27,45 @@ impl From<AllocError> for CloseFault {
     }
 }
 
-/// A loader: what it loads for a node, and the nodes that are named there. Both are the same each
-/// time, and fail for want of memory alone.
+/// A loader: what it loads for a node, and the nodes that are named there. For one node it is the
+/// same each time, and it fails for want of memory alone.
 pub trait Loads<K: Key> {
     /// What is loaded for one node.
     type Loaded: Drop;
 
-    // What is loaded for a node.
-    ghost loaded: { Self → K → Self.Loaded };
+    // The node is one of those that can be loaded.
+    ghost is_node: { Self → K → Type 0 };
+
+    // This is loaded for the node.
+    ghost is_loaded: { Self → K → Self.Loaded → Type 0 };
 
     // The nodes that are named in what was loaded for one.
     ghost named: { Self → Self.Loaded → List K };
 
     /// Loads for a node.
     fn load(&self, alloc: Global, node: &K) -> Result<Self::Loaded, AllocError>
-        ensures loaded { IfOk result (λ one. one ≡ loaded self.now node.now) };
+        requires node { is_node self.now node.now }
+        ensures loaded { IfOk result (λ one. is_loaded self.now node.now one) };
 
-    /// The nodes that are named in what was loaded for one.
+    /// The nodes that are named in what was loaded for one. Those can be loaded too.
     fn names(&self, alloc: Global, one: &Self::Loaded) -> Result<Vec<K>, AllocError>
-        ensures named { IfOk result (λ names. names.items ≡ named self.now one.now) };
+        ensures named { IfOk result (λ names. names.items ≡ named self.now one.now) }
+        ensures nodes { IfOk result (λ names. (node : K) → is_node self.now node → is_loaded self.now node one.now
+            → All (is_node self.now) names.items) };
+
+    // One thing at most is loaded for a node.
+    ghost one: { (loader : Self) (node : K) (x y : Self.Loaded) → is_loaded loader node x
+        → is_loaded loader node y → x ≡ y };
 }
 
-/// Each node with what is loaded for it. `AllocError` for want of memory.
+/// Each node with what is loaded for it, where all can be loaded. `AllocError` for want of memory.
 pub fn load_each<K: Key, L: Loads<K>>(
     alloc: Global,
     loader: &L,
     nodes: Vec<K>,
 ) -> Result<Vec<(K, L::Loaded)>, AllocError>
-    ensures pairs { IfOk result (λ pairs. pairs.items ≡ each_with (L.loaded loader.now) nodes.items) }
+    requires nodes { All (L.is_node loader.now) nodes.items }
+    ensures pairs { IfOk result (λ pairs. AreLoads (L.is_loaded loader.now) nodes.items pairs.items) }
 {
     let mut pairs = Vec::new(alloc);
     for node in nodes {

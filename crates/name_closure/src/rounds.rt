@@ -1,12 +1,12 @@
 //! What a round of a closure does: what was loaded is added to what is found, and the nodes that
 //! are named there and not found yet are those of the next round.
-ghost use Rattle.std.specs.Prelude.{◌≡◌, IfOk, OnOk};
+ghost use Rattle.std.specs.Prelude.{◌≡◌, All, IfOk, OnOk};
 ghost use Rattle.std.specs.BTreeMap.{keys};
 ghost use Rattle.std.specs.List.{flat_map};
 ghost use Rattle.std.specs.List.Sorted.{IsStrictlySortedBy};
 ghost use Rattle.std.specs.Map.{keys_of};
 ghost use Rattle.name_closure.specs.Growth.{AreJoined, AreNew};
-ghost use Rattle.name_closure.specs.Loading.{each_with};
+ghost use Rattle.name_closure.specs.Loading.{AreLoaded};
 
 use crate::loads::Loads;
 use join_law::Key;
@@ -44,12 +44,14 @@ pub fn add_loaded<K: Key, L: Loads<K>>(
     pairs: Vec<(K, L::Loaded)>,
 ) -> Result<Vec<K>, AllocError>
     requires rising { IsStrictlySortedBy K.cmp (keys found.old) }
-    requires found { found.old.entries ≡ each_with (L.loaded loader.now) (keys found.old) }
-    requires pairs { pairs.items ≡ each_with (L.loaded loader.now) (keys_of pairs.items) }
+    requires found { AreLoaded (L.is_loaded loader.now) found.old.entries }
+    requires nodes { All (L.is_node loader.now) (keys_of pairs.items) }
+    requires pairs { AreLoaded (L.is_loaded loader.now) pairs.items }
     ensures rising { IsStrictlySortedBy K.cmp (keys found.new) }
-    ensures entries { OnOk result (found.new.entries ≡ each_with (L.loaded loader.now) (keys found.new)) }
+    ensures entries { OnOk result (AreLoaded (L.is_loaded loader.now) found.new.entries) }
     ensures joined { OnOk result (AreJoined (keys found.old) (keys_of pairs.items) (keys found.new)) }
     ensures names { IfOk result (λ names. names.items ≡ flat_map (λ pair. L.named loader.now pair.1) pairs.items) }
+    ensures nodes { IfOk result (λ names. All (L.is_node loader.now) names.items) }
 {
     let mut names = Vec::new(alloc);
     for (node, one) in pairs {

@@ -20,16 +20,14 @@ enough_left nodes (suc k) pos le =
     omega arith
 
 -- the numbers of the pieces go down to 0 as they are cut
-pub number_more : (count done : ℕ) → done < count
-    → (count - done - 1) ∷ range_with_len (count - done) done ≡ range_with_len (count - (done + 1)) (done + 1)
+pub number_more : (count done : ℕ) → done < count → (count - done - 1) ∷ range_with_len (count - done) done ≡ range_with_len (count - (done + 1)) (done + 1)
 number_more count done l =
     let this : count - done - 1 ≡ count - suc done = omega arith in
     let next : count - done ≡ count - suc done + 1 = omega arith in
     rw add-one (ap (λ v. v ∷ range_with_len (count - done) done) this ∙ ap (λ v. (count - suc done) ∷ range_with_len v done) next)
 
 -- the last of the rest goes before the pieces
-pub whole_more : {N : Type 0} (at : ℕ) (rest rest' last pieces nodes : List N) → rest' ≡ take at rest → last ≡ drop at rest
-    → rest ++ pieces ≡ nodes → rest' ++ (last ++ pieces) ≡ nodes
+pub whole_more : {N : Type 0} (at : ℕ) (rest rest' last pieces nodes : List N) → rest' ≡ take at rest → last ≡ drop at rest → rest ++ pieces ≡ nodes → rest' ++ (last ++ pieces) ≡ nodes
 whole_more at rest rest' last pieces nodes kept cut whole =
     sym (append_assoc rest' last pieces) ∙ ap (λ v. v ++ pieces) (ap (λ v. v ++ last) kept ∙ ap (λ v. take at rest ++ v) cut ∙ take-append-drop at rest) ∙ whole
 

@@ -1,11 +1,13 @@
 -- Parts put together, and what was loaded of pieces.
 use Rattle.std.specs.Prelude.{◌≡◌, ◌<◌, ℕ, suc, List, [], ◌∷◌, ◌++◌, length, map, Result, Ok, IfOk}
-use Rattle.std.specs.List.{flat_map}
+use Rattle.std.specs.List.{All, flat_map}
 use Rattle.std.specs.Global.{Vec}
-use Rattle.std.proofs.Common.{arith, ap, refl, sym, ◌∙◌, get_or}
+use Rattle.std.proofs.Common.{arith, ap, refl, sym, subst, ◌∙◌, get_or}
 use Rattle.std.proofs.lemmas.Grind.{flat_map-append}
 use Rattle.std.proofs.lemmas.List.{map-append, append-nil, length-map}
-use Rattle.name_closure.specs.Loading.{each_with}
+use Rattle.std.proofs.lemmas.List.Elements.{All-nil, All-cons, All-head, All-tail}
+use Rattle.name_closure.specs.Loading.{AreLoads}
+use Rattle.name_closure.specs.LoadingLaws.{loads_none, loads_append}
 use Rattle.worker_rounds.specs.Joined.{IsJoined}
 
 module _ {X E : Type 0} where
@@ -19,22 +21,40 @@ module _ {X E : Type 0} where
     whole = ap (λ xs. xs ++ v.items) j.whole ∙ sym (flat_map-append (λ (w : Vec X). w.items) j.loads (v ∷ []) ∙ ap (λ xs. flat_map (λ (w : Vec X). w.items) j.loads ++ xs) (append-nil v.items));
   }
 
-module _ {N U P E : Type 0} (loaded : N → U) (nodes_of : P → List N) where
+module _ {N : Type 0} (Q : N → Type 0) where
+  all_front : (xs ys : List N) → All Q (xs ++ ys) → All Q xs
+  all_front [] ys a = All-nil Q
+  all_front (x ∷ xs) ys a = All-cons Q x xs (All-head Q x (xs ++ ys) a) (all_front xs ys (All-tail Q x (xs ++ ys) a))
+
+  all_back : (xs ys : List N) → All Q (xs ++ ys) → All Q ys
+  all_back [] ys a = a
+  all_back (x ∷ xs) ys a = all_back xs ys (All-tail Q x (xs ++ ys) a)
+
+  -- what holds of all nodes holds of those of each piece
+  all_in_pieces : {P : Type 0} (nodes_of : P → List N) (pieces : List P) → All Q (flat_map nodes_of pieces) → All (λ piece. All Q (nodes_of piece)) pieces
+  all_in_pieces {P} nodes_of [] a = All-nil (λ (piece : P). All Q (nodes_of piece))
+  all_in_pieces {P} nodes_of (p ∷ ps) a =
+      All-cons (λ (piece : P). All Q (nodes_of piece)) p ps (all_front (nodes_of p) (flat_map nodes_of ps) a)
+      (all_in_pieces nodes_of ps (all_back (nodes_of p) (flat_map nodes_of ps) a))
+
+  pub pieces_hold : {P : Type 0} (nodes_of : P → List N) (pieces : List P) (nodes : List N) → flat_map nodes_of pieces ≡ nodes → All Q nodes → All (λ piece. All Q (nodes_of piece)) pieces
+  pieces_hold nodes_of pieces nodes whole a = all_in_pieces nodes_of pieces (subst (All Q) (sym whole) a)
+
+module _ {N U P E : Type 0} (is_loaded : N → U → Type 0) (nodes_of : P → List N) where
   loads_are : (pieces : List P) (loads : List (Vec (N × U))) → length loads ≡ length pieces
-      → ((i : ℕ) (piece : P) (part : Result (Vec (N × U)) E) → i < length pieces → IfOk (get_or (map Ok loads) i part) (λ pairs. pairs.items ≡ each_with loaded (nodes_of (get_or pieces i piece))))
-      → flat_map (λ v. v.items) loads ≡ each_with loaded (flat_map nodes_of pieces)
-  loads_are [] [] e each = refl
+      → ((i : ℕ) (piece : P) (part : Result (Vec (N × U)) E) → i < length pieces → IfOk (get_or (map Ok loads) i part) (λ pairs. AreLoads is_loaded (nodes_of (get_or pieces i piece)) pairs.items))
+      → AreLoads is_loaded (flat_map nodes_of pieces) (flat_map (λ v. v.items) loads)
+  loads_are [] [] e each = loads_none is_loaded
   loads_are [] (v ∷ vs) e each = absurd (omega arith)
   loads_are (p ∷ ps) [] e each = absurd (omega arith)
   loads_are (p ∷ ps) (v ∷ vs) e each =
-      ap (λ xs. xs ++ flat_map (λ (w : Vec (N × U)). w.items) vs) (each 0 p (Ok v) (omega arith))
-      ∙ ap (λ xs. each_with loaded (nodes_of p) ++ xs) (loads_are ps vs (omega arith) (λ i piece part l. each (suc i) piece part (omega arith)))
-      ∙ sym (map-append (λ n. (n, loaded n)) (nodes_of p) (flat_map nodes_of ps))
+      loads_append is_loaded (nodes_of p) (flat_map nodes_of ps) v.items (flat_map (λ (w : Vec (N × U)). w.items) vs) (each 0 p (Ok v) (omega arith))
+      (loads_are ps vs (omega arith) (λ i piece part l. each (suc i) piece part (omega arith)))
 
   -- what was loaded of all pieces, put together, is what is loaded of all nodes
-  pub joined_loads : (pieces : List P) (parts : List (Result (Vec (N × U)) E)) (nodes : List N) (all : List (N × U))
-      → flat_map nodes_of pieces ≡ nodes → length parts ≡ length pieces
-      → ((i : ℕ) (piece : P) (part : Result (Vec (N × U)) E) → i < length pieces → IfOk (get_or parts i part) (λ pairs. pairs.items ≡ each_with loaded (nodes_of (get_or pieces i piece))))
-      → IsJoined parts all → all ≡ each_with loaded nodes
+  pub joined_loads : (pieces : List P) (parts : List (Result (Vec (N × U)) E)) (nodes : List N) (all : List (N × U)) → flat_map nodes_of pieces ≡ nodes → length parts ≡ length pieces
+      → ((i : ℕ) (piece : P) (part : Result (Vec (N × U)) E) → i < length pieces → IfOk (get_or parts i part) (λ pairs. AreLoads is_loaded (nodes_of (get_or pieces i piece)) pairs.items))
+      → IsJoined parts all → AreLoads is_loaded nodes all
   joined_loads pieces parts nodes all whole long each j =
-      j.whole ∙ loads_are pieces j.loads (sym (length-map j.loads Ok) ∙ ap length (sym j.each) ∙ long) (rw j.each at each) ∙ ap (each_with loaded) whole
+      let loads = loads_are pieces j.loads (sym (length-map j.loads Ok) ∙ ap length (sym j.each) ∙ long) (rw j.each at each) in
+      subst (λ v. AreLoads is_loaded v all) whole (subst (AreLoads is_loaded (flat_map nodes_of pieces)) (sym j.whole) loads)

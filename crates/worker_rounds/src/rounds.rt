@@ -1,10 +1,10 @@
 //! The rounds of a closure, each loaded by workers.
-ghost use Rattle.std.specs.Prelude.{◌≡◌, ◌↔◌, ◌⊎◌, ◌<◌, ◌≤◌, Err, length, IfOk, IfErr};
+ghost use Rattle.std.specs.Prelude.{◌≡◌, ◌↔◌, ◌⊎◌, ◌<◌, ◌≤◌, Err, length, All, IfOk, IfErr};
 ghost use Rattle.std.specs.BTreeMap.{keys};
 ghost use Rattle.std.specs.List.Sorted.{IsStrictlySortedBy};
 ghost use Rattle.name_closure.specs.Chains.{IsClosure, HasOver};
 ghost use Rattle.name_closure.specs.ListedLaws.{Listed};
-ghost use Rattle.name_closure.specs.Loading.{NamedInLoad, each_with};
+ghost use Rattle.name_closure.specs.Loading.{LeadsByLoad, AreLoaded, AreLoads};
 ghost use Rattle.worker_rounds.specs.Refusals.{OnTooMany};
 ghost use Rattle.worker_rounds.specs.declared.faults.LoadFault.TheVariants.{Workers};
 
@@ -21,6 +21,7 @@ use std::thread::Threads;
 pub const MOST_WORKERS: usize = 64;
 
 /// All that is reached from the sources, each node with what is loaded for it, as by `close_loaded`.
+/// The sources are nodes that the loader can load.
 ///
 /// `Workers` exactly where they aren't 1 to 64, before anything else. Then the answer is that of one
 /// thread: `TooMany` where more is reached than the limit, and only there, `Memory` for want of
@@ -45,15 +46,17 @@ pub fn close_loaded_by_workers<
 ) -> Result<BTreeMap<K, L::Loaded>, LoadFault>
 where
     L::Loaded: Send,
+    requires sources { All (L.is_node loader.now) sources.now }
     ensures workers { (result ≡ Err Workers) ↔ ((workers ≡ 0) ⊎ (64 < workers)) }
     ensures closure { IfOk result (λ found. IsClosure (Listed sources.now)
-        (NamedInLoad (L.loaded loader.now) (L.named loader.now)) K.cmp (keys found)) }
-    ensures loaded { IfOk result (λ found. found.entries ≡ each_with (L.loaded loader.now) (keys found)) }
+        (LeadsByLoad (L.is_loaded loader.now) (L.named loader.now)) K.cmp (keys found)) }
+    ensures loaded { IfOk result (λ found. AreLoaded (L.is_loaded loader.now) found.entries) }
+    ensures nodes { IfOk result (λ found. All (L.is_node loader.now) (keys found)) }
     ensures room { IfOk result (λ found. length found.entries ≤ limit) }
     ensures over { IfErr result (λ fault. OnTooMany fault (HasOver (Listed sources.now)
-        (NamedInLoad (L.loaded loader.now) (L.named loader.now)) K.cmp limit)) }
+        (LeadsByLoad (L.is_loaded loader.now) (L.named loader.now)) K.cmp limit)) }
     ensures not_over { IfOk result (λ _. ¬ HasOver (Listed sources.now)
-        (NamedInLoad (L.loaded loader.now) (L.named loader.now)) K.cmp limit) }
+        (LeadsByLoad (L.is_loaded loader.now) (L.named loader.now)) K.cmp limit) }
 {
     if workers == 0 || workers > MOST_WORKERS {
         return Err(LoadFault::Workers);
@@ -61,7 +64,8 @@ where
     let load_round = |fresh: Vec<K>| -> Result<Vec<(K, L::Loaded)>, AllocError>
         requires some { 0 < workers }
         requires rising { IsStrictlySortedBy K.cmp fresh.items }
-        ensures pairs { IfOk result (λ pairs. pairs.items ≡ each_with (L.loaded loader.entry.now) fresh.items) }
+        requires nodes { All (L.is_node loader.now) fresh.items }
+        ensures pairs { IfOk result (λ pairs. AreLoads (L.is_loaded loader.entry.now) fresh.items pairs.items) }
     { load_by_workers(rt, alloc, loader, workers, gate, fresh) };
     let found = close_by_rounds(alloc, loader, sources, limit, load_round)?;
     Ok(found)

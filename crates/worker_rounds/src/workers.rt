@@ -1,7 +1,7 @@
 //! Workers: each loads a piece of a round.
-ghost use Rattle.std.specs.Prelude.{◌≡◌, ℕ, ◌<◌, length, slice_index_or, IfOk};
+ghost use Rattle.std.specs.Prelude.{◌≡◌, ℕ, ◌<◌, length, slice_index_or, All, IfOk};
 ghost use Rattle.std.specs.List.Sorted.{IsStrictlySortedBy};
-ghost use Rattle.name_closure.specs.Loading.{each_with};
+ghost use Rattle.name_closure.specs.Loading.{AreLoads};
 
 use crate::gates::{Gate, pass_gate};
 use crate::pieces::{Piece, cut, put_together};
@@ -18,7 +18,8 @@ fn load_piece<K: Key, L: Loads<K>, G: Gate>(
     gate: &G,
     piece: Piece<K>,
 ) -> Result<Vec<(K, L::Loaded)>, AllocError>
-    ensures pairs { IfOk result (λ pairs. pairs.items ≡ each_with (L.loaded loader.now) piece.nodes.items) }
+    requires nodes { All (L.is_node loader.now) piece.nodes.items }
+    ensures pairs { IfOk result (λ pairs. AreLoads (L.is_loaded loader.now) piece.nodes.items pairs.items) }
 {
     pass_gate(gate, piece.number);
     load_each(alloc, loader, piece.nodes)
@@ -34,13 +35,15 @@ fn load_pieces<R: Threads + Sync, K: Key + Send, L: Loads<K> + Sync, G: Gate + S
 ) -> Result<Vec<Result<Vec<(K, L::Loaded)>, AllocError>>, AllocError>
 where
     L::Loaded: Send,
+    requires nodes { All (λ piece. All (L.is_node loader.now) piece.nodes.items) pieces.items }
     ensures len { IfOk result (λ parts. length parts.items ≡ length pieces.items) }
     ensures each { IfOk result (λ parts. (i : ℕ) (piece : _) (part : _) → i < length pieces.items
         → IfOk (slice_index_or parts.items i part)
-        (λ pairs. pairs.items ≡ each_with (L.loaded loader.now) (slice_index_or pieces.items i piece).nodes.items)) }
+        (λ pairs. AreLoads (L.is_loaded loader.now) (slice_index_or pieces.items i piece).nodes.items pairs.items)) }
 {
     let load = |piece: Piece<K>| -> Result<Vec<(K, L::Loaded)>, AllocError>
-        ensures { IfOk result (λ pairs. pairs.items ≡ each_with (L.loaded loader.entry.now) piece.nodes.items) }
+        requires { All (L.is_node loader.now) piece.nodes.items }
+        ensures { IfOk result (λ pairs. AreLoads (L.is_loaded loader.entry.now) piece.nodes.items pairs.items) }
     { load_piece(alloc, loader, gate, piece) };
     thread::map_vec(rt, pieces, &load)
 }
@@ -58,7 +61,8 @@ where
     L::Loaded: Send,
     requires some { 0 < workers }
     requires rising { IsStrictlySortedBy K.cmp fresh.items }
-    ensures pairs { IfOk result (λ pairs. pairs.items ≡ each_with (L.loaded loader.now) fresh.items) }
+    requires nodes { All (L.is_node loader.now) fresh.items }
+    ensures pairs { IfOk result (λ pairs. AreLoads (L.is_loaded loader.now) fresh.items pairs.items) }
 {
     let pieces = cut(alloc, fresh, workers)?;
     let parts = load_pieces(rt, alloc, loader, gate, pieces)?;

@@ -3,61 +3,88 @@ use Rattle.std.specs.BTreeMap.{keys}
 use Rattle.std.proofs.lemmas.Map.Entries.{length-keys_of}
 use Rattle.name_closure.specs.ListedLaws.{Listed}
 use Rattle.name_closure.specs.LimitLaws.{not_over}
-use Rattle.name_closure.specs.Loading.{NamedInLoad}
-use Rattle.name_closure.proofs.Insertions.{each_itself}
+use Rattle.name_closure.specs.Loading.{LeadsByLoad}
 use Rattle.name_closure.proofs.Rounding.{under_way_start, under_way_more, length-found, closure_at_end, over_in_round}
 use Rattle.name_closure.proofs.closures.close_by_rounds.Goals as goal
 
 pub rounds-init : goal.rounds-init
-rounds-init g c = record {
-  way =
-      under_way_start g.K.Ord.cmp (g.L.Loads.loaded c.args.loader.now) (g.L.Loads.named c.args.loader.now) c.args.sources.now _ _ c.new-found.ensures.empty
-      c.new-found.ensures.ordered (rw c.in_ok-copy_of.ensures.copy at c.new_of-fresh.ensures.fresh);
-  room = search rules;
-}
+rounds-init g c =
+    let loader = c.args.loader.now in
+    record {
+      way =
+          under_way_start g.K.Ord.cmp (g.L.Loads.is_node loader) (g.L.Loads.is_loaded loader) (g.L.Loads.named loader) c.args.sources.now _ _
+          c.new-found.ensures.empty c.new-found.ensures.ordered c.requires.sources (rw c.in_ok-copy_of.ensures.copy at c.new_of-fresh.ensures.fresh);
+      room = search rules;
+    }
 
 pub returns-then-len-limit-clause-over : goal.returns-then-len-limit-clause-over
 returns-then-len-limit-clause-over g c =
-    over_in_round g.K.Ord.cmp (g.L.Loads.loaded c.args.loader.now) (g.L.Loads.named c.args.loader.now) c.args.sources.now _ _ c.rounds.invariant.way
-    g.met.K.Ord.total g.met.K.Key.exact (search rules)
+    let loader = c.args.loader.now in
+    over_in_round g.K.Ord.cmp (g.L.Loads.is_node loader) (g.L.Loads.is_loaded loader) (g.L.Loads.named loader) c.args.sources.now _ _
+    c.rounds.invariant.way g.met.K.Ord.total g.met.K.Key.exact (search rules)
+
+pub load_round-requires : goal.load_round-requires
+load_round-requires g c = c.requires.ready c.rounds.fresh c.rounds.invariant.way.fresh_rising c.rounds.invariant.way.fresh_nodes
+
+pub add_loaded-requires-clause-found : goal.add_loaded-requires-clause-found
+add_loaded-requires-clause-found g c = c.rounds.invariant.way.loaded
+
+pub add_loaded-requires-clause-nodes : goal.add_loaded-requires-clause-nodes
+add_loaded-requires-clause-nodes g c =
+    let loads = rw c.in_ok-pairs.was at (c.requires.loads c.rounds.fresh c.load_round.result c.load_round.ensures) in
+    rw loads.in_order c.rounds.invariant.way.fresh_nodes
 
 pub add_loaded-requires-clause-pairs : goal.add_loaded-requires-clause-pairs
 add_loaded-requires-clause-pairs g c =
-    each_itself (g.L.Loads.loaded c.args.loader.now) _ c.rounds.fresh.items
-    (rw c.in_ok-pairs.was at (c.requires.loads c.rounds.fresh c.load_round.result c.load_round.ensures))
+    let loads = rw c.in_ok-pairs.was at (c.requires.loads c.rounds.fresh c.load_round.result c.load_round.ensures) in
+    loads.loaded
 
 pub rounds-smaller : goal.rounds-smaller
 rounds-smaller g c =
-    let is = rw c.in_ok-pairs.was at (c.requires.loads c.rounds.fresh c.load_round.result c.load_round.ensures) in
+    let loader = c.args.loader.now in
+    let loads = rw c.in_ok-pairs.was at (c.requires.loads c.rounds.fresh c.load_round.result c.load_round.ensures) in
     let long =
-    length-found g.K.Ord.cmp (g.L.Loads.loaded c.args.loader.now) (g.L.Loads.named c.args.loader.now) c.args.sources.now _ _ _ _ c.rounds.invariant.way is
-    c.in_ok-names.ensures.joined g.met.K.Ord.total g.met.K.Key.exact c.add_loaded.ensures.rising in
+    length-found g.K.Ord.cmp (g.L.Loads.is_node loader) (g.L.Loads.is_loaded loader) (g.L.Loads.named loader) c.args.sources.now _ _ _ _
+    c.rounds.invariant.way loads c.in_ok-names.ensures.joined g.met.K.Ord.total g.met.K.Key.exact c.add_loaded.ensures.rising in
     let some : 0 < length c.rounds.fresh.items = search rules in
     let fits : length c.rounds.fresh.items ≤ c.args.limit - length c.rounds.found.entries = search rules in
     omega arith
 
 pub rounds-preserved : goal.rounds-preserved
 rounds-preserved g c =
-    let is = rw c.in_ok-pairs.was at (c.requires.loads c.rounds.fresh c.load_round.result c.load_round.ensures) in
+    let loader = c.args.loader.now in
+    let loads = rw c.in_ok-pairs.was at (c.requires.loads c.rounds.fresh c.load_round.result c.load_round.ensures) in
+    let said = c.in_ok-names.ensures in
     let long =
-    length-found g.K.Ord.cmp (g.L.Loads.loaded c.args.loader.now) (g.L.Loads.named c.args.loader.now) c.args.sources.now _ _ _ _ c.rounds.invariant.way is
-    c.in_ok-names.ensures.joined g.met.K.Ord.total g.met.K.Key.exact c.add_loaded.ensures.rising in
+    length-found g.K.Ord.cmp (g.L.Loads.is_node loader) (g.L.Loads.is_loaded loader) (g.L.Loads.named loader) c.args.sources.now _ _ _ _
+    c.rounds.invariant.way loads said.joined g.met.K.Ord.total g.met.K.Key.exact c.add_loaded.ensures.rising in
     let fits : length c.rounds.fresh.items ≤ c.args.limit - length c.rounds.found.entries = search rules in
     let room : length c.rounds.found.entries ≤ c.args.limit = c.rounds.invariant.room in
     record {
       way =
-          under_way_more g.K.Ord.cmp (g.L.Loads.loaded c.args.loader.now) (g.L.Loads.named c.args.loader.now) c.args.sources.now _ _ _ _ c.rounds.invariant.way is
-          c.in_ok-names.ensures.joined _ _ c.in_ok-names.ensures.entries c.add_loaded.ensures.rising c.in_ok-names.ensures.names c.new_of-fresh-in-rounds.ensures.fresh;
+          under_way_more g.K.Ord.cmp (g.L.Loads.is_node loader) (g.L.Loads.is_loaded loader) (g.L.Loads.named loader) c.args.sources.now _ _ _ _
+          c.rounds.invariant.way loads said.joined (g.met.L.Loads.one loader) _ _ said.entries c.add_loaded.ensures.rising said.names said.nodes
+          c.new_of-fresh-in-rounds.ensures.fresh;
       room = omega arith;
     }
 
 pub returns-clause-closure : goal.returns-clause-closure
 returns-clause-closure g c =
-    closure_at_end g.K.Ord.cmp (g.L.Loads.loaded c.args.loader.now) (g.L.Loads.named c.args.loader.now) c.args.sources.now _ _ c.rounds.invariant.way (search rules)
+    let loader = c.args.loader.now in
+    closure_at_end g.K.Ord.cmp (g.L.Loads.is_node loader) (g.L.Loads.is_loaded loader) (g.L.Loads.named loader) c.args.sources.now _ _
+    c.rounds.invariant.way (search rules)
+
+pub returns-clause-loaded : goal.returns-clause-loaded
+returns-clause-loaded g c = c.rounds.invariant.way.loaded
+
+pub returns-clause-nodes : goal.returns-clause-nodes
+returns-clause-nodes g c = c.rounds.invariant.way.nodes
 
 pub returns-clause-not_over : goal.returns-clause-not_over
 returns-clause-not_over g c =
-    not_over g.K.Ord.cmp g.met.K.Ord.total (Listed c.args.sources.now) (NamedInLoad (g.L.Loads.loaded c.args.loader.now) (g.L.Loads.named c.args.loader.now))
+    let loader = c.args.loader.now in
+    not_over g.K.Ord.cmp g.met.K.Ord.total (Listed c.args.sources.now) (LeadsByLoad (g.L.Loads.is_loaded loader) (g.L.Loads.named loader))
     (keys c.rounds.found) c.args.limit
-    (closure_at_end g.K.Ord.cmp (g.L.Loads.loaded c.args.loader.now) (g.L.Loads.named c.args.loader.now) c.args.sources.now _ _ c.rounds.invariant.way (search rules))
+    (closure_at_end g.K.Ord.cmp (g.L.Loads.is_node loader) (g.L.Loads.is_loaded loader) (g.L.Loads.named loader) c.args.sources.now _ _
+    c.rounds.invariant.way (search rules))
     (rw (length-keys_of c.rounds.found.entries) c.rounds.invariant.room)

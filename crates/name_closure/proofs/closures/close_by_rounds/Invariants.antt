@@ -4,7 +4,9 @@ use Rattle.name_closure.proofs.closures.close_by_rounds.Given as goal
 
 abbrev pub invariant-rounds : goal.invariant-rounds
 invariant-rounds g l = record {
-  way : IsUnderWay g.K.Ord.cmp (g.L.Loads.loaded l.loader) (g.L.Loads.named l.loader) l.sources l.found.entries l.fresh.items;
+  way :
+      IsUnderWay g.K.Ord.cmp (g.L.Loads.is_node l.loader) (g.L.Loads.is_loaded l.loader) (g.L.Loads.named l.loader) l.sources l.found.entries
+      l.fresh.items;
   room : length l.found.entries ≤ l.limit;
 }
 

@@ -1,16 +1,24 @@
-use Rattle.std.proofs.Common.{ap, sym, ◌∙◌}
 use Rattle.name_closure.specs.ClosureLaws.{one_closure}
 use Rattle.name_closure.specs.LimitLaws.{not_over}
 use Rattle.name_closure.specs.ListedLaws.{Listed}
-use Rattle.name_closure.specs.Loading.{NamedInLoad, each_with}
+use Rattle.name_closure.specs.Loading.{LeadsByLoad}
+use Rattle.name_closure.specs.LoadingLaws.{leads_by_one, one_load_of_nodes}
 use Rattle.name_closure.proofs.laws.one_load.Goals as goal
 
+pub returns-clause-leads : goal.returns-clause-leads
+returns-clause-leads g c =
+    let loader = c.args.loader.now in
+    leads_by_one (g.L.Loads.is_loaded loader) (g.met.L.Loads.one loader) (g.L.Loads.named loader)
+
 pub returns-clause-same : goal.returns-clause-same
-returns-clause-same g c = λ xs ys a as_a b as_b.
-    let loaded = g.L.Loads.loaded c.args.loader.now in
-    let leads = NamedInLoad loaded (g.L.Loads.named c.args.loader.now) in
-    as_a ∙ ap (each_with loaded) (one_closure (Listed c.args.sources.now) leads g.K.Ord.cmp g.met.K.Ord.total _ _ a b) ∙ sym as_b
+returns-clause-same g c = λ xs ys a loaded_a b loaded_b.
+    let loader = c.args.loader.now in
+    let is_loaded = g.L.Loads.is_loaded loader in
+    let leads = LeadsByLoad is_loaded (g.L.Loads.named loader) in
+    one_load_of_nodes is_loaded (g.met.L.Loads.one loader) xs ys
+    (one_closure (Listed c.args.sources.now) leads g.K.Ord.cmp g.met.K.Ord.total _ _ a b) loaded_a loaded_b
 
 pub returns-clause-not_over : goal.returns-clause-not_over
 returns-clause-not_over g c = λ nodes limit.
-    not_over g.K.Ord.cmp g.met.K.Ord.total (Listed c.args.sources.now) (NamedInLoad (g.L.Loads.loaded c.args.loader.now) (g.L.Loads.named c.args.loader.now)) nodes limit
+    let loader = c.args.loader.now in
+    not_over g.K.Ord.cmp g.met.K.Ord.total (Listed c.args.sources.now) (LeadsByLoad (g.L.Loads.is_loaded loader) (g.L.Loads.named loader)) nodes limit

@@ -1,6 +1,9 @@
-use Rattle.std.proofs.Common.{◌≡◌}
-use Rattle.name_closure.specs.Loading.{each_with}
+use Rattle.std.proofs.Common.{All}
+use Rattle.name_closure.specs.Loading.{AreLoads}
 use Rattle.name_closure.proofs.loads.load_each.Given as goal
 
 abbrev pub invariant-loop-node : goal.invariant-loop-node
-invariant-loop-node g l = l.pairs.items ≡ each_with (g.L.Loads.loaded l.loader) l.yielded
+invariant-loop-node g l = record {
+  loads : AreLoads (g.L.Loads.is_loaded l.loader) l.yielded l.pairs.items;
+  left : All (g.L.Loads.is_node l.loader) l.node-iterator.rest.items;
+}
