@@ -203,15 +203,3 @@ pub instances_keep_their_part : InstancesKeepTheirPart
 instances_keep_their_part s n h e =
     let k = resolves_keeps s (instance n) n (resolution s n) (resolution_resolves s n) (record { name = h; shape_is = e; part = refl }) in
     (k.name, k.shape_is, k.part)
-
--- a name whose main is another is an alias
-pub others_lead : (s : EntryMap) (n : Name) → n ≢ main s n → (m : Name) × Leads s n m
-others_lead s n differs = by (resolution s n) (resolution_resolves s n) differs
-  where
-    first : (d : ℕ) (u : Name) → Chain s d n u → n ≢ u → (m : Name) × Leads s n m
-    first d u (here _) k = absurd (k refl)
-    first d u (step _ m _ e l rest) k = (m, l)
-
-    by : (r : Resolution) → Resolves s n r → n ≢ r.main → (m : Name) × Leads s n m
-    by r (ends_at d u le chain ends) k = first d u chain k
-    by r (goes_on u chain) k = absurd (k refl)
