@@ -1,7 +1,8 @@
 //! Calls on stores.
 use crate::calls::{CallFault, Words};
 use crate::edits::{
-    append_content, append_entries, append_paths, append_placed, append_store, append_version, edit_of, store, told,
+    append_content, append_entries, append_paths, append_placed, append_store, append_version,
+    edit_of, store, told,
 };
 use replica_store::{Content, Entry, Path, Store};
 use std::alloc::Global;
