@@ -12,16 +12,14 @@ use Rattle.std.proofs.lemmas.Slice.Eq.{bytes_eq-Decides}
 use Rattle.load_path.specs.Paths.{PathParts, path_cmp}
 use Rattle.load_path.specs.PathLaws.{path_cmp_total, path_cmp-IsAntisymmetric}
 use Rattle.edit_sums.specs.Entries.{Entry}
-use Rattle.edit_sums.specs.Sums.{EntryMap, edit_of, shown}
+use Rattle.edit_sums.specs.Sums.{EntryMap, edit_of}
 use Rattle.edit_sums.specs.GreatestLaws.{get_from_edits_of}
 use Rattle.list_laws.specs.Members.{IsAmong}
 use Rattle.path_maps.specs.Folders.{is_in}
-use Rattle.dropins.specs.declared.precedence.Candidate.{Candidate}
 use Rattle.dropins.specs.declared.precedence.Search.{Search}
-use Rattle.dropins.specs.Taken.{as_found, candidate_at}
 use Rattle.list_laws.specs.FirstSaid.{first_said}
 use Rattle.list_laws.specs.Orderings.{is_equal}
-use Rattle.dropins.specs.Walks.{path, said_for}
+use Rattle.dropins.specs.Walks.{path, said_for, take_at, take_of}
 use Rattle.dropins.proofs.Firsts.{said_among}
 
 module _ (r : ℕ) (d f : List ℕ) where
@@ -51,37 +49,34 @@ module _ (r : ℕ) (d f : List ℕ) where
       step false n true hi hn he = sym (back he) ∙ ap (λ b. b && bytes_eq k.name f) hi
       step false n false hi hn he = refl
 
-  says_at : EntryMap → Search → PathParts → Option Candidate
-  says_at s x p = cond (bytes_eq p.name f) (candidate_at s x p) None
-
-  among : (s : EntryMap) (x : Search) (ks : List PathParts) → first_said (λ p. cond (bytes_eq p.name f) (candidate_at s x p) None) (filter (is_in r d) ks) ≡ cond (list_any (eq_by_cmp path_cmp (path r d f)) ks) (candidate_at s x (path r d f)) None
+  among : (s : EntryMap) (x : Search) (ks : List PathParts) → first_said (λ p. cond (bytes_eq p.name f) (take_at s x p) None) (filter (is_in r d) ks) ≡ cond (list_any (eq_by_cmp path_cmp (path r d f)) ks) (take_at s x (path r d f)) None
   among s x [] = refl
   among s x (k ∷ ks) =
-      said_among (λ p. cond (bytes_eq p.name f) (candidate_at s x p) None) k (filter (is_in r d) ks) (is_in r d k) (bytes_eq k.name f) (list_any (eq_by_cmp path_cmp (path r d f)) ks) (candidate_at s x k) (candidate_at s x (path r d f)) refl (λ i n. ap (candidate_at s x) (same_path k i n)) (among s x ks)
-      ∙ sym (ap (λ b. cond (b || list_any (eq_by_cmp path_cmp (path r d f)) ks) (candidate_at s x (path r d f)) None) (tied k))
+      said_among (λ p. cond (bytes_eq p.name f) (take_at s x p) None) k (filter (is_in r d) ks) (is_in r d k) (bytes_eq k.name f) (list_any (eq_by_cmp path_cmp (path r d f)) ks) (take_at s x k) (take_at s x (path r d f)) refl (λ i n. ap (take_at s x) (same_path k i n)) (among s x ks)
+      ∙ sym (ap (λ b. cond (b || list_any (eq_by_cmp path_cmp (path r d f)) ks) (take_at s x (path r d f)) None) (tied k))
 
-  none_held : (x : Search) (o : Option Entry) → cond (is_some o) (option_and_then (as_found x (path r d f)) (option_and_then shown o)) None ≡ option_and_then (as_found x (path r d f)) (option_and_then shown o)
+  none_held : (x : Search) (o : Option Entry) → cond (is_some o) (option_and_then (λ e. take_of x (path r d f, e)) o) None ≡ option_and_then (λ e. take_of x (path r d f, e)) o
   none_held x None = refl
   none_held x (Some e) = refl
 
   -- the paths of a folder say what stands at the path of a file name there
-  folder_says : (s : EntryMap) (x : Search) → first_said (λ p. cond (bytes_eq p.name f) (candidate_at s x p) None) (filter (is_in r d) (finmap.keys s)) ≡ candidate_at s x (path r d f)
+  folder_says : (s : EntryMap) (x : Search) → first_said (λ p. cond (bytes_eq p.name f) (take_at s x p) None) (filter (is_in r d) (finmap.keys s)) ≡ take_at s x (path r d f)
   folder_says s x =
       among s x (finmap.keys s)
-      ∙ ap (λ b. cond b (candidate_at s x (path r d f)) None) (sym (contains_key-keys s (path r d f)))
+      ∙ ap (λ b. cond b (take_at s x (path r d f)) None) (sym (contains_key-keys s (path r d f)))
       ∙ none_held x (finmap.get s (path r d f))
 
   -- entries of the store say what stands at their paths
   entries_say : (s : EntryMap) (x : Search) (es : List (PathParts × Entry)) → ((p : PathParts × Entry) → IsAmong (edit_of p) (map edit_of es) → finmap.get s p.0 ≡ Some p.1)
-      → first_said (said_for x f) (filter (λ p. is_in r d p.0) es) ≡ first_said (λ p. cond (bytes_eq p.name f) (candidate_at s x p) None) (filter (is_in r d) (map (λ p. p.0) es))
+      → first_said (said_for x f) (filter (λ p. is_in r d p.0) es) ≡ first_said (λ p. cond (bytes_eq p.name f) (take_at s x p) None) (filter (is_in r d) (map (λ p. p.0) es))
   entries_say s x [] held = refl
   entries_say s x (p ∷ es) held =
       let rest = entries_say s x es (λ q h. held q (inr h)) in
-      let same : said_for x f p ≡ cond (bytes_eq p.0.name f) (candidate_at s x p.0) None = ap (λ o. cond (bytes_eq p.0.name f) (option_and_then (as_found x p.0) (option_and_then shown o)) None) (sym (held p (inl refl))) in
-      elim (is_in r d p.0) as (λ b. first_said (said_for x f) (cond b (p ∷ filter (λ q. is_in r d q.0) es) (filter (λ q. is_in r d q.0) es)) ≡ first_said (λ q. cond (bytes_eq q.name f) (candidate_at s x q) None) (cond b (p.0 ∷ filter (is_in r d) (map (λ q. q.0) es)) (filter (is_in r d) (map (λ q. q.0) es)))) [
+      let same : said_for x f p ≡ cond (bytes_eq p.0.name f) (take_at s x p.0) None = ap (λ o. cond (bytes_eq p.0.name f) (option_and_then (λ e. take_of x (p.0, e)) o) None) (sym (held p (inl refl))) in
+      elim (is_in r d p.0) as (λ b. first_said (said_for x f) (cond b (p ∷ filter (λ q. is_in r d q.0) es) (filter (λ q. is_in r d q.0) es)) ≡ first_said (λ q. cond (bytes_eq q.name f) (take_at s x q) None) (cond b (p.0 ∷ filter (is_in r d) (map (λ q. q.0) es)) (filter (is_in r d) (map (λ q. q.0) es)))) [
         | true ↦ (λ i. option_or (same i) (rest i))
         | false ↦ rest
       ]
 
-  pub folder_entries_say : (s : EntryMap) (x : Search) → first_said (said_for x f) (filter (λ p. is_in r d p.0) (finmap.entries s)) ≡ candidate_at s x (path r d f)
+  pub folder_entries_say : (s : EntryMap) (x : Search) → first_said (said_for x f) (filter (λ p. is_in r d p.0) (finmap.entries s)) ≡ take_at s x (path r d f)
   folder_entries_say s x = entries_say s x (finmap.entries s) (λ p h. get_from_edits_of (edit_of p) s h) ∙ folder_says s x

@@ -4,3 +4,4 @@ pub mod Found
 pub mod Listed
 pub mod Placed
 pub mod Rises
+pub mod Lends

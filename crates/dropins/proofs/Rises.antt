@@ -3,6 +3,7 @@ use Rattle.std.proofs.Common.{◌≡◌, ℕ, Bool, true, false, cond, Some, Lis
 use Rattle.std.specs.Prelude.{◌↔◌, ◌⊎◌}
 use Rattle.std.specs.List.{Contains, AllByRecursion}
 use Rattle.std.specs.List.Sorted.{IsStrictlySortedBy}
+use Rattle.std.specs.FinMap as finmap
 use Rattle.std.specs.Map.{keys_of}
 use Rattle.std.specs.BTreeMap.{BTreeMap, get, IsOrdered}
 use Rattle.std.specs.Cmp.Lexicographic.{nat_list_cmp_total}
@@ -12,79 +13,82 @@ use Rattle.std.proofs.lemmas.List.Kept.{IsStrictlySortedBy-filter}
 use Rattle.std.proofs.lemmas.Map.Views.{btree_map_get_iff}
 use Rattle.list_laws.specs.Members.{none_there, only_one}
 use Rattle.load_path.specs.Paths.{PathParts}
+use Rattle.edit_sums.specs.Entries.{Entry}
 use Rattle.edit_sums.specs.Sums.{EntryMap}
 use Rattle.unit_name.specs.Names.{Name, is_name, IsName, name_cmp}
 use Rattle.unit_name.specs.NameLaws.{name_cmp-IsAntisymmetric}
-use Rattle.dropins.specs.declared.precedence.Candidate.{Candidate}
-use Rattle.dropins.specs.declared.precedence.Candidate.TheVariants.{Mask, At}
+use Rattle.dropins.specs.declared.precedence.Take.{Take}
+use Rattle.dropins.specs.declared.precedence.Take.TheVariants.{Nothing, Placed}
 use Rattle.dropins.specs.declared.precedence.Search.{Search}
 use Rattle.dropins.specs.declared.precedence.Search.TheVariants.{Links}
-use Rattle.dropins.specs.Taken.{file_name, dirs_with, ending, IsTaken, IsLinked}
-use Rattle.dropins.specs.Walks.{taken, given, unmasked}
-use Rattle.dropins.specs.WalkLaws.{found_iff_taken, found_name}
+use Rattle.dropins.specs.Taken.{dirs_with, ending, IsTaken, IsLinkedOf, entry_name}
+use Rattle.dropins.specs.Taken.Candidate.{At}
+use Rattle.dropins.specs.Walks.{given, took, unmasked}
+use Rattle.dropins.specs.LentLaws.{held_there, made_there}
+use Rattle.dropins.proofs.Lends.{took_iff_taken, took_name}
 use Rattle.dropins.specs.declared.link_names.Folder.{Folder}
 
-abbrev IsNamed : List ℕ → Candidate → Type 0
-IsNamed f Mask = Unit {0}
-IsNamed f (At p) = p.name ≡ f
+abbrev IsNamed : List ℕ → Take → Type 0
+IsNamed f Nothing = Unit {0}
+IsNamed f (Placed p) = p.0.name ≡ f
 
--- each path stands under its file name
-abbrev AreNamed : List (List ℕ × Candidate) → Type 0
+-- each entry stands under its file name
+abbrev AreNamed : List (List ℕ × Take) → Type 0
 AreNamed [] = Unit {0}
 AreNamed (e ∷ es) = IsNamed e.0 e.1 × AreNamed es
 
-named_all : (es : List (List ℕ × Candidate)) → ((f : List ℕ) (p : PathParts) → Contains es (f, At p) → p.name ≡ f) → AreNamed es
+named_all : (es : List (List ℕ × Take)) → ((f : List ℕ) (p : PathParts × Entry) → Contains es (f, Placed p) → p.0.name ≡ f) → AreNamed es
 named_all [] h = tt
-named_all ((f, Mask) ∷ es) h = (tt, named_all es (λ g p c. h g p (Contains-append_right ((f, Mask) ∷ []) es (g, At p) c)))
-named_all ((f, At q) ∷ es) h = (h f q (Contains-append_left ((f, At q) ∷ []) es (f, At q) (Contains-push [] (f, At q))), named_all es (λ g p c. h g p (Contains-append_right ((f, At q) ∷ []) es (g, At p) c)))
+named_all ((f, Nothing) ∷ es) h = (tt, named_all es (λ g p c. h g p (Contains-append_right ((f, Nothing) ∷ []) es (g, Placed p) c)))
+named_all ((f, Placed q) ∷ es) h = (h f q (Contains-append_left ((f, Placed q) ∷ []) es (f, Placed q) (Contains-push [] (f, Placed q))), named_all es (λ g p c. h g p (Contains-append_right ((f, Placed q) ∷ []) es (g, Placed p) c)))
 
-below_names : (f : List ℕ) (es : List (List ℕ × Candidate)) → AllByRecursion (λ y. name_cmp f y ≡ Less) (keys_of es) → AreNamed es → AllByRecursion (λ y. name_cmp f y ≡ Less) (map file_name (unmasked es))
+below_names : (f : List ℕ) (es : List (List ℕ × Take)) → AllByRecursion (λ y. name_cmp f y ≡ Less) (keys_of es) → AreNamed es → AllByRecursion (λ y. name_cmp f y ≡ Less) (map entry_name (unmasked es))
 below_names f [] b n = tt
-below_names f ((g, Mask) ∷ es) b n = below_names f es b.1 n.1
-below_names f ((g, At p) ∷ es) b n = (ap (name_cmp f) n.0 ∙ b.0, below_names f es b.1 n.1)
+below_names f ((g, Nothing) ∷ es) b n = below_names f es b.1 n.1
+below_names f ((g, Placed p) ∷ es) b n = (ap (name_cmp f) n.0 ∙ b.0, below_names f es b.1 n.1)
 
-names_rise : (es : List (List ℕ × Candidate)) → IsStrictlySortedBy name_cmp (keys_of es) → AreNamed es → IsStrictlySortedBy name_cmp (map file_name (unmasked es))
+names_rise : (es : List (List ℕ × Take)) → IsStrictlySortedBy name_cmp (keys_of es) → AreNamed es → IsStrictlySortedBy name_cmp (map entry_name (unmasked es))
 unfolding IsStrictlySortedBy
 names_rise [] b n = tt
-names_rise ((g, Mask) ∷ es) b n = names_rise es b.1 n.1
-names_rise ((g, At p) ∷ es) b n = (subst (λ f. AllByRecursion (λ y. name_cmp f y ≡ Less) (map file_name (unmasked es))) (sym n.0) (below_names g es b.0 n.1), names_rise es b.1 n.1)
+names_rise ((g, Nothing) ∷ es) b n = names_rise es b.1 n.1
+names_rise ((g, Placed p) ∷ es) b n = (subst (λ f. AllByRecursion (λ y. name_cmp f y ≡ Less) (map entry_name (unmasked es))) (sym n.0) (below_names g es b.0 n.1), names_rise es b.1 n.1)
 
-given_there : (es : List (List ℕ × Candidate)) (p : PathParts) → AreNamed es → Contains (unmasked es) p → Contains es (p.name, At p)
+given_there : (es : List (List ℕ × Take)) (p : PathParts × Entry) → AreNamed es → Contains (unmasked es) p → Contains es (p.0.name, Placed p)
 given_there [] p n c = none_there p c
-given_there ((g, Mask) ∷ es) p n c = Contains-append_right ((g, Mask) ∷ []) es (p.name, At p) (given_there es p n.1 c)
-given_there ((g, At q) ∷ es) p n c = pick (given_there es p n.1) (Contains-append_cases (q ∷ []) (unmasked es) p c)
+given_there ((g, Nothing) ∷ es) p n c = Contains-append_right ((g, Nothing) ∷ []) es (p.0.name, Placed p) (given_there es p n.1 c)
+given_there ((g, Placed q) ∷ es) p n c = pick (given_there es p n.1) (Contains-append_cases (q ∷ []) (unmasked es) p c)
   where
-    pick : (Contains (unmasked es) p → Contains es (p.name, At p)) → Contains (q ∷ []) p ⊎ Contains (unmasked es) p → Contains ((g, At q) ∷ es) (p.name, At p)
+    pick : (Contains (unmasked es) p → Contains es (p.0.name, Placed p)) → Contains (q ∷ []) p ⊎ Contains (unmasked es) p → Contains ((g, Placed q) ∷ es) (p.0.name, Placed p)
     pick more (inl o) =
         let e = only_one q p o in
-        let same : (g, At q) ≡ (p.name, At p) = ap (λ f. (f, At q)) (sym n.0) ∙ ap (λ r. (r.name, At r)) e in
-        subst (Contains ((g, At q) ∷ es)) same (Contains-append_left ((g, At q) ∷ []) es (g, At q) (Contains-push [] (g, At q)))
-    pick more (inr o) = Contains-append_right ((g, At q) ∷ []) es (p.name, At p) (more o)
+        let same : (g, Placed q) ≡ (p.0.name, Placed p) = ap (λ f. (f, Placed q)) (sym n.0) ∙ ap (λ r. (r.0.name, Placed r)) e in
+        subst (Contains ((g, Placed q) ∷ es)) same (Contains-append_left ((g, Placed q) ∷ []) es (g, Placed q) (Contains-push [] (g, Placed q)))
+    pick more (inr o) = Contains-append_right ((g, Placed q) ∷ []) es (p.0.name, Placed p) (more o)
 
-there_given : (es : List (List ℕ × Candidate)) (f : List ℕ) (p : PathParts) → Contains es (f, At p) → Contains (unmasked es) p
+there_given : (es : List (List ℕ × Take)) (f : List ℕ) (p : PathParts × Entry) → Contains es (f, Placed p) → Contains (unmasked es) p
 there_given [] f p c = none_there _ c
-there_given (e ∷ es) f p c = pick (there_given es f p) (Contains-append_cases (e ∷ []) es (f, At p) c)
+there_given (e ∷ es) f p c = pick (there_given es f p) (Contains-append_cases (e ∷ []) es (f, Placed p) c)
   where
-    pick : (Contains es (f, At p) → Contains (unmasked es) p) → Contains (e ∷ []) (f, At p) ⊎ Contains es (f, At p) → Contains (unmasked (e ∷ es)) p
-    pick more (inl o) = subst (λ d. Contains (given d.1 ++ unmasked es) p) (sym (only_one e (f, At p) o)) (Contains-append_left (p ∷ []) (unmasked es) p (Contains-push [] p))
+    pick : (Contains es (f, Placed p) → Contains (unmasked es) p) → Contains (e ∷ []) (f, Placed p) ⊎ Contains es (f, Placed p) → Contains (unmasked (e ∷ es)) p
+    pick more (inl o) = subst (λ d. Contains (given d.1 ++ unmasked es) p) (sym (only_one e (f, Placed p) o)) (Contains-append_left (p ∷ []) (unmasked es) p (Contains-push [] p))
     pick more (inr o) = Contains-append_right (given e.1) (unmasked es) p (more o)
 
-module _ (s : EntryMap) (x : Search) (ds : List (List ℕ)) (m : BTreeMap (List ℕ) Candidate) (ordered : IsOrdered name_cmp m) (says : (f : List ℕ) → get name_cmp m f ≡ taken s x ds f) where
-  entry_is : (f : List ℕ) (v : Candidate) → (get name_cmp m f ≡ Some v) ↔ Contains m.entries (f, v)
+module _ (s : EntryMap) (x : Search) (ds : List (List ℕ)) (m : BTreeMap (List ℕ) Take) (ordered : IsOrdered name_cmp m) (says : (f : List ℕ) → get name_cmp m f ≡ took s x ds f) where
+  entry_is : (f : List ℕ) (v : Take) → (get name_cmp m f ≡ Some v) ↔ Contains m.entries (f, v)
   entry_is f v = btree_map_get_iff nat_list_cmp_total name_cmp-IsAntisymmetric m ordered f v
 
   named : AreNamed m.entries
-  named = named_all m.entries (λ f p c. found_name s x ds f p (sym (says f) ∙ (entry_is f (At p)).1 c))
+  named = named_all m.entries (λ f p c. took_name s x ds f p (sym (says f) ∙ (entry_is f (Placed p)).1 c))
 
-  -- the paths that are taken rise by file name
-  pub rising : (ps : List PathParts) → ps ≡ unmasked m.entries → IsStrictlySortedBy name_cmp (map file_name ps)
-  rising ps e = subst (λ qs. IsStrictlySortedBy name_cmp (map file_name qs)) (sym e) (names_rise m.entries ordered named)
+  -- the entries that are taken rise by file name
+  pub rising : (ps : List (PathParts × Entry)) → ps ≡ unmasked m.entries → IsStrictlySortedBy name_cmp (map entry_name ps)
+  rising ps e = subst (λ qs. IsStrictlySortedBy name_cmp (map entry_name qs)) (sym e) (names_rise m.entries ordered named)
 
   -- and are just those that are taken
-  pub exact : (ps : List PathParts) → ps ≡ unmasked m.entries → (p : PathParts) → Contains ps p ↔ IsTaken s x ds (At p) p
+  pub exact : (ps : List (PathParts × Entry)) → ps ≡ unmasked m.entries → (p : PathParts × Entry) → Contains ps p ↔ (IsTaken s x ds (At p.0) p.0 × (finmap.get s p.0 ≡ Some p.1))
   exact ps e p = (
-    λ c. (found_iff_taken s x ds p).0 (sym (says p.name) ∙ (entry_is p.name (At p)).1 (given_there m.entries p named (subst (λ qs. Contains qs p) e c))),
-    λ t. subst (λ qs. Contains qs p) (sym e) (there_given m.entries p.name p ((entry_is p.name (At p)).0 (says p.name ∙ (found_iff_taken s x ds p).1 t))),
+    λ c. (took_iff_taken s x ds p).0 (sym (says p.0.name) ∙ (entry_is p.0.name (Placed p)).1 (given_there m.entries p named (subst (λ qs. Contains qs p) e c))),
+    λ t. subst (λ qs. Contains qs p) (sym e) (there_given m.entries p.0.name p ((entry_is p.0.name (Placed p)).0 (says p.0.name ∙ (took_iff_taken s x ds p).1 t))),
   )
 
 name_there : (ks : List Name) (n : Name) → Contains (filter is_name ks) n → IsName n × Contains ks n
@@ -118,39 +122,34 @@ there_name (k ∷ ks) n h c = pick (there_name ks n h) (Contains-append_cases (k
     pick more (inl o) = here (is_name k) (subst IsName (sym (only_one k n o)) h) o
     pick more (inr o) = kept (is_name k) (more o)
 
-pub record HasPath (ps : List PathParts) (n : Name) : Type 0 where
-  path : PathParts
-  there : Contains ps path
-  name_is : path.name ≡ n
+record HasEntry (ps : List (PathParts × Entry)) (n : Name) : Type 0 where
+  entry : PathParts × Entry
+  there : Contains ps entry
+  name_is : entry.0.name ≡ n
 
-path_there : (ps : List PathParts) (n : Name) → Contains (map file_name ps) n → HasPath ps n
-path_there [] n c = none_there n c
-path_there (p ∷ ps) n c = pick (path_there ps n) (Contains-append_cases (p.name ∷ []) (map file_name ps) n c)
+entry_there : (ps : List (PathParts × Entry)) (n : Name) → Contains (map entry_name ps) n → HasEntry ps n
+entry_there [] n c = none_there n c
+entry_there (p ∷ ps) n c = pick (entry_there ps n) (Contains-append_cases (p.0.name ∷ []) (map entry_name ps) n c)
   where
-    pick : (Contains (map file_name ps) n → HasPath ps n) → Contains (p.name ∷ []) n ⊎ Contains (map file_name ps) n → HasPath (p ∷ ps) n
-    pick more (inl o) = record { path = p; there = Contains-append_left (p ∷ []) ps p (Contains-push [] p); name_is = only_one p.name n o }
-    pick more (inr o) = let h = more o in record { path = h.path; there = Contains-append_right (p ∷ []) ps h.path h.there; name_is = h.name_is }
-
-there_path : (ps : List PathParts) (p : PathParts) → Contains ps p → Contains (map file_name ps) p.name
-there_path [] p c = none_there p c
-there_path (q ∷ ps) p c = pick (there_path ps p) (Contains-append_cases (q ∷ []) ps p c)
-  where
-    pick : (Contains ps p → Contains (map file_name ps) p.name) → Contains (q ∷ []) p ⊎ Contains ps p → Contains (map file_name (q ∷ ps)) p.name
-    pick more (inl o) = subst (λ r. Contains (r ∷ map file_name ps) p.name) (sym (ap file_name (only_one q p o))) (Contains-append_left (p.name ∷ []) (map file_name ps) p.name (Contains-push [] p.name))
-    pick more (inr o) = Contains-append_right (q.name ∷ []) (map file_name ps) p.name (more o)
+    pick : (Contains (map entry_name ps) n → HasEntry ps n) → Contains (p.0.name ∷ []) n ⊎ Contains (map entry_name ps) n → HasEntry (p ∷ ps) n
+    pick more (inl o) = record { entry = p; there = Contains-append_left (p ∷ []) ps p (Contains-push [] p); name_is = only_one p.0.name n o }
+    pick more (inr o) = let h = more o in record { entry = h.entry; there = Contains-append_right (p ∷ []) ps h.entry h.there; name_is = h.name_is }
 
 -- the unit names among the file names of what is taken are those that are linked
-pub linked : (s : EntryMap) (names : List Name) (d : Folder) (ps : List PathParts) → ((p : PathParts) → Contains ps p ↔ IsTaken s Links (dirs_with (ending d) names) (At p) p) → (ns : List Name) → ns ≡ filter is_name (map file_name ps) → (n : Name) → Contains ns n ↔ IsLinked s names d n
-linked s names d ps ex ns e n = (there, back)
+pub linked : (s : EntryMap) (fs : List Name) (d : Folder) (ps : List (PathParts × Entry)) → ((p : PathParts × Entry) → Contains ps p ↔ (IsTaken s Links (dirs_with (ending d) fs) (At p.0) p.0 × (finmap.get s p.0 ≡ Some p.1)))
+    → (ns : List Name) → ns ≡ filter is_name (map entry_name ps) → (n : Name) → Contains ns n ↔ IsLinkedOf s fs d n
+linked s fs d ps ex ns e n = (there, back)
   where
-    there : Contains ns n → IsLinked s names d n
+    there : Contains ns n → IsLinkedOf s fs d n
     there c =
-        let h = name_there (map file_name ps) n (subst (λ ms. Contains ms n) e c) in
-        let p = path_there ps n h.1 in
-        record { name = h.0; path = p.path; name_is = p.name_is; taken = (ex p.path).0 p.there }
+        let h = name_there (map entry_name ps) n (subst (λ ms. Contains ms n) e c) in
+        let p = entry_there ps n h.1 in
+        record { name = h.0; path = p.entry.0; name_is = p.name_is; taken = ((ex p.entry).0 p.there).0 }
 
-    back : IsLinked s names d n → Contains ns n
-    back l = subst (λ ms. Contains ms n) (sym e) (there_name (map file_name ps) n l.name (subst (Contains (map file_name ps)) l.name_is (there_path ps l.path ((ex l.path).1 l.taken))))
+    back : IsLinkedOf s fs d n → Contains ns n
+    back l =
+        let h = held_there s Links l.path l.path l.taken.stands.says in
+        subst (λ ms. Contains ms n) (sym e) (there_name (map entry_name ps) n l.name (subst (Contains (map entry_name ps)) l.name_is (made_there entry_name ps (l.path, h.0) ((ex (l.path, h.0)).1 (l.taken, h.1)))))
 
-pub names_rising : (ps : List PathParts) → IsStrictlySortedBy name_cmp (map file_name ps) → (ns : List Name) → ns ≡ filter is_name (map file_name ps) → IsStrictlySortedBy name_cmp ns
-names_rising ps h ns e = subst (IsStrictlySortedBy name_cmp) (sym e) (IsStrictlySortedBy-filter name_cmp is_name (map file_name ps) h)
+pub names_rising : (ps : List (PathParts × Entry)) → IsStrictlySortedBy name_cmp (map entry_name ps) → (ns : List Name) → ns ≡ filter is_name (map entry_name ps) → IsStrictlySortedBy name_cmp ns
+names_rising ps h ns e = subst (IsStrictlySortedBy name_cmp) (sym e) (IsStrictlySortedBy-filter name_cmp is_name (map entry_name ps) h)

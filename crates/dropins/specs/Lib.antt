@@ -7,3 +7,4 @@ pub mod PrecedenceLaws
 pub mod CutLaws
 pub mod FolderLaws
 pub mod OrderLaws
+pub mod LentLaws

@@ -12,7 +12,7 @@ use Rattle.edit_sums.specs.Sums.{EntryMap, visible_at}
 use Rattle.edit_sums.specs.declared.contents.Content.{Content}
 use Rattle.edit_sums.specs.declared.contents.Content.TheVariants.{Gone, Link, File}
 use Rattle.unit_name.specs.Names.{Name, name_cmp}
-use Rattle.dropins.specs.declared.precedence.Candidate.TheVariants.{Mask, At}
+use Rattle.dropins.specs.Taken.Candidate.{Mask, At}
 use Rattle.dropins.specs.Taken.{file_name, is_conf, is_null, content_as_drop_in, IsDropIn}
 
 -- lists of paths that rise by file name and have the same paths are the same list

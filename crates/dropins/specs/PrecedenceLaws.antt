@@ -6,10 +6,9 @@ use Rattle.list_laws.specs.Agreements.{agree_everywhere}
 use Rattle.load_path.specs.Paths.{PathParts, path_cmp}
 use Rattle.load_path.specs.PathLaws.{path_cmp_total, path_cmp-IsAntisymmetric}
 use Rattle.edit_sums.specs.Sums.{EntryMap, visible_at}
-use Rattle.dropins.specs.declared.precedence.Candidate.{Candidate}
-use Rattle.dropins.specs.declared.precedence.Candidate.TheVariants.{Mask, At}
+use Rattle.dropins.specs.Taken.Candidate.{Mask, At}
 use Rattle.dropins.specs.declared.precedence.Search.{Search}
-use Rattle.dropins.specs.Taken.{as_found, Stands, IsTaken, TakenFor}
+use Rattle.dropins.specs.Taken.{Candidate, as_found, Stands, IsTaken, TakenFor}
 use Rattle.dropins.specs.Walks.{taken}
 use Rattle.dropins.specs.WalkLaws as walk
 

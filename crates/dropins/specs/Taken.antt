@@ -1,9 +1,12 @@
 -- Drop-ins and links: what stands for a file name in the folders of names, and what of it is taken.
 -- Source: systemd.unit(5), "Description"; that the rank goes before the closeness of a folder is this project's own.
-use Rattle.std.specs.Prelude.{◌≡◌, ℕ, ◌-◌, ◌<◌, ◌≤◌, ◌⊎◌, nat_lt, Bool, ◌&&◌, if◌then◌else◌, Option, Some, None, List, [], ◌∷◌, ◌++◌, length, map, drop, slice_get, codes}
+use Rattle.std.specs.Prelude.{◌≡◌, ◌↔◌, ℕ, ◌-◌, ◌<◌, ◌≤◌, ◌⊎◌, nat_lt, Bool, ◌&&◌, if◌then◌else◌, Option, Some, None, List, [], ◌∷◌, ◌++◌, length, map, drop, slice_get, codes}
 use Rattle.std.specs.Option.{option_and_then}
+use Rattle.std.specs.FinMap as finmap
+use Rattle.std.specs.List.{Contains}
 use Rattle.std.specs.Str.{bytes_eq}
 use Rattle.load_path.specs.Paths.{PathParts}
+use Rattle.edit_sums.specs.Entries.{Entry}
 use Rattle.edit_sums.specs.Sums.{EntryMap, visible_at}
 use Rattle.edit_sums.specs.declared.contents.Content.{Content}
 use Rattle.edit_sums.specs.declared.contents.Content.TheVariants.{Gone, Link, File}
@@ -11,10 +14,13 @@ use Rattle.unit_name.specs.Names.{Name, IsName}
 use Rattle.dropins.specs.FolderLists.{folders}
 use Rattle.dropins.specs.declared.link_names.Folder.{Folder}
 use Rattle.dropins.specs.declared.link_names.Folder.TheVariants.{Wants, Requires}
-use Rattle.dropins.specs.declared.precedence.Candidate.{Candidate}
-use Rattle.dropins.specs.declared.precedence.Candidate.TheVariants.{Mask, At}
 use Rattle.dropins.specs.declared.precedence.Search.{Search}
 use Rattle.dropins.specs.declared.precedence.Search.TheVariants.{DropIns, Links}
+
+-- what stands for a file name in a folder: it takes the place and gives nothing, or it gives what is at this path
+pub data Candidate : Type 0 where
+  Mask : Candidate
+  At : PathParts → Candidate
 
 -- whether a file name ends in .conf and is longer
 abbrev pub is_conf : List ℕ → Bool
@@ -73,20 +79,39 @@ abbrev pub ending : Folder → List ℕ
 ending Wants = codes ".wants"
 ending Requires = codes ".requires"
 
--- the names' folders with this ending
+-- these folders with this ending
 abbrev pub dirs_with : List ℕ → List Name → List (List ℕ)
-dirs_with end ns = map (λ n. n ++ end) (folders ns)
+dirs_with end fs = map (λ n. n ++ end) fs
+
+-- the path is a drop-in of a unit with these folders
+abbrev pub IsDropInOf : EntryMap → List Name → PathParts → Type 0
+IsDropInOf s fs p = IsTaken s DropIns (dirs_with (codes ".d") fs) (At p) p
 
 -- the path is a drop-in of a unit of these names
 abbrev pub IsDropIn : EntryMap → List Name → PathParts → Type 0
-IsDropIn s ns p = IsTaken s DropIns (dirs_with (codes ".d") ns) (At p) p
+IsDropIn s ns p = IsDropInOf s (folders ns) p
 
--- the names' link folders of this sort give this name: it is a unit's, and a link is taken for it
-pub record IsLinked (s : EntryMap) (ns : List Name) (d : Folder) (n : Name) : Type 0 where
+-- the link folders of this sort of a unit with these folders give this name: it is a unit's, and a link is taken for it
+pub record IsLinkedOf (s : EntryMap) (fs : List Name) (d : Folder) (n : Name) : Type 0 where
   pub name : IsName n
   pub path : PathParts
   pub name_is : path.name ≡ n
-  pub taken : IsTaken s Links (dirs_with (ending d) ns) (At path) path
+  pub taken : IsTaken s Links (dirs_with (ending d) fs) (At path) path
+
+-- and those of a unit of these names
+abbrev pub IsLinked : EntryMap → List Name → Folder → Name → Type 0
+IsLinked s ns d n = IsLinkedOf s (folders ns) d n
 
 abbrev pub file_name : PathParts → List ℕ
 file_name p = p.name
+
+-- the path of an entry, and its file name
+abbrev pub entry_path : PathParts × Entry → PathParts
+entry_path p = p.0
+
+abbrev pub entry_name : PathParts × Entry → List ℕ
+entry_name p = p.0.name
+
+-- these entries are the store's at the drop-ins of a unit with these folders
+abbrev pub AreDropInsOf : EntryMap → List Name → List (PathParts × Entry) → Type 0
+AreDropInsOf s fs ps = (p : PathParts × Entry) → Contains ps p ↔ (IsDropInOf s fs p.0 × (finmap.get s p.0 ≡ Some p.1))

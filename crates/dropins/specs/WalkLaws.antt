@@ -8,11 +8,10 @@ use Rattle.load_path.specs.Paths.{PathParts}
 use Rattle.edit_sums.specs.Sums.{EntryMap, visible_at}
 use Rattle.edit_sums.specs.declared.contents.Content.{Content}
 use Rattle.edit_sums.specs.declared.contents.Content.TheVariants.{Gone, Link, File}
-use Rattle.dropins.specs.declared.precedence.Candidate.{Candidate}
-use Rattle.dropins.specs.declared.precedence.Candidate.TheVariants.{Mask, At}
+use Rattle.dropins.specs.Taken.Candidate.{Mask, At}
 use Rattle.dropins.specs.declared.precedence.Search.{Search}
 use Rattle.dropins.specs.declared.precedence.Search.TheVariants.{DropIns, Links}
-use Rattle.dropins.specs.Taken.{is_conf, is_null, content_as_drop_in, as_found, candidate_at, Stands, IsTaken, TakenFor}
+use Rattle.dropins.specs.Taken.{Candidate, is_conf, is_null, content_as_drop_in, as_found, candidate_at, Stands, IsTaken, TakenFor}
 use Rattle.dropins.specs.Walks.{path, taken_in, ranks, taken}
 use Rattle.list_laws.specs.FirstSaid.{IsFirst, first_is, none_says}
 
@@ -26,7 +25,7 @@ rank_is (suc (suc (suc (suc r)))) d h = absurd (omega arith)
 
 -- ---- a candidate that is a path stands at that path
 
-pub path_or : PathParts → Option Candidate → PathParts
+unfoldable pub path_or : PathParts → Option Candidate → PathParts
 path_or q None = q
 path_or q (Some Mask) = q
 path_or q (Some (At p)) = p
@@ -56,7 +55,7 @@ content_path Links q (Link target) = step (is_null target)
     step true = refl
     step false = refl
 
-found_path : (x : Search) (q : PathParts) (o : Option Content) → path_or q (option_and_then (as_found x q) o) ≡ q
+pub found_path : (x : Search) (q : PathParts) (o : Option Content) → path_or q (option_and_then (as_found x q) o) ≡ q
 unfolding path_or
 found_path x q None = refl
 found_path x q (Some c) = content_path x q c

@@ -1,45 +1,64 @@
 -- What is taken for a file name, found by walking through ranks and folders: words for private clauses.
 -- Source: this project's own.
 use Rattle.std.specs.Prelude.{ℕ, Option, None, if◌then◌else◌, List, [], ◌∷◌, ◌++◌}
-use Rattle.std.specs.Option.{option_and_then}
+use Rattle.std.specs.Option.{option_and_then, option_map}
+use Rattle.std.specs.FinMap as finmap
 use Rattle.std.specs.Str.{bytes_eq}
 use Rattle.edit_sums.specs.Entries.{Entry}
 use Rattle.list_laws.specs.FirstSaid.{first_said}
 use Rattle.load_path.specs.Paths.{PathParts}
 use Rattle.edit_sums.specs.Sums.{EntryMap, shown}
-use Rattle.dropins.specs.declared.precedence.Candidate.{Candidate}
-use Rattle.dropins.specs.declared.precedence.Candidate.TheVariants.{Mask, At}
+use Rattle.dropins.specs.declared.precedence.Take.{Take}
+use Rattle.dropins.specs.declared.precedence.Take.TheVariants.{Nothing, Placed}
 use Rattle.dropins.specs.declared.precedence.Search.{Search}
-use Rattle.dropins.specs.Taken.{as_found, candidate_at}
+use Rattle.dropins.specs.Taken.{Candidate, as_found, candidate_at}
+use Rattle.dropins.specs.Taken.Candidate.{Mask, At}
 
 abbrev pub path : ℕ → List ℕ → List ℕ → PathParts
 path r d f = record { rank = r; folder = d; name = f }
-
--- the candidate that an entry is, with its path
-abbrev pub entry_as_found : Search → PathParts × Entry → Option Candidate
-entry_as_found x p = option_and_then (as_found x p.0) (shown p.1)
-
--- the same where its file name is this one
-abbrev pub said_for : Search → List ℕ → PathParts × Entry → Option Candidate
-said_for x f p = if bytes_eq p.0.name f then entry_as_found x p else None
-
--- the candidate of a file name in a directory's first folder that has one
-abbrev pub taken_in : EntryMap → Search → List (List ℕ) → List ℕ → ℕ → Option Candidate
-taken_in s x ds f r = first_said (λ d. candidate_at s x (path r d f)) ds
 
 -- the ranks of the directories
 abbrev pub ranks : List ℕ
 ranks = 0 ∷ 1 ∷ 2 ∷ 3 ∷ []
 
+-- an entry that gives its path, or a mask
+abbrev pub lent : PathParts × Entry → Candidate → Take
+lent p Mask = Nothing
+lent p (At q) = Placed p
+
+-- what is taken where an entry comes first
+abbrev pub take_of : Search → PathParts × Entry → Option Take
+take_of x p = option_map (lent p) (option_and_then (as_found x p.0) (shown p.1))
+
+-- the same where its file name is this one
+abbrev pub said_for : Search → List ℕ → PathParts × Entry → Option Take
+said_for x f p = if bytes_eq p.0.name f then take_of x p else None
+
+-- the same of the entry at a path
+abbrev pub take_at : EntryMap → Search → PathParts → Option Take
+take_at s x q = option_and_then (λ e. take_of x (q, e)) (finmap.get s q)
+
+-- what is taken for a file name in a directory's first folder that has something
+abbrev pub took_in : EntryMap → Search → List (List ℕ) → List ℕ → ℕ → Option Take
+took_in s x ds f r = first_said (λ d. take_at s x (path r d f)) ds
+
+-- what is taken for a file name
+abbrev pub took : EntryMap → Search → List (List ℕ) → List ℕ → Option Take
+took s x ds f = first_said (took_in s x ds f) ranks
+
+-- the candidate of a file name in a directory's first folder that has one
+abbrev pub taken_in : EntryMap → Search → List (List ℕ) → List ℕ → ℕ → Option Candidate
+taken_in s x ds f r = first_said (λ d. candidate_at s x (path r d f)) ds
+
 -- the candidate that is found first for a file name
 abbrev pub taken : EntryMap → Search → List (List ℕ) → List ℕ → Option Candidate
 taken s x ds f = first_said (taken_in s x ds f) ranks
 
-abbrev pub given : Candidate → List PathParts
-given Mask = []
-given (At p) = p ∷ []
+abbrev pub given : Take → List (PathParts × Entry)
+given Nothing = []
+given (Placed p) = p ∷ []
 
--- the paths of what is taken, without masks
-abbrev pub unmasked : List (List ℕ × Candidate) → List PathParts
+-- the entries that are taken, without masks
+abbrev pub unmasked : List (List ℕ × Take) → List (PathParts × Entry)
 unmasked [] = []
 unmasked (t ∷ ts) = given t.1 ++ unmasked ts

@@ -6,6 +6,7 @@ ghost use Rattle.dropins.specs.Listings.{IsKept};
 
 use std::alloc::{AllocError, Global};
 use std::collections::BTreeSet;
+use std::marker::Model;
 use unit_name::{NameFault, UnitName};
 
 // Names in the order of their first places, and the same names in a set.
@@ -88,6 +89,38 @@ pub fn folders(alloc: Global, names: &[UnitName]) -> Result<Vec<UnitName>, Alloc
         all.add_folders(alloc, name)?;
     }
     Ok(all.names)
+}
+
+/// The folders of a unit, listed once for its drop-ins and its links: in contracts the list.
+#[derive(Drop)]
+pub struct UnitFolders {
+    names: Vec<UnitName>,
+}
+
+impl Model for UnitFolders {
+    ghost use Rattle.std.specs.Prelude.{List};
+    ghost use Rattle.unit_name.specs.Names.{Name};
+
+    ghost Value = { List Name };
+
+    ghost view = { λ folders. folders.names.items };
+}
+
+impl UnitFolders {
+    /// Those of a unit of these names, as `folders` lists them.
+    pub fn of(alloc: Global, names: &[UnitName]) -> Result<UnitFolders, AllocError>
+        ensures folders { IfOk result (λ all. all ≡ folders names.now) }
+    {
+        let names = folders(alloc, names)?;
+        Ok(UnitFolders { names })
+    }
+
+    /// The names of the folders, without an ending.
+    pub fn names(&self) -> &[UnitName]
+        ensures names { result.now ≡ self.now }
+    {
+        self.names.as_slice()
+    }
 }
 
 // The name with another prefix.

@@ -2,6 +2,7 @@
 ghost use Rattle.dropins.specs.PrecedenceLaws.{RanksGoFirst, SomethingIsTaken, TakenOnce, MasksHide, FoldersDecide, RemovalsGiveBack};
 ghost use Rattle.dropins.specs.CutLaws.{CutsAreDashedFronts, LongerCutsComeFirst};
 ghost use Rattle.dropins.specs.FolderLaws.{OneFolder, FoldersAreNames, FoldersStandOnce};
+ghost use Rattle.dropins.specs.LentLaws.{LentAreDropIns};
 ghost use Rattle.dropins.specs.OrderLaws.{OneOrder, DropInsAreFiles};
 
 /// A directory's rank goes before the closeness of a folder. For each file name that anything
@@ -17,10 +18,11 @@ pub fn precedence_laws()
 {}
 
 /// What is in an order by file name says the order, whatever the folders. A drop-in is a file that
-/// isn't empty, and its name ends in `.conf`.
+/// isn't empty, and its name ends in `.conf`. The entries of drop-ins have these as their paths.
 pub fn order_laws()
     ensures same { OneOrder }
     ensures files { DropInsAreFiles }
+    ensures lent { LentAreDropIns }
 {}
 
 /// The folders of names are names, and each stands in the list once; names without dashes and

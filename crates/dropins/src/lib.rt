@@ -11,7 +11,7 @@ mod link_names;
 mod orders;
 mod precedence;
 
-pub use folder_lists::folders;
+pub use folder_lists::{UnitFolders, folders};
 pub use laws::{folder_laws, order_laws, precedence_laws};
 pub use link_names::{Folder, links};
 pub use orders::order;

@@ -3,10 +3,11 @@ ghost use Rattle.std.specs.Prelude.{◌≡◌, ◌↔◌, ℕ, List, IfOk, map, 
 ghost use Rattle.std.specs.List.{Contains};
 ghost use Rattle.std.specs.List.Sorted.{IsStrictlySortedBy};
 ghost use Rattle.unit_name.specs.Names.{Name, is_name, name_cmp};
-ghost use Rattle.dropins.specs.Taken.{IsLinked, ending, file_name};
+ghost use Rattle.dropins.specs.Taken.{IsLinked, IsLinkedOf, ending, entry_name};
 
-use crate::precedence::{Search, taken_paths};
-use replica_store::{Path, Store};
+use crate::folder_lists::UnitFolders;
+use crate::precedence::{Search, taken_entries};
+use replica_store::{Placed, Store};
 use std::alloc::{AllocError, Global};
 use unit_name::{NameFault, UnitName};
 
@@ -31,15 +32,35 @@ impl Folder {
     }
 }
 
-/// The names that the link folders of a unit of these names give, in byte order (systemd.unit(5),
-/// "Description").
+impl UnitFolders {
+    /// The names that the link folders of a unit with these folders give, in byte order
+    /// (systemd.unit(5), "Description").
+    ///
+    /// Only links count, and a link's own file name is the name that it gives. For each file name the
+    /// link of the least rank counts, and there that of the first folder of the list; where it leads to
+    /// `/dev/null`, or where the file name is no unit name, it gives nothing.
+    ///
+    /// A search in the store for each folder in each rank, and one among what is taken for each path
+    /// that stands there. It fails for want of memory alone.
+    pub fn links(
+        &self,
+        alloc: Global,
+        store: &Store,
+        folder: Folder,
+    ) -> Result<Vec<UnitName>, AllocError>
+        ensures rising { IfOk result (λ units. IsStrictlySortedBy name_cmp units.items) }
+        ensures exact { IfOk result (λ units. (n : Name) → Contains units.items n ↔ IsLinkedOf store.now
+            self.now folder n) }
+    {
+        let taken = taken_entries(alloc, store, self.names(), Search::Links, folder.ending())?;
+        unit_names(alloc, &taken)
+    }
+}
+
+/// The names that the link folders of a unit of these names give, in byte order: those of the names'
+/// folders.
 ///
-/// Only links count, and a link's own file name is the name that it gives. For each file name the
-/// link of the least rank counts, and there that of the first folder of the list; where it leads to
-/// `/dev/null`, or where the file name is no unit name, it gives nothing.
-///
-/// The folder list, then a search in the store for each folder in each rank and two for each path
-/// that stands there.
+/// The folder list, and then as `UnitFolders::links`.
 pub fn links(
     alloc: Global,
     store: &Store,
@@ -50,17 +71,17 @@ pub fn links(
     ensures exact { IfOk result (λ units. (n : Name) → Contains units.items n ↔ IsLinked store.now names.now
         folder n) }
 {
-    let paths = taken_paths(alloc, store, names, Search::Links, folder.ending())?;
-    unit_names(alloc, &paths)
+    let folders = UnitFolders::of(alloc, names)?;
+    folders.links(alloc, store, folder)
 }
 
 // The file names that are unit names.
-fn unit_names(alloc: Global, paths: &[Path]) -> Result<Vec<UnitName>, AllocError>
-    ensures names { IfOk result (λ units. units.items ≡ filter is_name (map file_name paths.now)) }
+fn unit_names(alloc: Global, taken: &[Placed]) -> Result<Vec<UnitName>, AllocError>
+    ensures names { IfOk result (λ units. units.items ≡ filter is_name (map entry_name taken.now)) }
 {
     let mut units = Vec::new(alloc);
-    for path in paths {
-        match UnitName::parse(alloc, path.name()) {
+    for placed in taken {
+        match UnitName::parse(alloc, placed.name().as_slice()) {
             Ok(unit) => units.push(unit)?,
             Err(NameFault::Memory) => return Err(AllocError),
             Err(_) => {}

@@ -1,29 +1,49 @@
 //! The drop-ins of a unit.
-ghost use Rattle.std.specs.Prelude.{◌≡◌, ◌↔◌, IfOk, map};
+ghost use Rattle.std.specs.Prelude.{◌↔◌, IfOk, map};
 ghost use Rattle.std.specs.List.{Contains};
 ghost use Rattle.std.specs.List.Sorted.{IsStrictlySortedBy};
 ghost use Rattle.load_path.specs.Paths.{PathParts};
 ghost use Rattle.unit_name.specs.Names.{name_cmp};
-ghost use Rattle.dropins.specs.Taken.{IsDropIn, file_name};
+ghost use Rattle.dropins.specs.Taken.{AreDropInsOf, IsDropIn, entry_name, file_name};
 
-use crate::precedence::{Search, taken_paths};
-use replica_store::{Path, Store};
+use crate::folder_lists::UnitFolders;
+use crate::precedence::{Search, paths_of, taken_entries};
+use replica_store::{Path, Placed, Store};
 use std::alloc::{AllocError, Global};
 use unit_name::UnitName;
 
-/// The drop-ins of a unit of these names, by file name (systemd.unit(5), "Description").
+impl UnitFolders {
+    /// The drop-ins of a unit with these folders, by file name (systemd.unit(5), "Description"),
+    /// with the entries that are visible there, lent.
+    ///
+    /// A drop-in is a file of one of the folders `NAME.d` whose name ends in `.conf` and is longer. For
+    /// each file name that of the least rank counts, and there that of the first folder of the list;
+    /// where it is empty, or is a link to `/dev/null`, there is none of this file name. Other links
+    /// don't count.
+    ///
+    /// A search in the store for each folder in each rank, and one among what is taken for each path
+    /// that stands there. It fails for want of memory alone, and copies no bytes of an entry.
+    pub fn drop_ins<'a>(
+        &self,
+        alloc: Global,
+        store: &'a Store,
+    ) -> Result<Vec<Placed<'a>>, AllocError>
+        ensures rising { IfOk result (λ taken. IsStrictlySortedBy name_cmp (map entry_name taken.items)) }
+        ensures exact { IfOk result (λ taken. AreDropInsOf store.now self.now taken.items) }
+    {
+        taken_entries(alloc, store, self.names(), Search::DropIns, b".d")
+    }
+}
+
+/// The paths of the drop-ins of a unit of these names, by file name: those of the names' folders.
 ///
-/// A drop-in is a file of one of the folders `NAME.d` whose name ends in `.conf` and is longer. For
-/// each file name that of the least rank counts, and there that of the first folder of the list;
-/// where it is empty, or is a link to `/dev/null`, there is none of this file name. Other links
-/// don't count.
-///
-/// The folder list, then a search in the store for each folder in each rank and two for each path
-/// that stands there.
+/// The folder list, and then as `UnitFolders::drop_ins`.
 pub fn order(alloc: Global, store: &Store, names: &[UnitName]) -> Result<Vec<Path>, AllocError>
     ensures rising { IfOk result (λ paths. IsStrictlySortedBy name_cmp (map file_name paths.items)) }
     ensures exact { IfOk result (λ paths. (p : PathParts) → Contains paths.items p ↔ IsDropIn store.now
         names.now p) }
 {
-    taken_paths(alloc, store, names, Search::DropIns, b".d")
+    let folders = UnitFolders::of(alloc, names)?;
+    let taken = folders.drop_ins(alloc, store)?;
+    paths_of(alloc, &taken)
 }

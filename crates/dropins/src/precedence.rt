@@ -1,17 +1,18 @@
 //! What is taken for each file name of some folders.
-ghost use Rattle.std.specs.Prelude.{◌≡◌, ℕ, ◌↔◌, List, IfOk, OnOk, Some, None, map, ◌++◌, if◌then◌else◌};
-ghost use Rattle.std.specs.Str.{bytes_eq};
+ghost use Rattle.std.specs.Prelude.{◌≡◌, ℕ, ◌↔◌, List, IfOk, OnOk, Some, None, map, ◌++◌};
 ghost use Rattle.std.specs.Option.{option_or};
 ghost use Rattle.std.specs.BTreeMap.{get, IsOrdered};
-ghost use Rattle.unit_name.specs.Names.{name_cmp};
-ghost use Rattle.dropins.specs.Taken.{is_conf, is_null, as_drop_in, as_link, candidate_at, file_name, dirs_with, IsTaken};
-ghost use Rattle.dropins.specs.Walks.{entry_as_found, path, said_for, taken_in, taken, unmasked};
+ghost use Rattle.std.specs.FinMap as finmap;
 ghost use Rattle.std.specs.List.{Contains};
 ghost use Rattle.std.specs.List.Sorted.{IsStrictlySortedBy};
 ghost use Rattle.load_path.specs.Paths.{PathParts};
-ghost use Rattle.dropins.specs.declared.precedence.Candidate.TheVariants.{At};
+ghost use Rattle.edit_sums.specs.Entries.{Entry};
+ghost use Rattle.unit_name.specs.Names.{name_cmp};
+ghost use Rattle.dropins.specs.Taken.{is_conf, is_null, dirs_with, IsTaken, entry_name, entry_path};
+ghost use Rattle.dropins.specs.Taken.Candidate.{At};
+ghost use Rattle.dropins.specs.declared.precedence.Search.TheVariants.{DropIns, Links};
+ghost use Rattle.dropins.specs.Walks.{path, said_for, take_at, take_of, took, took_in, unmasked};
 
-use crate::folder_lists::folders;
 use byte_strings::Bytes;
 use replica_store::{Content, LinkTarget, Path, Placed, Store};
 use std::alloc::{AllocError, Global};
@@ -30,41 +31,58 @@ pub enum Search {
     Links,
 }
 
-/// What stands for a file name in a folder.
-#[derive(Debug, Drop)]
-pub enum Candidate {
-    /// It takes the place and gives nothing.
-    Mask,
-    /// What is at this path.
-    At(Path),
+/// What is taken for a file name.
+#[derive(Drop)]
+pub enum Take<'a> {
+    /// A mask: it takes the place and gives nothing.
+    Nothing,
+    /// This entry.
+    Placed(Placed<'a>),
 }
 
 // What is taken, by file name.
-type Takes = BTreeMap<Bytes, Candidate>;
+type Takes<'a> = BTreeMap<Bytes, Take<'a>>;
 
-/// The paths that are taken in the names' folders with an ending, by file name, without masks.
-pub fn taken_paths(
+/// What is taken in folders with an ending, by file name, without masks.
+pub fn taken_entries<'a>(
     alloc: Global,
-    store: &Store,
-    names: &[UnitName],
+    store: &'a Store,
+    folders: &[UnitName],
     search: Search,
     ending: &[u8],
-) -> Result<Vec<Path>, AllocError>
-    ensures rising { IfOk result (λ paths. IsStrictlySortedBy name_cmp (map file_name paths.items)) }
-    ensures exact { IfOk result (λ paths. (p : PathParts) → Contains paths.items p ↔ IsTaken store.now
-        search (dirs_with ending.now names.now) (At p) p) }
+) -> Result<Vec<Placed<'a>>, AllocError>
+    ensures rising { IfOk result (λ taken. IsStrictlySortedBy name_cmp (map entry_name taken.items)) }
+    ensures exact { IfOk result (λ taken. (p : PathParts × Entry) → Contains taken.items p ↔
+        (IsTaken store.now search (dirs_with ending.now folders.now) (At p.0) p.0
+        × (finmap.get store.now p.0 ≡ Some p.1))) }
 {
-    let dirs = dirs_of(alloc, &folders(alloc, names)?, ending)?;
+    let dirs = dirs_of(alloc, folders, ending)?;
     let takes = taken(alloc, store, search, &dirs)?;
     unmasked(alloc, takes)
 }
 
-// For each file name the candidate of the least rank, and there of the first of the folders.
+/// The paths of entries, in their order.
+pub fn paths_of(alloc: Global, entries: &[Placed]) -> Result<Vec<Path>, AllocError>
+    ensures paths { IfOk result (λ paths. paths.items ≡ map entry_path entries.now) }
+{
+    let mut paths = Vec::new(alloc);
+    for placed in entries {
+        paths.push(placed.path()?)?;
+    }
+    Ok(paths)
+}
+
+// For each file name what is taken at the least rank, and there in the first of the folders.
 //
 // A search in the store for each folder in each rank, then for each path that stands there one in
-// the store and one in what is taken: O((r + p) log n) with p paths in r such folders.
-fn taken(alloc: Global, store: &Store, search: Search, dirs: &[Bytes]) -> Result<Takes, AllocError>
-    ensures taken { IfOk result (λ takes. (f : List ℕ) → get name_cmp takes f ≡ taken store.now search
+// what is taken: O((r + p) log n) with p paths in r such folders.
+fn taken<'a>(
+    alloc: Global,
+    store: &'a Store,
+    search: Search,
+    dirs: &[Bytes],
+) -> Result<Takes<'a>, AllocError>
+    ensures taken { IfOk result (λ takes. (f : List ℕ) → get name_cmp takes f ≡ took store.now search
         dirs.now f) }
 {
     let mut takes = BTreeMap::new(alloc);
@@ -74,16 +92,16 @@ fn taken(alloc: Global, store: &Store, search: Search, dirs: &[Bytes]) -> Result
     Ok(takes)
 }
 
-// Takes the candidates of one rank.
-fn take_rank(
-    store: &Store,
-    takes: &mut Takes,
+// Takes what stands at one rank.
+fn take_rank<'a>(
+    store: &'a Store,
+    takes: &mut Takes<'a>,
     search: Search,
     rank: u8,
     dirs: &[Bytes],
 ) -> Result<(), AllocError>
     ensures taken { OnOk result ((f : List ℕ) → get name_cmp takes.new f ≡ option_or
-        (get name_cmp takes.old f) (taken_in store.now search dirs.now f rank)) }
+        (get name_cmp takes.old f) (took_in store.now search dirs.now f rank)) }
 {
     for dir in dirs {
         take_folder(store, takes, search, rank, dir.as_slice())?;
@@ -91,84 +109,86 @@ fn take_rank(
     Ok(())
 }
 
-// Takes the candidates of one folder.
-fn take_folder(
-    store: &Store,
-    takes: &mut Takes,
+// Takes what stands in one folder.
+fn take_folder<'a>(
+    store: &'a Store,
+    takes: &mut Takes<'a>,
     search: Search,
     rank: u8,
     dir: &[u8],
 ) -> Result<(), AllocError>
     ensures taken { OnOk result ((f : List ℕ) → get name_cmp takes.new f ≡ option_or
-        (get name_cmp takes.old f) (candidate_at store.now search (path rank dir.now f))) }
+        (get name_cmp takes.old f) (take_at store.now search (path rank dir.now f))) }
 {
     let mut entries = store.entries_in(rank, dir);
     while let Some(placed) = entries.next_entry() {
-        take_entry(takes, search, &placed)?;
+        take_entry(takes, search, placed)?;
     }
     Ok(())
 }
 
-// Takes the candidate that an entry is, unless its file name is taken.
-fn take_entry(takes: &mut Takes, search: Search, placed: &Placed) -> Result<(), AllocError>
+// Takes an entry, unless its file name is taken.
+fn take_entry<'a>(
+    takes: &mut Takes<'a>,
+    search: Search,
+    placed: Placed<'a>,
+) -> Result<(), AllocError>
     ensures taken { OnOk result ((f : List ℕ) → get name_cmp takes.new f ≡ option_or
-        (get name_cmp takes.old f) (said_for search f placed.now)) }
+        (get name_cmp takes.old f) (said_for search f placed.entry)) }
 {
-    if takes.contains_key(placed.name()) {
+    let name = placed.name();
+    if takes.contains_key(name) {
         return Ok(());
     }
-    if let Some(candidate) = candidate_of(search, placed)? {
-        takes.insert(placed.name().try_clone()?, candidate)?;
+    if let Some(take) = take_of(search, placed) {
+        takes.insert(name.try_clone()?, take)?;
     }
     Ok(())
 }
 
-// The candidate that an entry is.
-fn candidate_of(search: Search, placed: &Placed) -> Result<Option<Candidate>, AllocError>
-    ensures candidate { IfOk result (λ candidate. candidate ≡ entry_as_found search placed.now) }
+// What is taken where an entry comes first.
+fn take_of<'a>(search: Search, placed: Placed<'a>) -> Option<Take<'a>>
+    ensures take { result ≡ take_of search placed.entry }
 {
-    let Some(content) = placed.visible() else {
-        return Ok(None);
-    };
     match search {
-        Search::DropIns => as_drop_in(placed, content),
-        Search::Links => as_link(placed, content),
+        Search::DropIns => as_drop_in(placed),
+        Search::Links => as_link(placed),
     }
 }
 
-fn as_drop_in(placed: &Placed, content: &Content) -> Result<Option<Candidate>, AllocError>
-    ensures candidate { IfOk result (λ candidate. candidate ≡ as_drop_in placed.now.0 content.now) }
+fn as_drop_in<'a>(placed: Placed<'a>) -> Option<Take<'a>>
+    ensures take { result ≡ take_of DropIns placed.entry }
 {
     if !is_conf(placed.name().as_slice()) {
-        return Ok(None);
+        return None;
     }
-    match content {
-        Content::Gone => Ok(None),
+    match &placed.entry().content {
+        Content::Gone => None,
         Content::File(file) => {
             if file.bytes().is_empty() {
-                return Ok(Some(Candidate::Mask));
+                return Some(Take::Nothing);
             }
-            Ok(Some(Candidate::At(placed.path()?)))
+            Some(Take::Placed(placed))
         }
         Content::Link(target) => {
             if is_null(target) {
-                return Ok(Some(Candidate::Mask));
+                return Some(Take::Nothing);
             }
-            Ok(None)
+            None
         }
     }
 }
 
-fn as_link(placed: &Placed, content: &Content) -> Result<Option<Candidate>, AllocError>
-    ensures candidate { IfOk result (λ candidate. candidate ≡ as_link placed.now.0 content.now) }
+fn as_link<'a>(placed: Placed<'a>) -> Option<Take<'a>>
+    ensures take { result ≡ take_of Links placed.entry }
 {
-    match content {
-        Content::Gone | Content::File(_) => Ok(None),
+    match &placed.entry().content {
+        Content::Gone | Content::File(_) => None,
         Content::Link(target) => {
             if is_null(target) {
-                return Ok(Some(Candidate::Mask));
+                return Some(Take::Nothing);
             }
-            Ok(Some(Candidate::At(placed.path()?)))
+            Some(Take::Placed(placed))
         }
     }
 }
@@ -206,16 +226,16 @@ fn dir_with(alloc: Global, folder: &UnitName, ending: &[u8]) -> Result<Bytes, Al
     Bytes::from_vec(bytes)
 }
 
-// The paths that are taken, by file name, without masks.
-fn unmasked(alloc: Global, takes: Takes) -> Result<Vec<Path>, AllocError>
-    ensures paths { IfOk result (λ paths. paths.items ≡ unmasked takes.entries) }
-    ensures ordered { IsOrdered name_cmp takes }
+// The entries that are taken, by file name, without masks.
+fn unmasked<'a>(alloc: Global, takes: Takes<'a>) -> Result<Vec<Placed<'a>>, AllocError>
+    ensures entries { IfOk result (λ taken. taken.items ≡ unmasked takes.entry.entries) }
+    ensures ordered { IsOrdered name_cmp takes.entry }
 {
-    let mut paths = Vec::new(alloc);
-    for (_, candidate) in takes {
-        if let Candidate::At(path) = candidate {
-            paths.push(path)?;
+    let mut taken = Vec::new(alloc);
+    for (_, take) in takes {
+        if let Take::Placed(placed) = take {
+            taken.push(placed)?;
         }
     }
-    Ok(paths)
+    Ok(taken)
 }

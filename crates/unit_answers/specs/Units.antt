@@ -6,7 +6,8 @@ use Rattle.std.specs.List.Sorted.{IsStrictlySortedBy}
 use Rattle.load_path.specs.Paths.{PathParts, text_of}
 use Rattle.edit_sums.specs.declared.contents.Content.{Content}
 use Rattle.edit_sums.specs.declared.contents.Content.TheVariants.{Gone, Link, File}
-use Rattle.edit_sums.specs.Sums.{EntryMap, visible_at}
+use Rattle.edit_sums.specs.Entries.{Entry}
+use Rattle.edit_sums.specs.Sums.{EntryMap, shown, visible_at}
 use Rattle.unit_name.specs.declared.names.NameFault.{NameFault}
 use Rattle.unit_name.specs.declared.names.NameFault.TheVariants as name
 use Rattle.unit_name.specs.Names.{Name, name_cmp, name_of}
@@ -37,13 +38,25 @@ file_bytes (Some (File bytes)) = bytes
 abbrev pub cat_text : EntryMap → List PathParts → List ℕ
 cat_text s paths = flat_map (λ path. file_lines path (file_bytes (visible_at s path))) paths ++ codes "end\n"
 
--- a file that isn't empty is visible at the path
-abbrev pub IsFileAt : EntryMap → PathParts → Type 0
-IsFileAt s p = (b : ℕ) × (bs : List ℕ) × (visible_at s p ≡ Some (File (b ∷ bs)))
+-- a file that isn't empty
+abbrev pub IsFile : Option Content → Type 0
+IsFile o = (b : ℕ) × (bs : List ℕ) × (o ≡ Some (File (b ∷ bs)))
 
--- at each of these paths
-abbrev pub AreFilesAt : EntryMap → List PathParts → Type 0
-AreFilesAt s paths = (p : PathParts) → Contains paths p → IsFileAt s p
+-- such a file is visible at the path
+abbrev pub IsFileAt : EntryMap → PathParts → Type 0
+IsFileAt s p = IsFile (visible_at s p)
+
+-- each of these entries is such a file
+abbrev pub AreFiles : List (PathParts × Entry) → Type 0
+AreFiles ps = (p : PathParts × Entry) → Contains ps p → IsFile (shown p.1)
+
+-- an entry that is a file
+abbrev pub entry_lines : PathParts × Entry → List ℕ
+entry_lines p = file_lines p.0 (file_bytes (shown p.1))
+
+-- the file that is visible at a path, and then those that some entries are
+abbrev pub lent_text : EntryMap → PathParts → List (PathParts × Entry) → List ℕ
+lent_text s fragment ps = (file_lines fragment (file_bytes (visible_at s fragment)) ++ flat_map entry_lines ps) ++ codes "end\n"
 
 -- the text has the files of the unit of this main name: its fragment, and then the drop-ins of all its names, by file name
 pub record IsCat (s : EntryMap) (main : Name) (fragment : PathParts) (text : List ℕ) : Type 0 where

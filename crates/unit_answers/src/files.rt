@@ -1,38 +1,36 @@
 //! The files of a unit, as they are told.
-ghost use Rattle.std.specs.Prelude.{◌≡◌, ◌∷◌, ◌++◌, IfOk, OnOk};
-ghost use Rattle.edit_sums.specs.Sums.{visible_at};
+ghost use Rattle.std.specs.Prelude.{◌≡◌, ◌++◌, IfOk, OnOk};
+ghost use Rattle.std.specs.Option.{option_copied};
+ghost use Rattle.edit_sums.specs.Sums.{shown};
 ghost use Rattle.fragment_choice.specs.Resolutions.{main};
 ghost use Rattle.script_commands.specs.Outcomes.{IsSaid};
-ghost use Rattle.unit_answers.specs.Units.{AreFilesAt, IsCat, IsFileAt, TellsFiles, cat_text, file_bytes, file_lines};
+ghost use Rattle.unit_answers.specs.Units.{AreFiles, IsCat, IsFile, IsFileAt, TellsFiles, entry_lines, file_bytes, file_lines, lent_text};
 
-use dropins::order;
+use dropins::UnitFolders;
 use edit_sums::Content;
 use fragment_choice::{Choice, Resolution, names_of, resolve};
 use load_path::Path;
-use replica_store::Store;
+use replica_store::{Placed, Store};
 use script_commands::{Fault, Refusal};
 use std::alloc::{AllocError, Global};
 use unit_name::UnitName;
 
-// The bytes of the file that is visible at a path.
-fn file_at<'a>(store: &'a Store, path: &Path) -> &'a [u8]
-    requires file { IsFileAt store.now path.now }
-    ensures bytes { result.now ≡ file_bytes (visible_at store.now path.now) }
+// The bytes of a content that is a file.
+fn bytes_of<'a>(content: Option<&'a Content>) -> &'a [u8]
+    requires file { IsFile (option_copied content) }
+    ensures bytes { result.now ≡ file_bytes (option_copied content.entry) }
 {
-    match store.visible(path) {
+    match content {
         Some(Content::File(file)) => file.bytes(),
         _ => unreachable!(),
     }
 }
 
-// Appends the file at a path: the path behind `# `, and the bytes, with a line feed added if the
-// last of them is none.
-fn append_file(out: &mut Vec<u8>, store: &Store, path: &Path) -> Result<(), AllocError>
-    requires file { IsFileAt store.now path.now }
-    ensures appended { OnOk result (out.new.items ≡ out.old.items ++ file_lines path.now
-        (file_bytes (visible_at store.now path.now))) }
+// Appends a file: its path behind `# `, and its bytes, with a line feed added if the last of them
+// is none.
+fn append_file(out: &mut Vec<u8>, path: &Path, bytes: &[u8]) -> Result<(), AllocError>
+    ensures appended { OnOk result (out.new.items ≡ out.old.items ++ file_lines path.now bytes.now) }
 {
-    let bytes = file_at(store, path);
     out.extend_from_slice(b"# ")?;
     path.append_to(out)?;
     out.push(b'\n')?;
@@ -43,22 +41,30 @@ fn append_file(out: &mut Vec<u8>, store: &Store, path: &Path) -> Result<(), Allo
     Ok(())
 }
 
+// The same of an entry that is a file.
+fn append_entry(out: &mut Vec<u8>, placed: &Placed) -> Result<(), AllocError>
+    requires file { IsFile (shown placed.now.1) }
+    ensures appended { OnOk result (out.new.items ≡ out.old.items ++ entry_lines placed.now) }
+{
+    append_file(out, &placed.path()?, bytes_of(placed.visible()))
+}
+
 // The files of a unit: its fragment, and then its drop-ins. Linear in what is written, and a
-// search in the store for each file.
+// search in the store for the fragment.
 fn files_text(
     alloc: Global,
     store: &Store,
     fragment: &Path,
-    dropins: &[Path],
+    dropins: &[Placed],
 ) -> Result<Vec<u8>, AllocError>
     requires file { IsFileAt store.now fragment.now }
-    requires files { AreFilesAt store.now dropins.now }
-    ensures lines { IfOk result (λ text. text.items ≡ cat_text store.now (fragment.now ∷ dropins.now)) }
+    requires files { AreFiles dropins.now }
+    ensures lines { IfOk result (λ text. text.items ≡ lent_text store.now fragment.now dropins.now) }
 {
     let mut out = Vec::new(alloc);
-    append_file(&mut out, store, fragment)?;
-    for path in dropins {
-        append_file(&mut out, store, path)?;
+    append_file(&mut out, fragment, bytes_of(store.visible(fragment)))?;
+    for placed in dropins {
+        append_entry(&mut out, placed)?;
     }
     out.extend_from_slice(b"end\n")?;
     Ok(out)
@@ -76,7 +82,8 @@ fn files_of_unit(
     ensures files { IfOk result (λ text. IsCat store.now unit.now fragment.now text.items) }
 {
     let names = names_of(alloc, store, unit)?;
-    let dropins = order(alloc, store, &names)?;
+    let folders = UnitFolders::of(alloc, &names)?;
+    let dropins = folders.drop_ins(alloc, store)?;
     files_text(alloc, store, fragment, &dropins)
 }
 

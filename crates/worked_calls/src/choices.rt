@@ -1,8 +1,8 @@
-//! Calls on what stands for a unit: the store in words, `+`, and the unit's name.
+//! Calls on what stands for a unit: the store in words, `+`, and the unit's name, or the names of several.
 use crate::calls::{CallFault, Words, append_path};
 use crate::edits::store;
-use crate::name_lists::append_names;
-use fragment_choice::{Choice, choose, names_of, resolve};
+use crate::name_lists::{append_names, names};
+use fragment_choice::{AliasIndex, Choice, choose, names_of, resolve};
 use replica_store::Store;
 use std::alloc::{AllocError, Global};
 use unit_name::UnitName;
@@ -11,6 +11,9 @@ use unit_name::UnitName;
 pub fn answer(alloc: Global, words: &mut Words) -> Result<Vec<u8>, CallFault> {
     let call = words.word()?;
     let store = store(alloc, words)?;
+    if call == b"index".as_slice() {
+        return Ok(indexed(alloc, &store, &names(alloc, words)?)?);
+    }
     let name = words.name()?;
     words.end()?;
     match call {
@@ -57,4 +60,24 @@ fn named(alloc: Global, store: &Store, name: &UnitName) -> Result<Vec<u8>, Alloc
         out.extend_from_slice(b"no main name")?;
     }
     Ok(out)
+}
+
+// The names of those units of a list that stand there by their main name, by one index.
+fn indexed(alloc: Global, store: &Store, units: &[UnitName]) -> Result<Vec<u8>, AllocError> {
+    let index = AliasIndex::of(alloc, store)?;
+    let mut out = Vec::new(alloc);
+    for unit in units {
+        if resolve(alloc, store, unit)?.main.bytes() == unit.bytes() {
+            append_unit(&mut out, &index.names_of(alloc, unit)?)?;
+        }
+    }
+    Ok(out)
+}
+
+// Writes the names of a unit, parted by a plus sign from those before it.
+fn append_unit(out: &mut Vec<u8>, names: &[UnitName]) -> Result<(), AllocError> {
+    if !out.is_empty() {
+        out.extend_from_slice(b" + ")?;
+    }
+    append_names(out, names)
 }

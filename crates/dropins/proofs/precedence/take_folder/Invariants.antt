@@ -2,16 +2,15 @@ use Rattle.std.proofs.Common.{◌≡◌, ℕ, List, length}
 use Rattle.std.specs.BTreeMap.{get}
 use Rattle.std.specs.Option.{option_or}
 use Rattle.unit_name.specs.Names.{name_cmp}
-use Rattle.dropins.specs.Taken.{candidate_at}
 use Rattle.list_laws.specs.FirstSaid.{first_said}
-use Rattle.dropins.specs.Walks.{path, said_for}
+use Rattle.dropins.specs.Walks.{path, said_for, take_at}
 use Rattle.dropins.proofs.precedence.take_folder.Given as goal
 
 abbrev pub invariant-loop-placed : goal.invariant-loop-placed
 invariant-loop-placed l =
     (f : List ℕ)
     → option_or (get name_cmp l.takes f) (first_said (said_for l.search f) l.entries)
-    ≡ option_or (get name_cmp l.initial.takes f) (candidate_at l.store l.search (path l.rank l.dir f))
+    ≡ option_or (get name_cmp l.initial.takes f) (take_at l.store l.search (path l.rank l.dir f))
 
 abbrev pub decreases-loop-placed : goal.decreases-loop-placed
 decreases-loop-placed l = length l.entries

@@ -2,8 +2,8 @@ use Rattle.std.proofs.Common.{◌≡◌, ℕ, List, take}
 use Rattle.std.specs.BTreeMap.{get}
 use Rattle.unit_name.specs.Names.{name_cmp}
 use Rattle.list_laws.specs.FirstSaid.{first_said}
-use Rattle.dropins.specs.Walks.{ranks, taken_in}
+use Rattle.dropins.specs.Walks.{ranks, took_in}
 use Rattle.dropins.proofs.precedence.taken.Given as goal
 
 abbrev pub invariant-loop-rank : goal.invariant-loop-rank
-invariant-loop-rank l = (f : List ℕ) → get name_cmp l.takes f ≡ first_said (taken_in l.store l.search l.dirs f) (take l.rank ranks)
+invariant-loop-rank l = (f : List ℕ) → get name_cmp l.takes f ≡ first_said (took_in l.store l.search l.dirs f) (take l.rank ranks)

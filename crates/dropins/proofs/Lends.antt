@@ -1,0 +1,87 @@
+-- What is lent for a file name is what is taken for it, with the entry that the store has there.
+use Rattle.std.proofs.Common.{◌≡◌, ℕ, Option, Some, None, List, [], ◌∷◌, get_or, refl, ap, sym, ◌∙◌, subst}
+use Rattle.std.specs.Prelude.{◌↔◌}
+use Rattle.std.specs.Option.{option_and_then, option_map, option_or}
+use Rattle.std.specs.FinMap as finmap
+use Rattle.std.proofs.lemmas.Option.{same_Some}
+use Rattle.list_laws.specs.FirstSaid.{first_is, first_said, first_same}
+use Rattle.load_path.specs.Paths.{PathParts}
+use Rattle.edit_sums.specs.Entries.{Entry}
+use Rattle.edit_sums.specs.Sums.{EntryMap, shown}
+use Rattle.dropins.specs.declared.precedence.Search.{Search}
+use Rattle.dropins.specs.declared.precedence.Take.{Take}
+use Rattle.dropins.specs.declared.precedence.Take.TheVariants.{Nothing, Placed}
+use Rattle.dropins.specs.Taken.{Candidate, as_found, candidate_at, IsTaken}
+use Rattle.dropins.specs.Taken.Candidate.{Mask, At}
+use Rattle.dropins.specs.Walks.{lent, path, ranks, take_at, take_of, taken, taken_in, took, took_in}
+use Rattle.dropins.specs.WalkLaws.{found_iff_taken, found_name, path_or, found_path}
+
+-- what a taken entry is by its path
+abbrev seen : Take → Candidate
+seen Nothing = Mask
+seen (Placed p) = At p.0
+
+lent_path : (q : PathParts) (e : Entry) (o : Option Candidate) → path_or q o ≡ q → option_map seen (option_map (lent (q, e)) o) ≡ o
+unfolding path_or
+lent_path q e None h = refl
+lent_path q e (Some Mask) h = refl
+lent_path q e (Some (At p)) h = ap (λ r. Some (At r)) (sym h)
+
+seen_at : (s : EntryMap) (x : Search) (q : PathParts) → option_map seen (take_at s x q) ≡ candidate_at s x q
+seen_at s x q = by (finmap.get s q)
+  where
+    by : (o : Option Entry) → option_map seen (option_and_then (λ e. take_of x (q, e)) o) ≡ option_and_then (as_found x q) (option_and_then shown o)
+    by None = refl
+    by (Some e) = lent_path q e (option_and_then (as_found x q) (shown e)) (found_path x q (shown e))
+
+first_map : {A B C : Type 0} (h : B → C) (g : A → Option B) (xs : List A) → option_map h (first_said g xs) ≡ first_said (λ a. option_map h (g a)) xs
+first_map h g [] = refl
+first_map {B = B} {C = C} h g (a ∷ as_left) = by (g a) ∙ ap (option_or (option_map h (g a))) (first_map h g as_left)
+  where
+    by : (o : Option B) → option_map h (option_or o (first_said g as_left)) ≡ option_or (option_map h o) (option_map h (first_said g as_left))
+    by None = refl
+    by (Some b) = refl
+
+module _ (s : EntryMap) (x : Search) (ds : List (List ℕ)) where
+  seen_in : (f : List ℕ) (r : ℕ) → option_map seen (took_in s x ds f r) ≡ taken_in s x ds f r
+  seen_in f r = first_map seen (λ d. take_at s x (path r d f)) ds ∙ first_same (λ d. option_map seen (take_at s x (path r d f))) (λ d. candidate_at s x (path r d f)) (λ d. seen_at s x (path r d f)) ds
+
+  seen_took : (f : List ℕ) → option_map seen (took s x ds f) ≡ taken s x ds f
+  seen_took f = first_map seen (took_in s x ds f) ranks ∙ first_same (λ r. option_map seen (took_in s x ds f r)) (taken_in s x ds f) (seen_in f) ranks
+
+  -- an entry that is lent is the store's
+  held_at : (q : PathParts) (p : PathParts × Entry) → take_at s x q ≡ Some (Placed p) → finmap.get s p.0 ≡ Some p.1
+  held_at q p h = by (finmap.get s q) refl h
+    where
+      of_entry : (e : Entry) (o : Option Candidate) → option_map (lent (q, e)) o ≡ Some (Placed p) → (q, e) ≡ p
+      of_entry e None k = cc (k)
+      of_entry e (Some Mask) k = cc (k)
+      of_entry e (Some (At r)) k = cc (k)
+
+      by : (o : Option Entry) → finmap.get s q ≡ o → option_and_then (λ e. take_of x (q, e)) o ≡ Some (Placed p) → finmap.get s p.0 ≡ Some p.1
+      by None g k = cc (k)
+      by (Some e) g k = let same = of_entry e (option_and_then (as_found x q) (shown e)) k in subst (λ (y : PathParts × Entry). finmap.get s y.0 ≡ Some y.1) same g
+
+  held : (f : List ℕ) (p : PathParts × Entry) → took s x ds f ≡ Some (Placed p) → finmap.get s p.0 ≡ Some p.1
+  held f p h =
+      let rank = first_is (took_in s x ds f) ranks 0 (Placed p) h in
+      let folder = first_is (λ d. take_at s x (path (get_or ranks rank.place 0) d f)) ds [] (Placed p) rank.says in
+      held_at (path (get_or ranks rank.place 0) (get_or ds folder.place []) f) p folder.says
+
+  pub took_name : (f : List ℕ) (p : PathParts × Entry) → took s x ds f ≡ Some (Placed p) → p.0.name ≡ f
+  took_name f p h = found_name s x ds f p.0 (sym (seen_took f) ∙ ap (option_map seen) h)
+
+  -- an entry is lent for its file name exactly where its path is taken and the store has it there
+  pub took_iff_taken : (p : PathParts × Entry) → (took s x ds p.0.name ≡ Some (Placed p)) ↔ (IsTaken s x ds (At p.0) p.0 × (finmap.get s p.0 ≡ Some p.1))
+  took_iff_taken p = (λ h. ((found_iff_taken s x ds p.0).0 (sym (seen_took p.0.name) ∙ ap (option_map seen) h), held p.0.name p h), λ t. back t.1 (took s x ds p.0.name) refl (seen_took p.0.name ∙ (found_iff_taken s x ds p.0).1 t.0))
+    where
+      same_path : (a b : PathParts) → At a ≡ At b → a ≡ b
+      same_path a b h = cc (h)
+
+      back : finmap.get s p.0 ≡ Some p.1 → (o : Option Take) → took s x ds p.0.name ≡ o → option_map seen o ≡ Some (At p.0) → o ≡ Some (Placed p)
+      back g None e k = cc (k)
+      back g (Some Nothing) e k = cc (k)
+      back g (Some (Placed q)) e k =
+          let path_is : q.0 ≡ p.0 = same_path q.0 p.0 (same_Some _ _ k) in
+          let entry_is : q.1 ≡ p.1 = same_Some _ _ (sym (held p.0.name q e) ∙ ap (finmap.get s) path_is ∙ g) in
+          ap (λ (y : PathParts × Entry). Some (Placed y)) (λ i. (path_is i, entry_is i))

@@ -1,0 +1,58 @@
+-- Laws of entries that are lent: they stand for their paths.
+use Rattle.std.proofs.Common.{◌≡◌, ℕ, Option, Some, None, List, [], ◌∷◌, map, refl, ap, sym, subst, inl, inr}
+use Rattle.std.specs.Prelude.{◌↔◌, ◌⊎◌}
+use Rattle.std.specs.Option.{option_and_then}
+use Rattle.std.specs.FinMap as finmap
+use Rattle.std.specs.List.{Contains}
+use Rattle.std.specs.List.Sorted.{IsStrictlySortedBy}
+use Rattle.std.proofs.lemmas.List.Elements.{Contains-append_cases, Contains-append_left, Contains-append_right, Contains-push}
+use Rattle.list_laws.specs.Members.{none_there, only_one}
+use Rattle.load_path.specs.Paths.{PathParts}
+use Rattle.edit_sums.specs.Entries.{Entry}
+use Rattle.edit_sums.specs.Sums.{EntryMap, shown}
+use Rattle.unit_name.specs.Names.{Name, name_cmp}
+use Rattle.dropins.specs.declared.precedence.Search.{Search}
+use Rattle.dropins.specs.declared.precedence.Search.TheVariants.{DropIns}
+use Rattle.dropins.specs.Taken.{as_found, candidate_at, entry_name, entry_path, file_name, AreDropInsOf, IsDropInOf}
+use Rattle.dropins.specs.Taken.Candidate.{At}
+
+-- the paths of the entries of a unit's drop-ins are its drop-ins, and they rise by file name where the entries do
+abbrev pub LentAreDropIns : Type 0
+LentAreDropIns = (s : EntryMap) (fs : List Name) (ps : List (PathParts × Entry)) → AreDropInsOf s fs ps
+    → ((p : PathParts) → Contains (map entry_path ps) p ↔ IsDropInOf s fs p) × (IsStrictlySortedBy name_cmp (map entry_name ps) → IsStrictlySortedBy name_cmp (map file_name (map entry_path ps)))
+
+-- where a candidate stands, the store has an entry
+pub held_there : (s : EntryMap) (x : Search) (q p : PathParts) → candidate_at s x q ≡ Some (At p) → (e : Entry) × (finmap.get s q ≡ Some e)
+held_there s x q p h = by (finmap.get s q) refl h
+  where
+    by : (o : Option Entry) → finmap.get s q ≡ o → option_and_then (as_found x q) (option_and_then shown o) ≡ Some (At p) → (e : Entry) × (finmap.get s q ≡ Some e)
+    by None g k = cc (k)
+    by (Some e) g k = (e, g)
+
+-- what is made of one of a list is among what is made of all
+pub made_there : {A B : Type 0} (f : A → B) (xs : List A) (x : A) → Contains xs x → Contains (map f xs) (f x)
+made_there f [] x c = none_there x c
+made_there f (y ∷ ys) x c = pick (made_there f ys x) (Contains-append_cases (y ∷ []) ys x c)
+  where
+    pick : (Contains ys x → Contains (map f ys) (f x)) → Contains (y ∷ []) x ⊎ Contains ys x → Contains (map f (y ∷ ys)) (f x)
+    pick more (inl o) = subst (λ z. Contains (z ∷ map f ys) (f x)) (sym (ap f (only_one y x o))) (Contains-append_left (f x ∷ []) (map f ys) (f x) (Contains-push [] (f x)))
+    pick more (inr o) = Contains-append_right (f y ∷ []) (map f ys) (f x) (more o)
+
+made_of : (ps : List (PathParts × Entry)) (p : PathParts) → Contains (map entry_path ps) p → (e : Entry) × Contains ps (p, e)
+made_of [] p c = none_there p c
+made_of (q ∷ ps) p c = pick (made_of ps p) (Contains-append_cases (q.0 ∷ []) (map entry_path ps) p c)
+  where
+    pick : (Contains (map entry_path ps) p → (e : Entry) × Contains ps (p, e)) → Contains (q.0 ∷ []) p ⊎ Contains (map entry_path ps) p → (e : Entry) × Contains (q ∷ ps) (p, e)
+    pick more (inl o) = (q.1, subst (λ z. Contains (q ∷ ps) (z, q.1)) (only_one q.0 p o) (Contains-append_left (q ∷ []) ps q (Contains-push [] q)))
+    pick more (inr o) = let h = more o in (h.0, Contains-append_right (q ∷ []) ps (p, h.0) h.1)
+
+-- the paths of the entries of drop-ins are the drop-ins, in the same order
+pub lent_are_drop_ins : LentAreDropIns
+lent_are_drop_ins s fs ps ex = (exact, λ h. subst (IsStrictlySortedBy name_cmp) (sym (names ps)) h)
+  where
+    exact : (p : PathParts) → Contains (map entry_path ps) p ↔ IsDropInOf s fs p
+    exact p = (λ c. let h = made_of ps p c in ((ex (p, h.0)).0 h.1).0, λ t. let h = held_there s DropIns p p t.stands.says in made_there entry_path ps (p, h.0) ((ex (p, h.0)).1 (t, h.1)))
+
+    names : (rs : List (PathParts × Entry)) → map file_name (map entry_path rs) ≡ map entry_name rs
+    names [] = refl
+    names (r ∷ rs) = ap (λ (l : List (List ℕ)). r.0.name ∷ l) (names rs)
