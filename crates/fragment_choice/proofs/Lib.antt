@@ -1,3 +1,6 @@
 pub mod EntrySays
 pub mod Steps
 pub mod Gathering
+pub mod Leads
+pub mod Levels
+pub mod Indexing

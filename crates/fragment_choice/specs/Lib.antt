@@ -4,8 +4,10 @@ pub mod Resolutions
 pub mod ResolutionLaws
 pub mod UnitNames
 pub mod LinkedNames
+pub mod Indexes
 pub mod LinkLaws
 pub mod SilenceLaws
 pub mod LinkCaseLaws
+pub mod LikenessLaws
 pub mod UnitNameLaws
 pub mod FragmentLaws

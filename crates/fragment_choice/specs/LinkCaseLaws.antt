@@ -128,7 +128,7 @@ has_none k (inr (inl e)) = ap has_no_alias e
 has_none k (inr (inr (inl e))) = ap has_no_alias e
 has_none k (inr (inr (inr e))) = ap has_no_alias e
 
-same_kind : (k l : UnitKind) → word k ≡ word l → k ≡ l
+pub same_kind : (k l : UnitKind) → word k ≡ word l → k ≡ l
 same_kind k l e = same_Some _ _ (sym (kind_of-word k) ∙ ap kind_of e ∙ kind_of-word l)
 
 -- kinds that a test finds bad clash, and kinds that clash are found bad

@@ -52,13 +52,13 @@ said_by {B = B} f c h = at0 (f 0) refl h
     at0 None e h = at1 (f 1) refl h
 
 -- the link that made a name an alias
-record ByLink (s : EntryMap) (n o m : Name) : Type 0 where
-  rank : ℕ
-  within : rank < 4
-  target : List ℕ
-  there : visible_at s (own_path o rank) ≡ Some (Link target)
-  said : target_says n o (last_component target) ≡ Some (Alias m)
-  lawful : IsName (last_component target)
+pub record ByLink (s : EntryMap) (n o m : Name) : Type 0 where
+  pub rank : ℕ
+  pub within : rank < 4
+  pub target : List ℕ
+  pub there : visible_at s (own_path o rank) ≡ Some (Link target)
+  pub said : target_says n o (last_component target) ≡ Some (Alias m)
+  pub lawful : IsName (last_component target)
 
 null_or : (b : Bool) (n o t m : Name) → cond b (Some Masked) (link_says n o t) ≡ Some (Alias m) → IsName t × (target_says n o t ≡ Some (Alias m))
 null_or true n o t m h = cc (h)
@@ -77,22 +77,22 @@ by_link s n o m r within (Some (Link t)) e h =
     let k = null_or (is_null t) n o (last_component t) m h in
     record { rank = r; within = within; target = t; there = e; said = k.1; lawful = k.0 }
 
-own_link : (s : EntryMap) (n o m : Name) → own_choice s n o ≡ Some (Alias m) → ByLink s n o m
+pub own_link : (s : EntryMap) (n o m : Name) → own_choice s n o ≡ Some (Alias m) → ByLink s n o m
 own_link s n o m h =
     let w = said_by (says s n o) (Alias m) h in
     by_link s n o m w.0 w.1 (visible_at s (own_path o w.0)) refl w.2
 
 -- the link's name is the name's own, or its template's
-record HasLink (s : EntryMap) (n m : Name) : Type 0 where
-  owner : Name
-  owns : (owner ≡ n) ⊎ (template_of n ≡ Some owner)
-  link : ByLink s n owner m
+pub record HasLink (s : EntryMap) (n m : Name) : Type 0 where
+  pub owner : Name
+  pub owns : (owner ≡ n) ⊎ (template_of n ≡ Some owner)
+  pub link : ByLink s n owner m
 
-alias_said : (c : Option Choice) (m : Name) → unwrap_or c NotFound ≡ Alias m → c ≡ Some (Alias m)
+pub alias_said : (c : Option Choice) (m : Name) → unwrap_or c NotFound ≡ Alias m → c ≡ Some (Alias m)
 alias_said None m h = cc (h)
 alias_said (Some c) m h = ap (λ x. Some x) h
 
-has_link : (s : EntryMap) (n m : Name) → Leads s n m → HasLink s n m
+pub has_link : (s : EntryMap) (n m : Name) → Leads s n m → HasLink s n m
 has_link s n m h = by_own (own_choice s n n) refl h
   where
     by_template : (t : Option Name) → template_of n ≡ t → unwrap_or (option_and_then (own_choice s n) t) NotFound ≡ Alias m → HasLink s n m
@@ -109,24 +109,25 @@ aliases_have_links s n m h =
     (l.link.rank, l.link.within, (l.owner, record { link = ap is_link l.link.there; owner = l.owns }))
 
 -- what a link that makes an alias has passed
-record IsPassed (n o t m : Name) : Type 0 where
-  agree : shapes_agree (shape o) (instance o) (shape t) (instance t) ≡ true
-  alias : alias_of (shape n) n (shape t) t ≡ Alias m
+pub record IsPassed (n o t m : Name) : Type 0 where
+  pub kinds : is_bad_kind (kind o) (kind t) ≡ false
+  pub agree : shapes_agree (shape o) (instance o) (shape t) (instance t) ≡ true
+  pub alias : alias_of (shape n) n (shape t) t ≡ Alias m
 
-passed : (n o t m : Name) → target_says n o t ≡ Some (Alias m) → IsPassed n o t m
+pub passed : (n o t m : Name) → target_says n o t ≡ Some (Alias m) → IsPassed n o t m
 passed n o t m h = by_self (is_self o t) h
   where
-    by_shape : (b : Bool) → shapes_agree (shape o) (instance o) (shape t) (instance t) ≡ b → cond b (Some (alias_of (shape n) n (shape t) t)) (Some (Bad Shape)) ≡ Some (Alias m) → IsPassed n o t m
-    by_shape true e k = record { agree = e; alias = same_Some _ _ k }
-    by_shape false e k = cc (k)
+    by_shape : (b : Bool) → is_bad_kind (kind o) (kind t) ≡ false → shapes_agree (shape o) (instance o) (shape t) (instance t) ≡ b → cond b (Some (alias_of (shape n) n (shape t) t)) (Some (Bad Shape)) ≡ Some (Alias m) → IsPassed n o t m
+    by_shape true q e k = record { kinds = q; agree = e; alias = same_Some _ _ k }
+    by_shape false q e k = cc (k)
 
-    by_kind : (b : Bool) → cond b (Some (Bad Kind)) (cond (shapes_agree (shape o) (instance o) (shape t) (instance t)) (Some (alias_of (shape n) n (shape t) t)) (Some (Bad Shape))) ≡ Some (Alias m) → IsPassed n o t m
-    by_kind true k = cc (k)
-    by_kind false k = by_shape (shapes_agree (shape o) (instance o) (shape t) (instance t)) refl k
+    by_kind : (b : Bool) → is_bad_kind (kind o) (kind t) ≡ b → cond b (Some (Bad Kind)) (cond (shapes_agree (shape o) (instance o) (shape t) (instance t)) (Some (alias_of (shape n) n (shape t) t)) (Some (Bad Shape))) ≡ Some (Alias m) → IsPassed n o t m
+    by_kind true q k = cc (k)
+    by_kind false q k = by_shape (shapes_agree (shape o) (instance o) (shape t) (instance t)) q refl k
 
     by_self : (b : Bool) → cond b None (cond (is_bad_kind (kind o) (kind t)) (Some (Bad Kind)) (cond (shapes_agree (shape o) (instance o) (shape t) (instance t)) (Some (alias_of (shape n) n (shape t) t)) (Some (Bad Shape)))) ≡ Some (Alias m) → IsPassed n o t m
     by_self true k = cc (k)
-    by_self false k = by_kind (is_bad_kind (kind o) (kind t)) k
+    by_self false k = by_kind (is_bad_kind (kind o) (kind t)) refl k
 
 -- an instance with this instance part
 record IsInstance (i n : Name) : Type 0 where
@@ -134,7 +135,7 @@ record IsInstance (i n : Name) : Type 0 where
   shape_is : shape n ≡ Instance
   part : instance n ≡ i
 
-has_template : (x : UnitShape) (n t : Name) → template_at x n ≡ Some t → x ≡ Instance
+pub has_template : (x : UnitShape) (n t : Name) → template_at x n ≡ Some t → x ≡ Instance
 has_template Plain n t h = absurd (none-some _ h)
 has_template Template n t h = absurd (none-some _ h)
 has_template Instance n t h = refl
@@ -144,7 +145,7 @@ owner_shape : (n o : Name) → IsName n → shape n ≡ Instance → (o ≡ n) �
 owner_shape n o h e (inl q) = inl (ap shape q ∙ e, ap instance q)
 owner_shape n o h e (inr q) = inr (templates_keep_parts n o h q).2.shape_is
 
-template_alias : (o : Option Name) (m : Name) → alias_to o ≡ Alias m → o ≡ Some m
+pub template_alias : (o : Option Name) (m : Name) → alias_to o ≡ Alias m → o ≡ Some m
 template_alias None m h = cc (h)
 template_alias (Some x) m h = ap (λ c. unaliased c) h
   where
@@ -155,7 +156,7 @@ template_alias (Some x) m h = ap (λ c. unaliased c) h
     unaliased (Alias y) = Some y
     unaliased (Bad x) = None
 
-alias_same : (t m : Name) → Alias t ≡ Alias m → t ≡ m
+pub alias_same : (t m : Name) → Alias t ≡ Alias m → t ≡ m
 alias_same t m h = same_Some _ _ (template_alias (Some t) m h)
 
 keeps : (n o t m : Name) → IsName n → shape n ≡ Instance → IsName t → ((shape o ≡ Instance) × (instance o ≡ instance n)) ⊎ (shape o ≡ Template) → IsPassed n o t m → IsInstance (instance n) m

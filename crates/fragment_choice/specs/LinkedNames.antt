@@ -1,8 +1,7 @@
 -- The names that links give to a unit.
 -- Source: systemd.unit(5), "Description".
-use Rattle.std.specs.Prelude.{◌≡◌, ℕ, Bool, true, false, Option, Some, None, List, [], ◌∷◌, ◌⊎◌, IsTrue, if◌then◌else◌}
+use Rattle.std.specs.Prelude.{◌≡◌, ℕ, Bool, true, false, Option, Some, None, List, ◌⊎◌, IsTrue, if◌then◌else◌}
 use Rattle.list_laws.specs.Members.{IsAmong}
-use Rattle.load_path.specs.Paths.{PathParts}
 use Rattle.edit_sums.specs.declared.contents.Content.{Content}
 use Rattle.edit_sums.specs.declared.contents.Content.TheVariants.{Gone, Link, File}
 use Rattle.edit_sums.specs.Sums.{EntryMap, visible_at}
@@ -29,11 +28,6 @@ pub record IsLinkedBy (s : EntryMap) (rank : ℕ) (o n : Name) : Type 0 where
 -- a link at this rank gives the name n
 abbrev pub IsLinkedAt : EntryMap → ℕ → Name → Type 0
 IsLinkedAt s rank n = (o : Name) × IsLinkedBy s rank o n
-
--- one of these paths is such a link
-abbrev pub IsLinkedAmong : EntryMap → ℕ → List PathParts → Name → Type 0
-IsLinkedAmong s rank [] n = ⊥
-IsLinkedAmong s rank (p ∷ ps) n = IsLinkedBy s rank p.name n ⊎ IsLinkedAmong s rank ps n
 
 -- other names of u were added: those that pass are all there
 pub record Gathers (s : EntryMap) (u : Name) (Passes : Name → Type 0) (old new : List Name) : Type 0 where

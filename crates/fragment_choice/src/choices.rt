@@ -58,8 +58,8 @@ pub fn choose(alloc: Global, store: &Store, name: &UnitName) -> Result<Choice, A
     Ok(own_choice(alloc, store, name, &template)?.unwrap_or(Choice::NotFound))
 }
 
-// What the visible paths of one own name say, the least rank first.
-fn own_choice(
+/// What the visible paths of one own name say, the least rank first.
+pub(crate) fn own_choice(
     alloc: Global,
     store: &Store,
     name: &UnitName,

@@ -4,6 +4,7 @@ ghost use Rattle.fragment_choice.specs.ChoiceLaws.{LeastRankChooses, TemplatesCo
 ghost use Rattle.fragment_choice.specs.SilenceLaws.{SilenceIsNotFound};
 ghost use Rattle.fragment_choice.specs.LinkLaws.{AliasesHaveLinks, InstancesKeepTheirPart};
 ghost use Rattle.fragment_choice.specs.LinkCaseLaws.{KindsMakeBad, ShapesMakeBad, TargetsMakeBad, NoLinkIsALoop, GoodLinksMakeAliases};
+ghost use Rattle.fragment_choice.specs.LikenessLaws.{AliasesAreAlike, ChainsAreAlike, MainsAreAlike};
 ghost use Rattle.fragment_choice.specs.ResolutionLaws.{FollowingFindsTheEnd, MainsAreTheirOwn, NoAliasStands};
 ghost use Rattle.fragment_choice.specs.FragmentLaws.{FragmentsAreFiles};
 ghost use Rattle.fragment_choice.specs.UnitNameLaws.{NamesHaveTheMain, NamesDontMeet, OneListOfNames};
@@ -26,6 +27,14 @@ pub fn choice_laws()
 pub fn link_laws()
     ensures aliases { AliasesHaveLinks }
     ensures instances { InstancesKeepTheirPart }
+{}
+
+/// What a name is an alias of is a name of the same kind, and plain, a template or an instance as the
+/// name is; and so are the end of a chain of aliases and the main name.
+pub fn likeness_laws()
+    ensures aliases { AliasesAreAlike }
+    ensures chains { ChainsAreAlike }
+    ensures mains { MainsAreAlike }
 {}
 
 /// What a link says, case by case. Kinds that differ or have no aliases make it bad, then shapes

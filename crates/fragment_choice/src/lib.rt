@@ -2,13 +2,15 @@
 //! The rules are those of systemd.unit(5), "Unit File Load Path" and "Description".
 #![tactic(auto)]
 
+mod aliases;
 mod choices;
 mod laws;
 mod links;
 mod names;
 mod resolutions;
 
+pub use aliases::AliasIndex;
 pub use choices::{Cause, Choice, choose};
-pub use laws::{choice_laws, link_case_laws, link_laws, resolution_laws, unit_laws};
+pub use laws::{choice_laws, likeness_laws, link_case_laws, link_laws, resolution_laws, unit_laws};
 pub use names::names_of;
 pub use resolutions::{Resolution, resolve};

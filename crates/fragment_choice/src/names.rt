@@ -1,36 +1,116 @@
-//! All names of a unit.
-ghost use Rattle.std.specs.Prelude.{◌≡◌, Some, ◌∷◌, ◌↔◌, IsTrue, IfOk, OnOk};
+//! All names of a unit, found by walking back from it along aliases.
+ghost use Rattle.std.specs.Prelude.{◌≡◌, Some, [], ◌∷◌, ◌↔◌, IsTrue, IfOk, OnOk};
 ghost use Rattle.std.specs.BTreeSet.{insert_key};
 ghost use Rattle.std.specs.List.Sorted.{IsStrictlySortedBy};
-ghost use Rattle.edit_sums.specs.Sums.{visible_at};
+ghost use Rattle.list_laws.specs.Members.{IsAmong};
 ghost use Rattle.unit_name.specs.Names.{instance, name_cmp};
 ghost use Rattle.unit_name.specs.Forms.{with_instance};
-ghost use Rattle.fragment_choice.specs.Choices.{own_path};
-ghost use Rattle.fragment_choice.specs.Resolutions.{main};
+ghost use Rattle.fragment_choice.specs.Resolutions.{Leads, main};
 ghost use Rattle.fragment_choice.specs.UnitNames.{AreNames, IsOtherName};
-ghost use Rattle.fragment_choice.specs.LinkedNames.{Gathers, IsLinkedAt, IsLinkedBy, is_link, unit_of};
+ghost use Rattle.fragment_choice.specs.LinkedNames.{Gathers};
+ghost use Rattle.fragment_choice.specs.Indexes.{Adds, IsInstanceOfAny, LeadsToAny};
 
+use crate::aliases::AliasIndex;
 use crate::resolutions::resolve;
-use replica_store::{Content, Store};
+use replica_store::Store;
 use std::alloc::{AllocError, Global};
 use std::collections::BTreeSet;
-use unit_name::{NameFault, UnitName};
+use unit_name::UnitName;
 
 /// The names of a unit (systemd.unit(5), "Description"): its own, which has to be its main name,
 /// and then in byte order the others whose main name it is, also those that only a link of their
 /// template gives.
 ///
-/// One pass over the paths of one component, with a search for each; for each visible link among
-/// them it resolves at most two names. It fails for want of memory alone.
+/// It makes an index of the whole store; for the names of several units make one and ask it. It
+/// fails for want of memory alone.
 pub fn names_of(alloc: Global, store: &Store, name: &UnitName) -> Result<Vec<UnitName>, AllocError>
     requires main { main store.now name.now ≡ name.now }
     ensures names { IfOk result (λ names. AreNames store.now name.now names.items) }
 {
-    let mut others = BTreeSet::new(alloc);
-    for rank in 0..4u8 {
-        gather_at(alloc, &mut others, store, name, rank)?;
+    AliasIndex::of(alloc, store)?.names_of(alloc, name)
+}
+
+impl<'a> AliasIndex<'a> {
+    /// The names of a unit of the index's store, as the function of this name gives them.
+    ///
+    /// It resolves the names that a link makes an alias of one of these names, and no others. It
+    /// fails for want of memory alone.
+    pub fn names_of(&self, alloc: Global, name: &UnitName) -> Result<Vec<UnitName>, AllocError>
+        requires main { main self.now name.now ≡ name.now }
+        ensures names { IfOk result (λ names. AreNames self.now name.now names.items) }
+    {
+        let mut others = BTreeSet::new(alloc);
+        let mut level = alone(alloc, name)?;
+        for depth in 0..8u8 {
+            let next = self.behind(alloc, name, &level)?;
+            level = add_all(alloc, &mut others, next)?;
+        }
+        listed(alloc, name, others)
     }
-    listed(alloc, name, others)
+
+    // The other names of the unit that are aliases of one of these.
+    fn behind(
+        &self,
+        alloc: Global,
+        unit: &UnitName,
+        level: &[UnitName],
+    ) -> Result<BTreeSet<UnitName>, AllocError>
+        ensures gathered { IfOk result (λ next. Gathers self.now unit.now (LeadsToAny self.now level.now) []
+            next.keys) }
+    {
+        let mut next = BTreeSet::new(alloc);
+        for name in level {
+            self.gather_behind(alloc, &mut next, unit, name)?;
+        }
+        Ok(next)
+    }
+
+    // Adds the other names of the unit that are aliases of this name.
+    fn gather_behind(
+        &self,
+        alloc: Global,
+        others: &mut BTreeSet<UnitName>,
+        unit: &UnitName,
+        name: &UnitName,
+    ) -> Result<(), AllocError>
+        ensures gathered { OnOk result (Gathers self.now unit.now (λ n. Leads self.now n name.now)
+            others.old.keys others.new.keys) }
+    {
+        let store = self.store();
+        gather_owners(alloc, others, store, unit, self.owners_of(name))?;
+        match name.template_of()? {
+            Some(template) => {
+                gather_instances(alloc, others, store, unit, self.owners_of(&template))
+            }
+            None => Ok(()),
+        }
+    }
+}
+
+// A list of one name.
+fn alone(alloc: Global, name: &UnitName) -> Result<Vec<UnitName>, AllocError>
+    ensures alone { IfOk result (λ names. names.items ≡ name.now ∷ []) }
+{
+    let mut names = Vec::new(alloc);
+    names.push(name.try_clone()?)?;
+    Ok(names)
+}
+
+// Adds names to others, and lists them.
+fn add_all(
+    alloc: Global,
+    others: &mut BTreeSet<UnitName>,
+    names: BTreeSet<UnitName>,
+) -> Result<Vec<UnitName>, AllocError>
+    ensures list { IfOk result (λ list. list.items ≡ names.keys) }
+    ensures added { OnOk result (Adds names.keys others.old.keys others.new.keys) }
+{
+    let mut list = Vec::new(alloc);
+    for name in names {
+        put(others, name.try_clone()?)?;
+        list.push(name)?;
+    }
+    Ok(list)
 }
 
 // The name, and then the others.
@@ -50,64 +130,39 @@ fn listed(
     Ok(names)
 }
 
-// Adds the other names that the links of one rank give.
-fn gather_at(
+// Adds those of these names that are other names of the unit.
+fn gather_owners(
     alloc: Global,
     others: &mut BTreeSet<UnitName>,
     store: &Store,
     unit: &UnitName,
-    rank: u8,
+    owners: &[UnitName],
 ) -> Result<(), AllocError>
-    ensures gathered { OnOk result (Gathers store.now unit.now (IsLinkedAt store.now rank) others.old.keys
+    ensures gathered { OnOk result (Gathers store.now unit.now (λ n. IsAmong n owners.now) others.old.keys
         others.new.keys) }
 {
-    for path in &store.folder(rank, b"")? {
-        gather_of(alloc, others, store, unit, rank, path.name())?;
+    for owner in owners {
+        add_if_other(alloc, others, store, unit, owner.try_clone()?)?;
     }
     Ok(())
 }
 
-// Adds the other names that the link of one name at a rank gives.
-fn gather_of(
+// Adds those that these templates give with the unit's instance and that are other names of the
+// unit.
+fn gather_instances(
     alloc: Global,
     others: &mut BTreeSet<UnitName>,
     store: &Store,
     unit: &UnitName,
-    rank: u8,
-    own: &[u8],
+    owners: &[UnitName],
 ) -> Result<(), AllocError>
-    ensures gathered { OnOk result (Gathers store.now unit.now (IsLinkedBy store.now rank own.now)
-        others.old.keys others.new.keys) }
+    ensures gathered { OnOk result (Gathers store.now unit.now
+        (IsInstanceOfAny (instance unit.now) owners.now) others.old.keys others.new.keys) }
 {
-    if !is_link(store, rank, own) {
-        return Ok(());
+    for owner in owners {
+        add_instance(alloc, others, store, unit, owner)?;
     }
-    let Some(own) = unit_of(alloc, own)? else {
-        return Ok(());
-    };
-    add_instance(alloc, others, store, unit, &own)?;
-    add_if_other(alloc, others, store, unit, own)
-}
-
-// The unit name that some bytes are.
-fn unit_of(alloc: Global, bytes: &[u8]) -> Result<Option<UnitName>, AllocError>
-    ensures unit { IfOk result (λ unit. unit ≡ unit_of bytes.now) }
-{
-    match UnitName::parse(alloc, bytes) {
-        Ok(name) => Ok(Some(name)),
-        Err(NameFault::Memory) => Err(AllocError),
-        Err(_) => Ok(None),
-    }
-}
-
-// Whether a link of this name is visible at a rank.
-fn is_link(store: &Store, rank: u8, own: &[u8]) -> bool
-    ensures test { result ≡ is_link (visible_at store.now (own_path own.now rank)) }
-{
-    matches!(
-        store.visible_at(rank, b"", own),
-        Some(Content::Link(_))
-    )
+    Ok(())
 }
 
 // Adds a template's name with the unit's instance, if there is one and it is another of the unit.
@@ -161,7 +216,7 @@ fn is_other(
 }
 
 // Puts a name among others.
-fn put(others: &mut BTreeSet<UnitName>, name: UnitName) -> Result<(), AllocError>
+pub(crate) fn put(others: &mut BTreeSet<UnitName>, name: UnitName) -> Result<(), AllocError>
     ensures put { OnOk result (others.new.keys ≡ insert_key name_cmp others.old.keys name) }
 {
     match others.insert(name) {

@@ -1,0 +1,212 @@
+-- How the index of a store is made.
+use Rattle.std.proofs.Common.{◌≡◌, ℕ, suc, ◌<◌, ◌≤◌, Bool, true, false, cond, ◌==◌, Option, Some, None, List, [], ◌∷◌, ◌++◌, filter, refl, ap, sym, ◌∙◌, subst, arith, ◌⊎◌, inl, inr, eq-eqb, unwrap_or}
+use Rattle.std.specs.Option.{option_and_then}
+use Rattle.std.specs.Ordering.{is_eq}
+use Rattle.std.specs.BTreeMap.{BTreeMap, get, UpdatesBy, is_at}
+use Rattle.std.specs.BTreeSet.{insert_key}
+use Rattle.std.specs.FinMap as finmap
+use Rattle.std.specs.Map.{lookup}
+use Rattle.std.proofs.lemmas.Option.{same_Some}
+use Rattle.std.specs.FinMap.Entries.{find}
+use Rattle.std.specs.Global.{Vec}
+use Rattle.std.specs.declared.cmp.Ordering.{Ordering}
+use Rattle.std.specs.declared.cmp.Ordering.TheVariants.{Less, Equal, Greater}
+use Rattle.std.proofs.lemmas.Bool.{and_from, eqb-true, eqb-false}
+use Rattle.load_path.specs.Paths.{PathParts, path_cmp}
+use Rattle.load_path.specs.PathLaws.{path_cmp-IsAntisymmetric}
+use Rattle.list_laws.specs.Members.{IsAmong, IsAmong-append_cases, IsAmong-append_left, IsAmong-append_right}
+use Rattle.path_maps.specs.Folders.{is_in}
+use Rattle.edit_sums.specs.Entries.{Entry}
+use Rattle.edit_sums.specs.Sums.{EntryMap, shown}
+use Rattle.unit_name.specs.Names.{Name, name_cmp, IsName}
+use Rattle.unit_name.specs.NameLaws.{name_eq-Decides}
+use Rattle.fragment_choice.specs.declared.choices.Choice.TheVariants.{Alias}
+use Rattle.fragment_choice.specs.Choices.{own_path, own_choice}
+use Rattle.fragment_choice.specs.LinkedNames.{is_link, unit_of}
+use Rattle.fragment_choice.specs.LinkLaws.{ByLink, alias_same, own_link}
+use Rattle.fragment_choice.specs.Indexes.{IsIndexOf, IsAny, IsOwnAt, IsOwnEntry, IsOwnLink, Collects, Puts, PutsOwn, owners_at, names_in}
+use Rattle.fragment_choice.proofs.Gathering.{put_there, put_kept, read, unread}
+
+-- nothing passes
+pub collects_none : (P : Name → Type 0) (old : List Name) → ((n : Name) → P n → ⊥) → Collects P old old
+collects_none P old none = record { kept = λ n h. h; found = λ n p. absurd (none n p) }
+
+-- one that passes was put among them
+pub collects_put : (P : Name → Type 0) (k : Name) (old new : List Name) → ((n : Name) → P n → k ≡ n) → new ≡ insert_key name_cmp old k → Collects P old new
+collects_put P k old new one e = record {
+  kept = λ n h. subst (IsAmong n) (sym e) (put_kept k old n h);
+  found = λ n p. subst (λ x. IsAmong x new) (one n p) (subst (IsAmong k) (sym e) (put_there k old));
+}
+
+-- one after the other
+pub collects_then : (P Q R : Name → Type 0) (old mid new : List Name) → Collects P old mid → Collects Q mid new → ((n : Name) → R n → P n ⊎ Q n) → Collects R old new
+collects_then P Q R old mid new g h split = record { kept = λ n a. h.kept n (g.kept n a); found = λ n r. by n (split n r) }
+  where
+    by : (n : Name) → P n ⊎ Q n → IsAmong n new
+    by n (inl p) = h.kept n (g.found n p)
+    by n (inr q) = h.found n q
+
+-- a name that was read
+pub collects_name : (p : PathParts × Entry) (b k : Name) (old new : List Name) → b ≡ p.0.name → Some k ≡ unit_of b → new ≡ insert_key name_cmp old k → Collects (IsOwnEntry p) old new
+collects_name p b k old new q e f = collects_put (IsOwnEntry p) k old new (λ n o. (read b k e).1 ∙ q ∙ o.at) f
+
+-- a name that is no unit name
+pub collects_unread : (p : PathParts × Entry) (b : Name) (old : List Name) → b ≡ p.0.name → None ≡ unit_of b → Collects (IsOwnEntry p) old old
+collects_unread p b old q e = collects_none (IsOwnEntry p) old (λ n o. unread b e (subst IsName (sym (q ∙ o.at)) o.name))
+
+-- names were added: those that pass are there, or are among the entries that are left
+pub record Collecting (Passes : Name → Type 0) (es : List (PathParts × Entry)) (old new : List Name) : Type 0 where
+  pub kept : (n : Name) → IsAmong n old → IsAmong n new
+  pub found : (n : Name) → Passes n → IsAmong n new ⊎ IsAny IsOwnEntry es n
+
+-- a link that is found at a path of one component is one of the rank's entries
+find_own : (rank : ℕ) (q : PathParts) (es : List (PathParts × Entry)) (o : Option Entry) → find path_cmp q es ≡ o → is_link (option_and_then shown o) ≡ true → is_in rank [] q ≡ true → IsName q.name → IsAny IsOwnEntry (filter (λ p. is_in rank [] p.0) es) q.name
+find_own rank q [] o e h i lawful = absurd (nothing o e h)
+  where
+    nothing : (o : Option Entry) → None ≡ o → is_link (option_and_then shown o) ≡ true → ⊥
+    nothing None e h = cc (h)
+    nothing (Some x) e h = cc (e)
+find_own rank q (p ∷ es) o e h i lawful = by (path_cmp q p.0) refl e (λ f. find_own rank q es o f h i lawful)
+  where
+    rest : List (PathParts × Entry)
+    rest = filter (λ p. is_in rank [] p.0) es
+
+    behind : (b : Bool) → IsAny IsOwnEntry rest q.name → IsAny IsOwnEntry (cond b (p ∷ rest) rest) q.name
+    behind true a = inr a
+    behind false a = a
+
+    first : (b : Bool) → b ≡ true → IsOwnEntry p q.name → IsAny IsOwnEntry (cond b (p ∷ rest) rest) q.name
+    first true g a = inl a
+    first false g a = cc (g)
+
+    by : (r : Ordering) → path_cmp q p.0 ≡ r → cond (is_eq r) (Some p.1) (find path_cmp q es) ≡ o → (find path_cmp q es ≡ o → IsAny IsOwnEntry rest q.name) → IsAny IsOwnEntry (cond (is_in rank [] p.0) (p ∷ rest) rest) q.name
+    by Less c f more = behind (is_in rank [] p.0) (more f)
+    by Equal c f more =
+        let same = path_cmp-IsAntisymmetric q p.0 c in
+        first (is_in rank [] p.0) (sym (ap (is_in rank []) same) ∙ i) (record { name = lawful; at = sym (ap (λ x. x.name) same); link = ap (λ x. is_link (option_and_then shown x)) f ∙ h })
+    by Greater c f more = behind (is_in rank [] p.0) (more f)
+
+pub starts_collecting : (s : EntryMap) (rank : ℕ) (es : List (PathParts × Entry)) (old : List Name) → es ≡ filter (λ p. is_in rank [] p.0) (finmap.entries s) → Collecting (IsOwnAt s rank) es old old
+starts_collecting s rank es old e = record {
+  kept = λ n h. h;
+  found = λ n o. inr (subst (λ x. IsAny IsOwnEntry x n) (sym e) (find_own rank (own_path n rank) (finmap.entries s) (finmap.get s (own_path n rank)) (sym (finmap.get-entries s (own_path n rank))) o.link (and_from _ _ (eq-eqb rank rank refl) refl) o.name));
+}
+
+-- one entry more was passed
+pub collects_next : (P : Name → Type 0) (p : PathParts × Entry) (es rest : List (PathParts × Entry)) (old mid new : List Name) → es ≡ p ∷ rest → Collecting P es old mid → Collects (IsOwnEntry p) mid new → Collecting P rest old new
+collects_next P p es rest old mid new e g h = record {
+  kept = λ n a. h.kept n (g.kept n a);
+  found = λ n o. by n (subst (λ x. IsAmong n mid ⊎ IsAny IsOwnEntry x n) e (g.found n o));
+}
+  where
+    by : (n : Name) → IsAmong n mid ⊎ IsAny IsOwnEntry (p ∷ rest) n → IsAmong n new ⊎ IsAny IsOwnEntry rest n
+    by n (inl a) = inl (h.kept n a)
+    by n (inr (inl o)) = inl (h.found n o)
+    by n (inr (inr a)) = inr a
+
+-- all were passed
+pub collects_all : (P : Name → Type 0) (es : List (PathParts × Entry)) (old new : List Name) → es ≡ [] → Collecting P es old new → Collects P old new
+collects_all P es old new e g = record { kept = g.kept; found = λ n o. by n (subst (λ x. IsAmong n new ⊎ IsAny IsOwnEntry x n) e (g.found n o)) }
+  where
+    by : (n : Name) → IsAmong n new ⊎ IsAny IsOwnEntry [] n → IsAmong n new
+    by n (inl a) = a
+    by n (inr a) = absurd a
+
+-- links of the ranks below
+abbrev pub IsOwnBelow : EntryMap → ℕ → Name → Type 0
+IsOwnBelow s end n = (rank : ℕ) × (rank < end) × IsOwnAt s rank n
+
+pub collects_rank : (s : EntryMap) (rank next : ℕ) (old mid new : List Name) → next ≡ suc rank → Collects (IsOwnBelow s rank) old mid → Collects (IsOwnAt s rank) mid new → Collects (IsOwnBelow s next) old new
+collects_rank s rank next old mid new q g h = collects_then (IsOwnBelow s rank) (IsOwnAt s rank) (IsOwnBelow s next) old mid new g h (λ n l. by n l)
+  where
+    by : (n : Name) → IsOwnBelow s next n → IsOwnBelow s rank n ⊎ IsOwnAt s rank n
+    by n (r, lt, l) = less_or (r == rank) refl
+      where
+        less_or : (b : Bool) → (r == rank) ≡ b → IsOwnBelow s rank n ⊎ IsOwnAt s rank n
+        less_or true e = inr (subst (λ x. IsOwnAt s x n) (eqb-true r rank e) l)
+        less_or false e = inl (r, (let differs = eqb-false r rank e in omega arith), l)
+
+pub collects_ranks : (s : EntryMap) (end : ℕ) (old new : List Name) → 4 ≤ end → Collects (IsOwnBelow s end) old new → Collects (IsOwnLink s) old new
+collects_ranks s end old new le g = record { kept = g.kept; found = λ n o. by n o }
+  where
+    by : (n : Name) → IsOwnLink s n → IsAmong n new
+    by n (r, lt, o) = g.found n (r, omega arith, o)
+
+-- a list taken out of a map, and put back with one name more
+pub puts : (o t : Name) (old mid new : BTreeMap Name (Vec Name)) (taken : Option (Vec Name)) (names : Vec Name)
+    → taken ≡ get name_cmp old t → UpdatesBy name_cmp (name_cmp t) old mid None → names.items ≡ names_in taken ++ o ∷ [] → UpdatesBy name_cmp (name_cmp t) mid new (Some names) → Puts o t old new
+puts o t old mid new taken names e m f u = record {
+  kept = λ n k h. by n k (is_at (name_cmp t) k) refl h;
+  there = subst (IsAmong o) (sym put) (IsAmong-append_right o (names_in taken) (o ∷ []) (inl refl));
+  sound = λ n k h. back n k (is_at (name_cmp t) k) refl h;
+}
+  where
+    put : owners_at new t ≡ names_in taken ++ o ∷ []
+    put = ap names_in u.1 ∙ f
+
+    past : (k : Name) → is_at (name_cmp t) k ≡ false → get name_cmp new k ≡ get name_cmp old k
+    past k q = u.0 k ∙ ap (λ b. cond b (Some names) (get name_cmp mid k)) q ∙ m.0 k ∙ ap (λ (b : Bool). cond b None (get name_cmp old k)) q
+
+    by : (n k : Name) (b : Bool) → is_at (name_cmp t) k ≡ b → IsAmong n (owners_at old k) → IsAmong n (owners_at new k)
+    by n k true q h =
+        let same : t ≡ k = (name_eq-Decides t k).0 q in
+        let front : IsAmong n (names_in taken ++ o ∷ []) = IsAmong-append_left n (names_in taken) (o ∷ []) (subst (IsAmong n) (ap (owners_at old) (sym same) ∙ sym (ap names_in e)) h) in
+        subst (IsAmong n) (sym put ∙ ap (owners_at new) same) front
+    by n k false q h =
+        subst (IsAmong n) (sym (ap names_in (past k q))) h
+
+    back : (n k : Name) (b : Bool) → is_at (name_cmp t) k ≡ b → IsAmong n (owners_at new k) → IsAmong n (owners_at old k) ⊎ ((o ≡ n) × (t ≡ k))
+    back n k true q h = split (IsAmong-append_cases n (names_in taken) (o ∷ []) (subst (IsAmong n) (ap (owners_at new) (sym same) ∙ put) h))
+      where
+        same : t ≡ k
+        same = (name_eq-Decides t k).0 q
+
+        split : IsAmong n (names_in taken) ⊎ IsAmong n (o ∷ []) → IsAmong n (owners_at old k) ⊎ ((o ≡ n) × (t ≡ k))
+        split (inl a) = inl (subst (IsAmong n) (ap names_in e ∙ ap (owners_at old) same) a)
+        split (inr (inl a)) = inr (a, same)
+        split (inr (inr a)) = absurd a
+    back n k false q h = inl (subst (IsAmong n) (ap names_in (past k q)) h)
+
+-- the names in a list, or none
+pub names_or : (taken : Option (Vec Name)) (none : Vec Name) → none.items ≡ [] → (unwrap_or taken none).items ≡ names_in taken
+names_or None none e = e
+names_or (Some names) none e = refl
+
+-- a name put under what its own links make it an alias of
+pub puts_own : (s : EntryMap) (o t : Name) (old new : BTreeMap Name (Vec Name)) → own_choice s o o ≡ Some (Alias t) → Puts o t old new → PutsOwn s o old new
+puts_own s o t old new e p = record {
+  kept = p.kept;
+  there = λ k q. subst (λ x. IsAmong o (owners_at new x)) (alias_same t k (same_Some _ _ (sym e ∙ q))) p.there;
+  sound = λ n k h. by n k (p.sound n k h);
+}
+  where
+    by : (n k : Name) → IsAmong n (owners_at old k) ⊎ ((o ≡ n) × (t ≡ k)) → IsAmong n (owners_at old k) ⊎ (own_choice s n n ≡ Some (Alias k))
+    by n k (inl a) = inl a
+    by n k (inr (a, q)) = inr (sym (ap (λ x. own_choice s x x) a) ∙ e ∙ ap (λ x. Some (Alias x)) q)
+
+-- the index has what the own links of these names make them aliases of, and nothing else
+pub record AreIndexed (s : EntryMap) (names : List Name) (owners : BTreeMap Name (Vec Name)) : Type 0 where
+  pub there : (o t : Name) → IsAmong o names → own_choice s o o ≡ Some (Alias t) → IsAmong o (owners_at owners t)
+  pub sound : (o t : Name) → IsAmong o (owners_at owners t) → own_choice s o o ≡ Some (Alias t)
+
+pub none_indexed : (s : EntryMap) (owners : BTreeMap Name (Vec Name)) → owners.entries ≡ [] → AreIndexed s [] owners
+none_indexed s owners e = record { there = λ o t h q. absurd h; sound = λ o t h. absurd (subst (IsAmong o) (ap (λ es. names_in (lookup (is_at (name_cmp t)) es)) e) h) }
+
+pub more_indexed : (s : EntryMap) (names : List Name) (k : Name) (old new : BTreeMap Name (Vec Name)) → AreIndexed s names old → PutsOwn s k old new → AreIndexed s (names ++ k ∷ []) new
+more_indexed s names k old new g p = record { there = λ o t h e. by o t e (IsAmong-append_cases o names (k ∷ []) h); sound = λ o t h. back o t (p.sound o t h) }
+  where
+    by : (o t : Name) → own_choice s o o ≡ Some (Alias t) → IsAmong o names ⊎ IsAmong o (k ∷ []) → IsAmong o (owners_at new t)
+    by o t e (inl a) = p.kept o t (g.there o t a e)
+    by o t e (inr (inl a)) = subst (λ x. IsAmong x (owners_at new t)) a (p.there t (subst (λ x. own_choice s x x ≡ Some (Alias t)) (sym a) e))
+    by o t e (inr (inr a)) = absurd a
+
+    back : (o t : Name) → IsAmong o (owners_at old t) ⊎ (own_choice s o o ≡ Some (Alias t)) → own_choice s o o ≡ Some (Alias t)
+    back o t (inl a) = g.sound o t a
+    back o t (inr e) = e
+
+-- a name that its own links make an alias has a visible link
+pub all_indexed : (s : EntryMap) (names : List Name) (owners : BTreeMap Name (Vec Name)) → Collects (IsOwnLink s) [] names → AreIndexed s names owners → IsIndexOf s owners
+all_indexed s names owners g f = record { each = λ t. record { there = λ o lawful e. by o t lawful e (own_link s o o t e); sound = λ o h. f.sound o t h } }
+  where
+    by : (o t : Name) → IsName o → own_choice s o o ≡ Some (Alias t) → ByLink s o o t → IsAmong o (owners_at owners t)
+    by o t lawful e l = f.there o t (g.found o (l.rank, l.within, record { name = lawful; link = ap is_link l.there })) e

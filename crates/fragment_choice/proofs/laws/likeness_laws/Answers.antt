@@ -1,0 +1,5 @@
+use Rattle.fragment_choice.specs.LikenessLaws.{aliases_are_alike, chains_are_alike, mains_are_alike}
+use Rattle.fragment_choice.proofs.laws.likeness_laws.Goals as goal
+
+pub returns : goal.returns
+returns c = record { aliases = aliases_are_alike; chains = chains_are_alike; mains = mains_are_alike }

@@ -1,0 +1,7 @@
+use Rattle.std.proofs.Common.{◌≡◌, take}
+use Rattle.fragment_choice.specs.LinkedNames.{Gathers}
+use Rattle.fragment_choice.specs.Indexes.{IsAny}
+use Rattle.fragment_choice.proofs.names.gather_owners.Given as goal
+
+abbrev pub invariant-loop-owner : goal.invariant-loop-owner
+invariant-loop-owner l = Gathers l.store l.unit (IsAny (λ m n. n ≡ m) (take l.owner-index l.owners)) l.initial.others.keys l.others.keys

@@ -1,0 +1,84 @@
+-- The links of a store by the names that they lead to: words for private clauses.
+-- Source: this project's own.
+use Rattle.std.specs.Prelude.{◌≡◌, ℕ, Option, Some, None, List, [], ◌∷◌, ◌⊎◌, ◌<◌, IsTrue}
+use Rattle.std.specs.BTreeMap.{BTreeMap, get}
+use Rattle.std.specs.Global.{Vec}
+use Rattle.list_laws.specs.Members.{IsAmong}
+use Rattle.edit_sums.specs.Entries.{Entry}
+use Rattle.edit_sums.specs.Sums.{EntryMap, shown, visible_at}
+use Rattle.load_path.specs.Paths.{PathParts}
+use Rattle.unit_name.specs.Names.{Name, name_cmp, IsName}
+use Rattle.unit_name.specs.Forms.{with_instance}
+use Rattle.fragment_choice.specs.declared.choices.Choice.TheVariants.{Alias}
+use Rattle.fragment_choice.specs.Choices.{own_path, own_choice}
+use Rattle.fragment_choice.specs.Resolutions.{Leads}
+use Rattle.fragment_choice.specs.LinkedNames.{is_link}
+
+-- the names in a list, if there is one
+abbrev pub names_in : Option (Vec Name) → List Name
+names_in None = []
+names_in (Some names) = names.items
+
+-- the names that a map has for t
+abbrev pub owners_at : BTreeMap Name (Vec Name) → Name → List Name
+owners_at m t = names_in (get name_cmp m t)
+
+-- just the names that their own links make aliases of t
+pub record AreOwners (s : EntryMap) (t : Name) (owners : List Name) : Type 0 where
+  pub there : (o : Name) → IsName o → own_choice s o o ≡ Some (Alias t) → IsAmong o owners
+  pub sound : (o : Name) → IsAmong o owners → own_choice s o o ≡ Some (Alias t)
+
+-- the map has for each name just those
+pub record IsIndexOf (s : EntryMap) (owners : BTreeMap Name (Vec Name)) : Type 0 where
+  pub each : (t : Name) → AreOwners s t (owners_at owners t)
+
+-- one of these has the name
+abbrev pub IsAny : {A : Type 0} → (A → Name → Type 0) → List A → Name → Type 0
+IsAny R [] n = ⊥
+IsAny R (x ∷ xs) n = R x n ⊎ IsAny R xs n
+
+-- n is an alias of one of these
+abbrev pub LeadsToAny : EntryMap → List Name → Name → Type 0
+LeadsToAny s ms n = IsAny (λ m k. Leads s k m) ms n
+
+-- n is one of these templates with the instance i
+abbrev pub IsInstanceOfAny : List ℕ → List Name → Name → Type 0
+IsInstanceOfAny i ts n = IsAny (λ t k. with_instance t i ≡ Some k) ts n
+
+-- a unit name that has this entry, a link
+pub record IsOwnEntry (p : PathParts × Entry) (n : Name) : Type 0 where
+  pub name : IsName n
+  pub at : p.0.name ≡ n
+  pub link : IsTrue (is_link (shown p.1))
+
+-- a unit name that has a visible link of its own at this rank
+pub record IsOwnAt (s : EntryMap) (rank : ℕ) (n : Name) : Type 0 where
+  pub name : IsName n
+  pub link : IsTrue (is_link (visible_at s (own_path n rank)))
+
+-- the same at some rank
+abbrev pub IsOwnLink : EntryMap → Name → Type 0
+IsOwnLink s n = (rank : ℕ) × (rank < 4) × IsOwnAt s rank n
+
+-- names were added: those that pass are all there
+pub record Collects (Passes : Name → Type 0) (old new : List Name) : Type 0 where
+  pub kept : (n : Name) → IsAmong n old → IsAmong n new
+  pub found : (n : Name) → Passes n → IsAmong n new
+
+-- no others were added
+pub record Adds (added old new : List Name) : Type 0 where
+  pub kept : (n : Name) → IsAmong n old → IsAmong n new
+  pub there : (n : Name) → IsAmong n added → IsAmong n new
+  pub sound : (n : Name) → IsAmong n new → IsAmong n old ⊎ IsAmong n added
+
+-- all names stay, and o is there under t; no others were added
+pub record Puts (o t : Name) (old new : BTreeMap Name (Vec Name)) : Type 0 where
+  pub kept : (n k : Name) → IsAmong n (owners_at old k) → IsAmong n (owners_at new k)
+  pub there : IsAmong o (owners_at new t)
+  pub sound : (n k : Name) → IsAmong n (owners_at new k) → IsAmong n (owners_at old k) ⊎ ((o ≡ n) × (t ≡ k))
+
+-- all names stay, and o is there under what its own links make it an alias of; no others were added
+pub record PutsOwn (s : EntryMap) (o : Name) (old new : BTreeMap Name (Vec Name)) : Type 0 where
+  pub kept : (n k : Name) → IsAmong n (owners_at old k) → IsAmong n (owners_at new k)
+  pub there : (t : Name) → own_choice s o o ≡ Some (Alias t) → IsAmong o (owners_at new t)
+  pub sound : (n k : Name) → IsAmong n (owners_at new k) → IsAmong n (owners_at old k) ⊎ (own_choice s n n ≡ Some (Alias k))
