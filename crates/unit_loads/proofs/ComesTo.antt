@@ -1,5 +1,5 @@
 -- A unit has what its text and its links come to.
-use Rattle.std.proofs.Common.{◌≡◌, ap, ◌∙◌, Bool, List, ◌∷◌, ◌++◌, map}
+use Rattle.std.proofs.Common.{◌≡◌, ap, ◌∙◌, List, ◌∷◌, ◌++◌, map}
 use Rattle.load_path.specs.Paths.{PathParts}
 use Rattle.edit_sums.specs.Sums.{EntryMap}
 use Rattle.section_reader.specs.declared.assignments.Assignment.{Assignment}

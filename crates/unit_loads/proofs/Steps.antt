@@ -1,6 +1,5 @@
 -- Lists that are made element by element.
 use Rattle.std.proofs.Common.{◌≡◌, ℕ, ◌+◌, ◌<◌, is_none, List, [], ◌∷◌, ◌++◌, map, filter, length, take, get_or, ap, sym, ◌∙◌, append_assoc}
-use Rattle.std.specs.List.{filter_map}
 use Rattle.std.proofs.lemmas.List.{map-append, take_more}
 use Rattle.std.proofs.lemmas.List.Elements.{filter-append, filter_map-append}
 use Rattle.unit_name.specs.Names.{Name}

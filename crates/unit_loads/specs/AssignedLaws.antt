@@ -1,7 +1,7 @@
 -- The words of a kind are those that assignments have in its key.
-use Rattle.std.proofs.Common.{◌≡◌, ℕ, Bool, true, false, cond, ◌&&◌, ◌||◌, not, Option, Some, None, is_some, List, [], ◌∷◌, map, filter, IsTrue, refl, ap, sym, ◌∙◌, subst, codes, inl, inr}
+use Rattle.std.proofs.Common.{◌≡◌, ℕ, Bool, true, false, ◌&&◌, ◌||◌, not, List, [], ◌∷◌, filter, IsTrue, refl, ap, sym, ◌∙◌, subst}
 use Rattle.std.specs.Prelude.{◌↔◌}
-use Rattle.std.specs.List.{Contains, flat_map, list_any}
+use Rattle.std.specs.List.{flat_map, list_any}
 use Rattle.std.proofs.lemmas.Bool.{true≢false, and_parts, and_from}
 use Rattle.list_laws.specs.Members.{IsAmong, among_from_contains, contains_from_among}
 use Rattle.section_reader.specs.declared.assignments.Assignment.{Assignment}
@@ -16,7 +16,7 @@ use Rattle.setting_rules.specs.Kinds.{is_settable, settable_kind, word}
 use Rattle.setting_rules.specs.Maps.{same_key, values_at}
 use Rattle.setting_rules.specs.ResetLaws.{keeps_all_values, settings_show_values}
 use Rattle.setting_rules.specs.Rules.{Text, is_empty, rule_of}
-use Rattle.setting_rules.specs.Settings.{counted, counts_by, emptied_by, given, gives, key_of, resets, rule_at, settings_of, values_of}
+use Rattle.setting_rules.specs.Settings.{counted, counts_by, emptied_by, given, gives, key_of, resets, rule_at, settings_of}
 use Rattle.setting_rules.specs.Words.{words_of}
 use Rattle.unit_loads.specs.NamedUnits.{IsAssigned}
 use Rattle.unit_loads.specs.MemberLaws.{HasSource, among_filter, among_flat_map, among_map, filter_among, flat_map_among, map_among}

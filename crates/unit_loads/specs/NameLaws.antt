@@ -1,7 +1,7 @@
 -- Laws of the names that a unit lists.
-use Rattle.std.proofs.Common.{◌≡◌, ℕ, Bool, true, false, Option, Some, None, Result, Ok, Err, List, [], ◌∷◌, ◌++◌, map, IsTrue, refl, ap, sym, ◌∙◌, subst, inl, inr}
+use Rattle.std.proofs.Common.{◌≡◌, ℕ, Some, Result, Ok, Err, List, [], ◌∷◌, ◌++◌, map, IsTrue, refl, ap, sym, ◌∙◌, subst, inl, inr}
 use Rattle.std.specs.Prelude.{◌↔◌, ◌⊎◌}
-use Rattle.std.specs.List.{Contains, filter_map}
+use Rattle.std.specs.List.{Contains}
 use Rattle.std.specs.List.Sorted.{IsStrictlySortedBy}
 use Rattle.std.specs.Result.{result_ok}
 use Rattle.list_laws.specs.Members.{IsAmong, IsAmong-append_cases, IsAmong-append_left, IsAmong-append_right, among_from_contains, contains_from_among}
@@ -12,7 +12,7 @@ use Rattle.setting_rules.specs.declared.dependency_lists.DependencyList.{Depende
 use Rattle.setting_rules.specs.declared.kinds.DepKind.{DepKind}
 use Rattle.setting_rules.specs.declared.kinds.DepKind.TheVariants.{Before, After, Wants, WantedBy, Requires, RequiredBy, Requisite, RequisiteOf, BindsTo, BoundBy, PartOf, ConsistsOf, Conflicts, ConflictedBy, OnFailure, OnFailureOf, PropagatesReloadTo, ReloadPropagatedFrom}
 use Rattle.setting_rules.specs.declared.notes.SettingNoteKind.{SettingNoteKind}
-use Rattle.setting_rules.specs.Dependencies.{in_byte_order, named_by, names_by, words_for}
+use Rattle.setting_rules.specs.Dependencies.{named_by, names_by, words_for}
 use Rattle.setting_rules.specs.Kinds.{is_settable, kinds, settable}
 use Rattle.setting_rules.specs.Maps.{SettingMap}
 use Rattle.setting_rules.specs.OrderLaws.{names_rise, names_stay}
@@ -33,7 +33,7 @@ use Rattle.unit_loads.specs.AssignedLaws.{words_are_assigned}
 use Rattle.unit_loads.specs.MemberLaws.{HasSource, among_filter, among_filter_map, among_map, filter_among, filter_map_among, map_among}
 use Rattle.unit_loads.specs.NamedUnits.{IsAssigned, IsListed, IsNamed, kind_of}
 use Rattle.unit_loads.specs.UnitLaws.{one_dropins}
-use Rattle.unit_loads.specs.Units.{AreDropIns, AreLinkNames, HasAllOf, HasNothing, HasSettings, IsStatus, IsUnit, items_of, linked_by, links_for, list_with, no_names, settings_in}
+use Rattle.unit_loads.specs.Units.{AreDropIns, HasAllOf, HasSettings, IsStatus, IsUnit, items_of, linked_by, links_for, list_with, no_names, settings_in}
 
 -- A unit has a list for each kind that a unit file may set, in the order of the kinds, whatever its status.
 abbrev pub UnitsListAllKinds : Type 0

@@ -1,9 +1,7 @@
 -- A store has one unit of a name.
-use Rattle.std.proofs.Common.{◌≡◌, ℕ, Bool, List, [], ◌∷◌, ◌++◌, map, ap, sym, ◌∙◌, subst}
-use Rattle.std.specs.Prelude.{◌↔◌}
-use Rattle.std.specs.List.{Contains}
+use Rattle.std.proofs.Common.{◌≡◌, Bool, List, ◌∷◌, ◌++◌, map, ap, sym, ◌∙◌, subst}
 use Rattle.std.specs.Cmp.Lexicographic.{nat_list_cmp_total}
-use Rattle.list_laws.specs.Members.{IsAmong, among_from_contains, contains_from_among}
+use Rattle.list_laws.specs.Members.{among_from_contains, contains_from_among}
 use Rattle.list_laws.specs.Rising.{one_rising_list}
 use Rattle.load_path.specs.Paths.{PathParts}
 use Rattle.edit_sums.specs.Sums.{EntryMap}
@@ -15,7 +13,6 @@ use Rattle.setting_rules.specs.Switches.{refuses}
 use Rattle.fragment_choice.specs.declared.choices.Choice.{Choice}
 use Rattle.fragment_choice.specs.declared.choices.Choice.TheVariants as choice
 use Rattle.fragment_choice.specs.Resolutions.{resolution}
-use Rattle.fragment_choice.specs.UnitNames.{AreNames}
 use Rattle.fragment_choice.specs.UnitNameLaws.{one_list_of_names}
 use Rattle.dropins.specs.declared.link_names.Folder.{Folder}
 use Rattle.dropins.specs.declared.link_names.Folder.TheVariants.{Wants, Requires}

@@ -1,6 +1,6 @@
 -- One unit, loaded: what its files and its links come to.
 -- Source: systemd.unit(5), "Description" and "Unit File Load Path"; the order of the notes is this project's own.
-use Rattle.std.specs.Prelude.{◌≡◌, ℕ, Bool, false, Option, Some, None, is_none, List, [], ◌∷◌, ◌++◌, map, filter, ◌↔◌}
+use Rattle.std.specs.Prelude.{◌≡◌, ℕ, false, Option, Some, None, is_none, List, [], ◌∷◌, ◌++◌, map, filter, ◌↔◌}
 use Rattle.std.specs.List.{Contains, flat_map, filter_map}
 use Rattle.std.specs.List.Sorted.{IsStrictlySortedBy}
 use Rattle.load_path.specs.Paths.{PathParts}
