@@ -62,6 +62,14 @@ impl<T: Drop> Items<T> {
         self.elements.clear();
     }
 
+    /// The elements as a vector, without a copy of them. It takes no memory.
+    pub fn into_vec(self) -> Vec<T>
+        ensures elements { result.items ≡ self }
+    {
+        let Items { elements } = self;
+        elements
+    }
+
     /// The elements. It takes no memory.
     pub fn as_slice(&self) -> &[T]
         ensures elements { result.now ≡ self.now }

@@ -72,7 +72,7 @@ impl Dependencies {
         }
         self.lists.push(DependencyList {
             kind,
-            names: sorted(names),
+            names: in_byte_order(names),
         })
     }
 
@@ -135,8 +135,8 @@ impl Dependencies {
     }
 }
 
-// Names in byte order, each once.
-fn sorted(mut names: Vec<UnitName>) -> Items<UnitName>
+/// Names in byte order, each once. It takes no memory; O(n log n) in the names.
+pub fn in_byte_order(mut names: Vec<UnitName>) -> Items<UnitName>
     ensures names { result ≡ in_byte_order names.items }
 {
     names.sort_unstable();

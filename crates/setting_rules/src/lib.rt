@@ -21,7 +21,7 @@ mod switches;
 mod word_names;
 mod words;
 
-pub use dependency_lists::{Dependencies, DependencyList};
+pub use dependency_lists::{Dependencies, DependencyList, in_byte_order};
 pub use expansions::values;
 pub use keys::SettingKey;
 pub use kinds::DepKind;

@@ -1,0 +1,3 @@
+pub mod ComesTo
+pub mod Linked
+pub mod Steps

@@ -1,0 +1,26 @@
+-- Lists that are made element by element.
+use Rattle.std.proofs.Common.{◌≡◌, ℕ, ◌+◌, ◌<◌, is_none, List, [], ◌∷◌, ◌++◌, map, filter, length, take, get_or, ap, sym, ◌∙◌, append_assoc}
+use Rattle.std.proofs.lemmas.List.{map-append, take_more}
+use Rattle.std.proofs.lemmas.List.Elements.{filter-append, filter_map-append}
+use Rattle.unit_name.specs.Names.{Name}
+use Rattle.setting_rules.specs.declared.kinds.DepKind.{DepKind}
+use Rattle.setting_rules.specs.declared.notes.SettingNoteKind.TheVariants.{BadName}
+use Rattle.setting_rules.specs.Dependencies.{key_for}
+use Rattle.setting_rules.specs.Settings.{note_on}
+use Rattle.setting_rules.specs.Words.{for_unit}
+use Rattle.unit_loads.specs.Units.{linked_by, link_notes}
+
+-- one more element
+module _ {X B : Type 0} (made : List X → List B) (made-append : (xs ys : List X) → made (xs ++ ys) ≡ made xs ++ made ys) where
+  pub made_more : (l : List X) (i : ℕ) (d x : X) (was now new : List B) → i < length l → x ≡ get_or l i d → now ≡ was ++ made (take i l) → new ≡ now ++ made (x ∷ []) → new ≡ was ++ made (take (i + 1) l)
+  made_more l i d x was now new h is w n =
+      n ∙ ap (λ m. m ++ made (x ∷ [])) w ∙ append_assoc was (made (take i l)) (made (x ∷ []))
+      ∙ ap (λ m. was ++ m) (sym (made-append (take i l) (x ∷ [])) ∙ ap made (sym (take_more l i d h ∙ ap (λ y. take i l ++ y ∷ []) (sym is))))
+
+pub linked_by-append : (unit : Name) (xs ys : List Name) → linked_by unit (xs ++ ys) ≡ linked_by unit xs ++ linked_by unit ys
+linked_by-append unit xs ys = filter_map-append (for_unit unit) xs ys
+
+pub link_notes-append : (unit : Name) (dep : DepKind) (xs ys : List Name) → link_notes unit dep (xs ++ ys) ≡ link_notes unit dep xs ++ link_notes unit dep ys
+link_notes-append unit dep xs ys =
+    ap (map (λ _. note_on (key_for dep) BadName)) (filter-append (λ link. is_none (for_unit unit link)) xs ys)
+    ∙ map-append (λ _. note_on (key_for dep) BadName) (filter (λ link. is_none (for_unit unit link)) xs) (filter (λ link. is_none (for_unit unit link)) ys)

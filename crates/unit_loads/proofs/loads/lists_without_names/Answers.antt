@@ -1,0 +1,10 @@
+use Rattle.std.proofs.Common.{[], ap, map, ◌∙◌}
+use Rattle.std.proofs.lemmas.List.{take_all}
+use Rattle.setting_rules.specs.declared.dependency_lists.DependencyList.{DependencyList}
+use Rattle.setting_rules.specs.declared.kinds.DepKind.{DepKind}
+use Rattle.unit_loads.proofs.loads.lists_without_names.Goals as goal
+
+pub returns : goal.returns
+returns c = record {
+  lists = c.loop-kind.invariant.0 ∙ ap (map (λ (dep : DepKind). let r : DependencyList = record { kind = dep; names = [] } in r)) (take_all c.loop-kind.kind-index c.settable-kind-items.result.now c.loop-kind-test.false ∙ c.loop-kind.invariant.1);
+}

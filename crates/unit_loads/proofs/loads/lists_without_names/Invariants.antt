@@ -1,0 +1,6 @@
+use Rattle.std.proofs.Common.{◌≡◌, [], map, take}
+use Rattle.setting_rules.specs.Kinds.{settable}
+use Rattle.unit_loads.proofs.loads.lists_without_names.Given as goal
+
+abbrev pub invariant-loop-kind : goal.invariant-loop-kind
+invariant-loop-kind l = (l.lists ≡ map (λ dep. record { kind = dep; names = [] }) (take l.kind-index l.kind-items)) × (l.kind-items ≡ settable)

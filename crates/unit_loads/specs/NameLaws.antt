@@ -1,0 +1,268 @@
+-- Laws of the names that a unit lists.
+use Rattle.std.proofs.Common.{◌≡◌, ℕ, Some, Result, Ok, Err, List, [], ◌∷◌, ◌++◌, map, IsTrue, refl, ap, sym, ◌∙◌, subst, inl, inr}
+use Rattle.std.specs.Prelude.{◌↔◌, ◌⊎◌}
+use Rattle.std.specs.List.{Contains}
+use Rattle.std.specs.List.Sorted.{IsStrictlySortedBy}
+use Rattle.std.specs.Result.{result_ok}
+use Rattle.list_laws.specs.Members.{IsAmong, IsAmong-append_cases, IsAmong-append_left, IsAmong-append_right, among_from_contains, contains_from_among}
+use Rattle.load_path.specs.Paths.{PathParts}
+use Rattle.edit_sums.specs.Sums.{EntryMap}
+use Rattle.unit_name.specs.Names.{Name, name_cmp}
+use Rattle.setting_rules.specs.declared.dependency_lists.DependencyList.{DependencyList}
+use Rattle.setting_rules.specs.declared.kinds.DepKind.{DepKind}
+use Rattle.setting_rules.specs.declared.kinds.DepKind.TheVariants.{Before, After, Wants, WantedBy, Requires, RequiredBy, Requisite, RequisiteOf, BindsTo, BoundBy, PartOf, ConsistsOf, Conflicts, ConflictedBy, OnFailure, OnFailureOf, PropagatesReloadTo, ReloadPropagatedFrom}
+use Rattle.setting_rules.specs.declared.notes.SettingNoteKind.{SettingNoteKind}
+use Rattle.setting_rules.specs.Dependencies.{named_by, names_by, words_for}
+use Rattle.setting_rules.specs.Kinds.{is_settable, kinds, settable}
+use Rattle.setting_rules.specs.Maps.{SettingMap}
+use Rattle.setting_rules.specs.OrderLaws.{names_rise, names_stay}
+use Rattle.setting_rules.specs.Words.{for_unit}
+use Rattle.fragment_choice.specs.declared.choices.Choice.{Choice}
+use Rattle.fragment_choice.specs.declared.choices.Choice.TheVariants as choice
+use Rattle.fragment_choice.specs.Resolutions.{resolution}
+use Rattle.fragment_choice.specs.UnitNames.{AreNames}
+use Rattle.fragment_choice.specs.UnitNameLaws.{one_list_of_names}
+use Rattle.dropins.specs.declared.link_names.Folder.{Folder}
+use Rattle.dropins.specs.declared.link_names.Folder.TheVariants as folder
+use Rattle.dropins.specs.Taken.{IsLinked}
+use Rattle.unit_loads.specs.declared.links.LinkNames.{LinkNames}
+use Rattle.unit_loads.specs.declared.units.Status.{Status}
+use Rattle.unit_loads.specs.declared.units.Status.TheVariants.{Loaded, NotFound, Masked, Bad}
+use Rattle.unit_loads.specs.declared.units.Unit.{Unit as LoadedUnit}
+use Rattle.unit_loads.specs.AssignedLaws.{words_are_assigned}
+use Rattle.unit_loads.specs.MemberLaws.{HasSource, among_filter, among_filter_map, among_map, filter_among, filter_map_among, map_among}
+use Rattle.unit_loads.specs.NamedUnits.{IsAssigned, IsListed, IsNamed, kind_of}
+use Rattle.unit_loads.specs.UnitLaws.{one_dropins}
+use Rattle.unit_loads.specs.Units.{AreDropIns, HasAllOf, HasSettings, IsStatus, IsUnit, items_of, linked_by, links_for, list_with, no_names, settings_in}
+
+-- A unit has a list for each kind that a unit file may set, in the order of the kinds, whatever its status.
+abbrev pub UnitsListAllKinds : Type 0
+UnitsListAllKinds = (s : EntryMap) (name : Name) (unit : LoadedUnit) → IsUnit s name unit → map (λ list. list.kind) unit.deps ≡ settable
+
+-- Each list rises.
+abbrev pub ListsRise : Type 0
+ListsRise = (s : EntryMap) (name : Name) (unit : LoadedUnit) (list : DependencyList) → IsUnit s name unit → Contains unit.deps list → IsStrictlySortedBy name_cmp list.names
+
+-- The lists have just the names that the unit names.
+abbrev pub ListsHaveWhatIsNamed : Type 0
+ListsHaveWhatIsNamed = (s : EntryMap) (name : Name) (unit : LoadedUnit) (dep : DepKind) (v : Name) → IsUnit s name unit → IsListed unit.deps dep v ↔ IsNamed s name dep v
+
+-- Only a loaded unit names any.
+abbrev pub OthersNameNone : Type 0
+OthersNameNone = (s : EntryMap) (name : Name) (unit : LoadedUnit) (dep : DepKind) (v : Name) → IsUnit s name unit → IsNamed s name dep v → (fragment : PathParts) × (unit.status ≡ Loaded fragment)
+
+kind_there : (dep : DepKind) → IsAmong dep kinds
+kind_there Before = inl refl
+kind_there After = inr (inl refl)
+kind_there Wants = inr (inr (inl refl))
+kind_there WantedBy = inr (inr (inr (inl refl)))
+kind_there Requires = inr (inr (inr (inr (inl refl))))
+kind_there RequiredBy = inr (inr (inr (inr (inr (inl refl)))))
+kind_there Requisite = inr (inr (inr (inr (inr (inr (inl refl))))))
+kind_there RequisiteOf = inr (inr (inr (inr (inr (inr (inr (inl refl)))))))
+kind_there BindsTo = inr (inr (inr (inr (inr (inr (inr (inr (inl refl))))))))
+kind_there BoundBy = inr (inr (inr (inr (inr (inr (inr (inr (inr (inl refl)))))))))
+kind_there PartOf = inr (inr (inr (inr (inr (inr (inr (inr (inr (inr (inl refl))))))))))
+kind_there ConsistsOf = inr (inr (inr (inr (inr (inr (inr (inr (inr (inr (inr (inl refl)))))))))))
+kind_there Conflicts = inr (inr (inr (inr (inr (inr (inr (inr (inr (inr (inr (inr (inl refl))))))))))))
+kind_there ConflictedBy = inr (inr (inr (inr (inr (inr (inr (inr (inr (inr (inr (inr (inr (inl refl)))))))))))))
+kind_there OnFailure = inr (inr (inr (inr (inr (inr (inr (inr (inr (inr (inr (inr (inr (inr (inl refl))))))))))))))
+kind_there OnFailureOf = inr (inr (inr (inr (inr (inr (inr (inr (inr (inr (inr (inr (inr (inr (inr (inl refl)))))))))))))))
+kind_there PropagatesReloadTo = inr (inr (inr (inr (inr (inr (inr (inr (inr (inr (inr (inr (inr (inr (inr (inr (inl refl))))))))))))))))
+kind_there ReloadPropagatedFrom = inr (inr (inr (inr (inr (inr (inr (inr (inr (inr (inr (inr (inr (inr (inr (inr (inr (inl refl)))))))))))))))))
+
+settable_there : (dep : DepKind) → IsTrue (is_settable dep) → IsAmong dep settable
+settable_there dep h = filter_among is_settable kinds dep (kind_there dep) h
+
+ok_is : (r : Result Name SettingNoteKind) (v : Name) → result_ok r ≡ Some v → r ≡ Ok v
+ok_is (Ok x) v h = cc
+ok_is (Err e) v h = cc
+
+-- what stands for a name and the unit's status say the same
+fragment_from : (c : Choice) (status : Status) (fragment : PathParts) → IsStatus c status → status ≡ Loaded fragment → c ≡ choice.Fragment fragment
+fragment_from choice.NotFound status fragment p e = cc
+fragment_from choice.Masked status fragment p e = cc
+fragment_from (choice.Fragment path) status fragment p e = cc
+fragment_from (choice.Alias other) status fragment p e = absurd p
+fragment_from (choice.Bad cause) status fragment p e = cc
+
+status_from : (c : Choice) (status : Status) (fragment : PathParts) → IsStatus c status → c ≡ choice.Fragment fragment → status ≡ Loaded fragment
+status_from c status fragment p e = subst (λ (d : Choice). IsStatus d status) e p
+
+-- ---- lists without names
+
+nothing_rises : (list : DependencyList) → IsAmong list no_names → IsStrictlySortedBy name_cmp list.names
+unfolding IsStrictlySortedBy
+nothing_rises list h =
+    let from = among_map (λ (dep : DepKind). let r : DependencyList = record { kind = dep; names = [] } in r) settable list h in
+    subst (λ (l : DependencyList). IsStrictlySortedBy name_cmp l.names) from.makes tt
+
+nothing_listed : (dep : DepKind) (v : Name) → IsListed no_names dep v → ⊥
+nothing_listed dep v h =
+    let from = among_map (λ (dep : DepKind). let r : DependencyList = record { kind = dep; names = [] } in r) settable h.list (among_from_contains h.list no_names h.there) in
+    among_from_contains v [] (subst (λ (l : DependencyList). Contains l.names v) (sym from.makes) h.has_name)
+
+-- ---- the lists of a loaded unit
+
+module _ (entries : SettingMap) (unit : Name) (links : LinkNames) where
+  made_from : (list : DependencyList) → IsAmong list (map (list_with entries unit links) settable) → HasSource (λ dep list. list_with entries unit links dep ≡ list) settable list
+  made_from list h = among_map (list_with entries unit links) settable list h
+
+  list_rises : (list : DependencyList) → IsAmong list (map (list_with entries unit links) settable) → IsStrictlySortedBy name_cmp list.names
+  list_rises list h =
+      let from = made_from list h in
+      subst (λ (l : DependencyList). IsStrictlySortedBy name_cmp l.names) from.makes (names_rise (names_by unit (words_for entries from.source) ++ linked_by unit (links_for links from.source)))
+
+  -- what is in the list of a kind is named by a word or by a link
+  names_are_from : (dep : DepKind) (v : Name) → Contains (list_with entries unit links dep).names v
+      → HasSource (λ text z. result_ok (named_by unit text) ≡ Some z) (words_for entries dep) v ⊎ HasSource (λ link z. for_unit unit link ≡ Some z) (links_for links dep) v
+  names_are_from dep v h =
+      let words = names_by unit (words_for entries dep) in
+      let linked = linked_by unit (links_for links dep) in
+      by (IsAmong-append_cases v words linked (among_from_contains v (words ++ linked) ((names_stay (words ++ linked) v).0 h)))
+    where
+      by : IsAmong v (names_by unit (words_for entries dep)) ⊎ IsAmong v (linked_by unit (links_for links dep)) → HasSource (λ text z. result_ok (named_by unit text) ≡ Some z) (words_for entries dep) v ⊎ HasSource (λ link z. for_unit unit link ≡ Some z) (links_for links dep) v
+      by (inl a) = inl (among_filter_map (λ text. result_ok (named_by unit text)) (words_for entries dep) v a)
+      by (inr b) = inr (among_filter_map (for_unit unit) (links_for links dep) v b)
+
+  listed_in : (dep : DepKind) (v : Name) → IsTrue (is_settable dep) → IsAmong v (names_by unit (words_for entries dep) ++ linked_by unit (links_for links dep)) → IsListed (map (list_with entries unit links) settable) dep v
+  listed_in dep v settable_too h = record {
+    list = list_with entries unit links dep;
+    there = contains_from_among (list_with entries unit links dep) (map (list_with entries unit links) settable) (map_among (list_with entries unit links) settable dep (settable_there dep settable_too));
+    kind_is = refl;
+    has_name = (names_stay (names_by unit (words_for entries dep) ++ linked_by unit (links_for links dep)) v).1 (contains_from_among v (names_by unit (words_for entries dep) ++ linked_by unit (links_for links dep)) h);
+  }
+
+-- ---- what a loaded unit names
+
+module _ (s : EntryMap) (unit : LoadedUnit) (names_are : AreNames s unit.name unit.names) (fragment : PathParts) (fragment_is : (resolution s unit.name).choice ≡ choice.Fragment fragment) (has : HasSettings s fragment unit) where
+  named_by_link : (dep : DepKind) (v : Name) → HasSource (λ link z. for_unit unit.name link ≡ Some z) (links_for has.links dep) v → IsNamed s unit.name dep v
+  named_by_link Wants v from = inr (
+    folder.Wants,
+    refl,
+    record {
+      names = unit.names;
+      names_are = names_are;
+      fragment = fragment;
+      fragment_is = fragment_is;
+      link = from.source;
+      linked = (has.links_are.wanted_are.exact from.source).0 (contains_from_among from.source has.links.wanted from.there);
+      named = from.makes;
+    },
+  )
+  named_by_link Requires v from = inr (
+    folder.Requires,
+    refl,
+    record {
+      names = unit.names;
+      names_are = names_are;
+      fragment = fragment;
+      fragment_is = fragment_is;
+      link = from.source;
+      linked = (has.links_are.required_are.exact from.source).0 (contains_from_among from.source has.links.required from.there);
+      named = from.makes;
+    },
+  )
+  named_by_link other v from = absurd from.there
+
+  named_by_word : (dep : DepKind) (v : Name) → IsTrue (is_settable dep) → HasSource (λ text z. result_ok (named_by unit.name text) ≡ Some z) (words_for (settings_in s fragment unit.dropins) dep) v → IsNamed s unit.name dep v
+  named_by_word dep v settable_too from = inl (record {
+    names = unit.names;
+    names_are = names_are;
+    fragment = fragment;
+    fragment_is = fragment_is;
+    dropins = unit.dropins;
+    dropins_are = has.dropins_are;
+    text = from.source;
+    assigned = (words_are_assigned (items_of s (fragment ∷ unit.dropins)) dep from.source settable_too).0 from.there;
+    named = ok_is (named_by unit.name from.source) v from.makes;
+  })
+
+  named_from_listed : (dep : DepKind) (v : Name) → IsListed unit.deps dep v → IsNamed s unit.name dep v
+  named_from_listed dep v h =
+      let entries = settings_in s fragment unit.dropins in
+      let from = made_from entries unit.name has.links h.list (subst (IsAmong h.list) has.deps_are (among_from_contains h.list unit.deps h.there)) in
+      let kind_is : from.source ≡ dep = ap (λ (l : DependencyList). l.kind) from.makes ∙ h.kind_is in
+      let settable_too = (among_filter is_settable kinds from.source from.there).1 in
+      subst (λ (d : DepKind). IsNamed s unit.name d v) kind_is (by from.source settable_too (names_are_from entries unit.name has.links from.source v (subst (λ (l : DependencyList). Contains l.names v) (sym from.makes) h.has_name)))
+    where
+      by : (d : DepKind) → IsTrue (is_settable d) → HasSource (λ text z. result_ok (named_by unit.name text) ≡ Some z) (words_for (settings_in s fragment unit.dropins) d) v ⊎ HasSource (λ link z. for_unit unit.name link ≡ Some z) (links_for has.links d) v → IsNamed s unit.name d v
+      by d settable_too (inl a) = named_by_word d v settable_too a
+      by d settable_too (inr b) = named_by_link d v b
+
+  -- each name is in the list of its kind
+  in_deps : (dep : DepKind) (v : Name) → IsTrue (is_settable dep) → IsAmong v (names_by unit.name (words_for (settings_in s fragment unit.dropins) dep) ++ linked_by unit.name (links_for has.links dep)) → IsListed unit.deps dep v
+  in_deps dep v settable_too h = subst (λ (lists : List DependencyList). IsListed lists dep v) (sym has.deps_are) (listed_in (settings_in s fragment unit.dropins) unit.name has.links dep v settable_too h)
+
+  word_listed : (dep : DepKind) (v : Name) (text : List ℕ) → IsAssigned (items_of s (fragment ∷ unit.dropins)) dep text → named_by unit.name text ≡ Ok v → IsListed unit.deps dep v
+  word_listed dep v text assigned named =
+      let there = (words_are_assigned (items_of s (fragment ∷ unit.dropins)) dep text assigned.settable).1 assigned in
+      let words = words_for (settings_in s fragment unit.dropins) dep in
+      in_deps dep v assigned.settable (IsAmong-append_left v (names_by unit.name words) (linked_by unit.name (links_for has.links dep)) (filter_map_among (λ w. result_ok (named_by unit.name w)) words text v there (ap result_ok named)))
+
+  link_listed : (dir : Folder) (v link : Name) → IsLinked s unit.names dir link → for_unit unit.name link ≡ Some v → IsListed unit.deps (kind_of dir) v
+  link_listed folder.Wants v link linked named =
+      in_deps Wants v refl (IsAmong-append_right v (names_by unit.name (words_for (settings_in s fragment unit.dropins) Wants)) (linked_by unit.name has.links.wanted)
+      (filter_map_among (for_unit unit.name) has.links.wanted link v (among_from_contains link has.links.wanted ((has.links_are.wanted_are.exact link).1 linked)) named))
+  link_listed folder.Requires v link linked named =
+      in_deps Requires v refl (IsAmong-append_right v (names_by unit.name (words_for (settings_in s fragment unit.dropins) Requires)) (linked_by unit.name has.links.required)
+      (filter_map_among (for_unit unit.name) has.links.required link v (among_from_contains link has.links.required ((has.links_are.required_are.exact link).1 linked)) named))
+
+-- ---- the laws
+
+module _ (s : EntryMap) (unit : LoadedUnit) where
+  kinds_by : (status : Status) → HasAllOf s unit status → map (λ list. list.kind) unit.deps ≡ settable
+  kinds_by (Loaded fragment) h = ap (map (λ (list : DependencyList). list.kind)) h.deps_are
+  kinds_by NotFound h = ap (map (λ (list : DependencyList). list.kind)) h.no_deps
+  kinds_by Masked h = ap (map (λ (list : DependencyList). list.kind)) h.no_deps
+  kinds_by (Bad cause) h = ap (map (λ (list : DependencyList). list.kind)) h.no_deps
+
+  rises_by : (status : Status) (list : DependencyList) → HasAllOf s unit status → IsAmong list unit.deps → IsStrictlySortedBy name_cmp list.names
+  rises_by (Loaded fragment) list h c = list_rises (settings_in s fragment unit.dropins) unit.name h.links list (subst (IsAmong list) h.deps_are c)
+  rises_by NotFound list h c = nothing_rises list (subst (IsAmong list) h.no_deps c)
+  rises_by Masked list h c = nothing_rises list (subst (IsAmong list) h.no_deps c)
+  rises_by (Bad cause) list h c = nothing_rises list (subst (IsAmong list) h.no_deps c)
+
+pub units_list_all_kinds : UnitsListAllKinds
+units_list_all_kinds s name unit p = kinds_by s unit unit.status p.has
+
+pub lists_rise : ListsRise
+lists_rise s name unit list p c = rises_by s unit unit.status list p.has (among_from_contains list unit.deps c)
+
+-- what a unit has by its own name
+module _ (s : EntryMap) (name : Name) (unit : LoadedUnit) (p : IsUnit s name unit) where
+  own_names : AreNames s unit.name unit.names
+  own_names = subst (λ (n : Name). AreNames s n unit.names) (sym p.name_is) p.names_are
+
+  own_status : IsStatus (resolution s unit.name).choice unit.status
+  own_status = subst (λ (n : Name). IsStatus (resolution s n).choice unit.status) (sym p.name_is) p.status_is
+
+  listed_names : (dep : DepKind) (v : Name) (status : Status) → unit.status ≡ status → HasAllOf s unit status → IsListed unit.deps dep v → IsNamed s unit.name dep v
+  listed_names dep v (Loaded fragment) e h l = named_from_listed s unit own_names fragment (fragment_from (resolution s unit.name).choice unit.status fragment own_status e) h dep v l
+  listed_names dep v NotFound e h l = absurd (nothing_listed dep v (subst (λ (lists : List DependencyList). IsListed lists dep v) h.no_deps l))
+  listed_names dep v Masked e h l = absurd (nothing_listed dep v (subst (λ (lists : List DependencyList). IsListed lists dep v) h.no_deps l))
+  listed_names dep v (Bad cause) e h l = absurd (nothing_listed dep v (subst (λ (lists : List DependencyList). IsListed lists dep v) h.no_deps l))
+
+  settings_with : (fragment : PathParts) → (resolution s unit.name).choice ≡ choice.Fragment fragment → HasSettings s fragment unit
+  settings_with fragment e = subst (HasAllOf s unit) (status_from (resolution s unit.name).choice unit.status fragment own_status e) p.has
+
+  named_listed : (dep : DepKind) (v : Name) → IsNamed s unit.name dep v → IsListed unit.deps dep v
+  named_listed dep v (inl n) =
+      let h = settings_with n.fragment n.fragment_is in
+      let names = one_list_of_names s unit.name n.names unit.names n.names_are own_names in
+      let dropins = one_dropins s unit.names n.dropins unit.dropins (subst (λ (ns : List Name). AreDropIns s ns n.dropins) names n.dropins_are) h.dropins_are in
+      word_listed s unit own_names n.fragment n.fragment_is h dep v n.text (subst (λ (ps : List PathParts). IsAssigned (items_of s (n.fragment ∷ ps)) dep n.text) dropins n.assigned) n.named
+  named_listed dep v (inr (dir, kind_is, n)) =
+      let names = one_list_of_names s unit.name n.names unit.names n.names_are own_names in
+      subst (λ (d : DepKind). IsListed unit.deps d v) kind_is
+      (link_listed s unit own_names n.fragment n.fragment_is (settings_with n.fragment n.fragment_is) dir v n.link (subst (λ (ns : List Name). IsLinked s ns dir n.link) names n.linked) n.named)
+
+pub lists_have_what_is_named : ListsHaveWhatIsNamed
+lists_have_what_is_named s name unit dep v p = (
+  λ l. subst (λ (n : Name). IsNamed s n dep v) p.name_is (listed_names s name unit p dep v unit.status refl p.has l),
+  λ n. named_listed s name unit p dep v (subst (λ (u : Name). IsNamed s u dep v) (sym p.name_is) n),
+)
+
+pub others_name_none : OthersNameNone
+others_name_none s name unit dep v p (inl n) = (n.fragment, status_from (resolution s name).choice unit.status n.fragment p.status_is n.fragment_is)
+others_name_none s name unit dep v p (inr (dir, kind_is, n)) = (n.fragment, status_from (resolution s name).choice unit.status n.fragment p.status_is n.fragment_is)

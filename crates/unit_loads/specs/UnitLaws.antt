@@ -1,0 +1,131 @@
+-- A store has one unit of a name.
+use Rattle.std.proofs.Common.{◌≡◌, Bool, List, ◌∷◌, ◌++◌, map, ap, sym, ◌∙◌, subst}
+use Rattle.std.specs.Cmp.Lexicographic.{nat_list_cmp_total}
+use Rattle.list_laws.specs.Members.{among_from_contains, contains_from_among}
+use Rattle.list_laws.specs.Rising.{one_rising_list}
+use Rattle.load_path.specs.Paths.{PathParts}
+use Rattle.edit_sums.specs.Sums.{EntryMap}
+use Rattle.unit_name.specs.Names.{Name, name_cmp}
+use Rattle.setting_rules.specs.declared.dependency_lists.DependencyList.{DependencyList}
+use Rattle.setting_rules.specs.declared.rows.Row.{Row}
+use Rattle.setting_rules.specs.Rows.{rows_of}
+use Rattle.setting_rules.specs.Switches.{refuses}
+use Rattle.fragment_choice.specs.declared.choices.Choice.{Choice}
+use Rattle.fragment_choice.specs.declared.choices.Choice.TheVariants as choice
+use Rattle.fragment_choice.specs.Resolutions.{resolution}
+use Rattle.fragment_choice.specs.UnitNameLaws.{one_list_of_names}
+use Rattle.dropins.specs.declared.link_names.Folder.{Folder}
+use Rattle.dropins.specs.declared.link_names.Folder.TheVariants.{Wants, Requires}
+use Rattle.dropins.specs.OrderLaws.{one_order}
+use Rattle.unit_loads.specs.declared.links.LinkNames.{LinkNames}
+use Rattle.unit_loads.specs.declared.units.Status.{Status}
+use Rattle.unit_loads.specs.declared.units.Status.TheVariants.{Loaded, NotFound, Masked, Bad}
+use Rattle.unit_loads.specs.declared.units.Unit.{Unit as LoadedUnit}
+use Rattle.unit_loads.specs.declared.units.UnitNote.{UnitNote}
+use Rattle.unit_loads.specs.declared.units.UnitNote.TheVariants as note
+use Rattle.unit_loads.specs.Units.{AreDropIns, AreLinks, AreLinkNames, HasAllOf, HasNothing, HasSettings, IsStatus, IsUnit, file_notes, items_of, lists_with, setting_notes, settings_in}
+
+-- Two units of one name in one store are the same unit.
+abbrev pub OneUnit : Type 0
+OneUnit = (s : EntryMap) (name : Name) (a b : LoadedUnit) → IsUnit s name a → IsUnit s name b → a ≡ b
+
+-- what stands for a name gives one status
+pub one_status : (c : Choice) (x y : Status) → IsStatus c x → IsStatus c y → x ≡ y
+one_status choice.NotFound x y p q = p ∙ sym q
+one_status choice.Masked x y p q = p ∙ sym q
+one_status (choice.Fragment path) x y p q = p ∙ sym q
+one_status (choice.Alias other) x y p q = absurd p
+one_status (choice.Bad cause) x y p q = p ∙ sym q
+
+module _ (s : EntryMap) (names : List Name) where
+  -- names have one list of drop-ins
+  pub one_dropins : (ps qs : List PathParts) → AreDropIns s names ps → AreDropIns s names qs → ps ≡ qs
+  one_dropins ps qs a b = one_order ps qs a.rising b.rising (λ p. (λ c. (b.exact p).1 ((a.exact p).0 c), λ c. (a.exact p).1 ((b.exact p).0 c)))
+
+  -- and their link folders of a sort give one list of names
+  pub one_links : (folder : Folder) (xs ys : List Name) → AreLinks s names folder xs → AreLinks s names folder ys → xs ≡ ys
+  one_links folder xs ys a b = one_rising_list name_cmp nat_list_cmp_total xs ys a.rising b.rising (λ n. (
+    λ h. among_from_contains n ys ((b.exact n).1 ((a.exact n).0 (contains_from_among n xs h))),
+    λ h. among_from_contains n xs ((a.exact n).1 ((b.exact n).0 (contains_from_among n ys h))),
+  ))
+
+  pub one_pair_of_links : (x y : LinkNames) → AreLinkNames s names x → AreLinkNames s names y → x ≡ y
+  one_pair_of_links x y a b =
+      ap (λ (l : List Name). let r : LinkNames = record { wanted = l; required = x.required } in r) (one_links Wants x.wanted y.wanted a.wanted_are b.wanted_are)
+      ∙ ap (λ (l : List Name). let r : LinkNames = record { wanted = y.wanted; required = l } in r) (one_links Requires x.required y.required a.required_are b.required_are)
+
+-- two units have the same drop-ins, settings and notes
+record AreAlike (a b : LoadedUnit) : Type 0 where
+  dropins : a.dropins ≡ b.dropins
+  values : a.values ≡ b.values
+  deps : a.deps ≡ b.deps
+  notes : a.notes ≡ b.notes
+  manual : a.manual ≡ b.manual
+
+module _ (s : EntryMap) (a b : LoadedUnit) (name : a.name ≡ b.name) (names : a.names ≡ b.names) where
+  alike_if_loaded : (fragment : PathParts) → HasSettings s fragment a → HasSettings s fragment b → AreAlike a b
+  alike_if_loaded fragment p q =
+      let dropins = one_dropins s b.names a.dropins b.dropins (subst (λ ns. AreDropIns s ns a.dropins) names p.dropins_are) q.dropins_are in
+      let links = one_pair_of_links s b.names p.links q.links (subst (λ ns. AreLinkNames s ns p.links) names p.links_are) q.links_are in
+      record {
+        dropins = dropins;
+        values =
+            p.values_are ∙ ap (λ ps. rows_of (settings_in s fragment ps) a.name) dropins
+            ∙ ap (rows_of (settings_in s fragment b.dropins)) name ∙ sym q.values_are;
+        deps =
+            p.deps_are ∙ ap (λ ps. lists_with (settings_in s fragment ps) a.name p.links) dropins
+            ∙ ap (λ n. lists_with (settings_in s fragment b.dropins) n p.links) name
+            ∙ ap (λ l. lists_with (settings_in s fragment b.dropins) b.name l) links ∙ sym q.deps_are;
+        notes =
+            p.notes_are ∙ ap (λ ps. file_notes s (fragment ∷ ps) ++ map note.Setting (setting_notes (items_of s (fragment ∷ ps)) a.name p.links)) dropins
+            ∙ ap (λ n. file_notes s (fragment ∷ b.dropins) ++ map note.Setting (setting_notes (items_of s (fragment ∷ b.dropins)) n p.links)) name
+            ∙ ap (λ l. file_notes s (fragment ∷ b.dropins) ++ map note.Setting (setting_notes (items_of s (fragment ∷ b.dropins)) b.name l)) links
+            ∙ sym q.notes_are;
+        manual = p.manual_is ∙ ap (λ ps. refuses (settings_in s fragment ps)) dropins ∙ sym q.manual_is;
+      }
+
+  alike_if_not : HasNothing a → HasNothing b → AreAlike a b
+  alike_if_not p q = record {
+    dropins = p.no_dropins ∙ sym q.no_dropins;
+    values = p.no_values ∙ sym q.no_values;
+    deps = p.no_deps ∙ sym q.no_deps;
+    notes = p.no_notes ∙ sym q.no_notes;
+    manual = p.not_manual ∙ sym q.not_manual;
+  }
+
+  alike : (status : Status) → HasAllOf s a status → HasAllOf s b status → AreAlike a b
+  alike (Loaded fragment) p q = alike_if_loaded fragment p q
+  alike NotFound p q = alike_if_not p q
+  alike Masked p q = alike_if_not p q
+  alike (Bad cause) p q = alike_if_not p q
+
+unit_of : Name → List Name → Status → List PathParts → List Row → List DependencyList → List UnitNote → Bool → LoadedUnit
+unit_of name names status dropins values deps notes manual = record {
+  name = name;
+  names = names;
+  status = status;
+  dropins = dropins;
+  values = values;
+  deps = deps;
+  notes = notes;
+  manual = manual;
+}
+
+same_unit : (a b : LoadedUnit) → a.name ≡ b.name → a.names ≡ b.names → a.status ≡ b.status → AreAlike a b → a ≡ b
+unfolding unit_of
+same_unit a b name names status rest =
+    ap (λ x. unit_of x a.names a.status a.dropins a.values a.deps a.notes a.manual) name
+    ∙ ap (λ x. unit_of b.name x a.status a.dropins a.values a.deps a.notes a.manual) names
+    ∙ ap (λ x. unit_of b.name b.names x a.dropins a.values a.deps a.notes a.manual) status
+    ∙ ap (λ x. unit_of b.name b.names b.status x a.values a.deps a.notes a.manual) rest.dropins
+    ∙ ap (λ x. unit_of b.name b.names b.status b.dropins x a.deps a.notes a.manual) rest.values
+    ∙ ap (λ x. unit_of b.name b.names b.status b.dropins b.values x a.notes a.manual) rest.deps
+    ∙ ap (λ x. unit_of b.name b.names b.status b.dropins b.values b.deps x a.manual) rest.notes
+    ∙ ap (λ x. unit_of b.name b.names b.status b.dropins b.values b.deps b.notes x) rest.manual
+
+pub one_unit : OneUnit
+one_unit s name a b p q =
+    let unit_name = p.name_is ∙ sym q.name_is in
+    let names = one_list_of_names s name a.names b.names p.names_are q.names_are in
+    let status = one_status (resolution s name).choice a.status b.status p.status_is q.status_is in
+    same_unit a b unit_name names status (alike s a b unit_name names a.status p.has (subst (HasAllOf s b) (sym status) q.has))

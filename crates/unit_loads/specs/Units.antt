@@ -1,0 +1,162 @@
+-- One unit, loaded: what its files and its links come to.
+-- Source: systemd.unit(5), "Description" and "Unit File Load Path"; the order of the notes is this project's own.
+use Rattle.std.specs.Prelude.{◌≡◌, ℕ, false, Option, Some, None, is_none, List, [], ◌∷◌, ◌++◌, map, filter, ◌↔◌}
+use Rattle.std.specs.List.{Contains, flat_map, filter_map}
+use Rattle.std.specs.List.Sorted.{IsStrictlySortedBy}
+use Rattle.load_path.specs.Paths.{PathParts}
+use Rattle.edit_sums.specs.declared.contents.Content.{Content}
+use Rattle.edit_sums.specs.declared.contents.Content.TheVariants.{Gone, Link, File}
+use Rattle.edit_sums.specs.Sums.{EntryMap, visible_at}
+use Rattle.unit_name.specs.Names.{Name, name_cmp}
+use Rattle.section_reader.specs.declared.assignments.Assignment.{Assignment}
+use Rattle.section_reader.specs.Sections.{assignments_of, notes_of}
+use Rattle.setting_rules.specs.declared.dependency_lists.DependencyList.{DependencyList}
+use Rattle.setting_rules.specs.declared.kinds.DepKind.{DepKind}
+use Rattle.setting_rules.specs.declared.kinds.DepKind.TheVariants as kind
+use Rattle.setting_rules.specs.declared.notes.SettingNote.{SettingNote}
+use Rattle.setting_rules.specs.declared.notes.SettingNoteKind.TheVariants.{BadName}
+use Rattle.setting_rules.specs.Dependencies.{in_byte_order, key_for, names_by, word_notes, words_for}
+use Rattle.setting_rules.specs.Kinds.{settable}
+use Rattle.setting_rules.specs.Maps.{SettingMap}
+use Rattle.setting_rules.specs.Rows.{rows_of, escape_notes}
+use Rattle.setting_rules.specs.Settings.{boolean_notes, note_on, settings_of}
+use Rattle.setting_rules.specs.Switches.{refuses}
+use Rattle.setting_rules.specs.Words.{for_unit}
+use Rattle.fragment_choice.specs.declared.choices.Choice.{Choice}
+use Rattle.fragment_choice.specs.declared.choices.Choice.TheVariants as choice
+use Rattle.fragment_choice.specs.Resolutions.{main, resolution}
+use Rattle.fragment_choice.specs.UnitNames.{AreNames}
+use Rattle.dropins.specs.declared.link_names.Folder.{Folder}
+use Rattle.dropins.specs.declared.link_names.Folder.TheVariants.{Wants, Requires}
+use Rattle.dropins.specs.Taken.{IsDropIn, IsLinked, file_name}
+use Rattle.unit_loads.specs.declared.links.LinkNames.{LinkNames}
+use Rattle.unit_loads.specs.declared.units.Status.{Status}
+use Rattle.unit_loads.specs.declared.units.Status.TheVariants.{Loaded, NotFound, Masked, Bad}
+use Rattle.unit_loads.specs.declared.units.Unit.{Unit as LoadedUnit}
+use Rattle.unit_loads.specs.declared.units.UnitNote.{UnitNote}
+use Rattle.unit_loads.specs.declared.units.UnitNote.TheVariants as note
+
+-- ---- files
+
+-- the bytes of a content that is a file
+abbrev pub file_bytes : Option Content → List ℕ
+file_bytes None = []
+file_bytes (Some Gone) = []
+file_bytes (Some (Link target)) = []
+file_bytes (Some (File bytes)) = bytes
+
+-- the bytes of the file that is visible at a path
+abbrev pub bytes_at : EntryMap → PathParts → List ℕ
+bytes_at s p = file_bytes (visible_at s p)
+
+-- the assignments of files, one file behind another
+abbrev pub items_of : EntryMap → List PathParts → List Assignment
+items_of s files = flat_map (λ p. assignments_of (bytes_at s p)) files
+
+-- the notes on the lines of a file, with its path
+abbrev pub notes_at : EntryMap → PathParts → List UnitNote
+notes_at s p = map (note.File p) (notes_of (bytes_at s p))
+
+-- the notes on the lines of files, one file behind another
+abbrev pub file_notes : EntryMap → List PathParts → List UnitNote
+file_notes s files = flat_map (notes_at s) files
+
+-- these are the drop-ins of a unit of these names, by file name
+pub record AreDropIns (s : EntryMap) (names : List Name) (dropins : List PathParts) : Type 0 where
+  pub rising : IsStrictlySortedBy name_cmp (map file_name dropins)
+  pub exact : (p : PathParts) → Contains dropins p ↔ IsDropIn s names p
+
+-- ---- links
+
+-- the link folders of this sort of a unit of these names give these names, in byte order
+pub record AreLinks (s : EntryMap) (names : List Name) (folder : Folder) (links : List Name) : Type 0 where
+  pub rising : IsStrictlySortedBy name_cmp links
+  pub exact : (n : Name) → Contains links n ↔ IsLinked s names folder n
+
+-- these are the names that the link folders of a unit of these names give
+pub record AreLinkNames (s : EntryMap) (names : List Name) (links : LinkNames) : Type 0 where
+  pub wanted_are : AreLinks s names Wants links.wanted
+  pub required_are : AreLinks s names Requires links.required
+
+-- those that add to the dependencies of a kind
+abbrev pub links_for : LinkNames → DepKind → List Name
+links_for links kind.Wants = links.wanted
+links_for links kind.Requires = links.required
+links_for links other = []
+
+-- the units that a unit means by link names
+abbrev pub linked_by : Name → List Name → List Name
+linked_by unit links = filter_map (for_unit unit) links
+
+-- a note on each link name by which a unit means none
+abbrev pub link_notes : Name → DepKind → List Name → List SettingNote
+link_notes unit dep links = map (λ _. note_on (key_for dep) BadName) (filter (λ link. is_none (for_unit unit link)) links)
+
+-- ---- dependencies and notes
+
+-- the names that a unit's words and links give for a kind
+abbrev pub list_with : SettingMap → Name → LinkNames → DepKind → DependencyList
+list_with entries unit links dep = record { kind = dep; names = in_byte_order (names_by unit (words_for entries dep) ++ linked_by unit (links_for links dep)) }
+
+-- A list for each kind that a unit file may set, in the order of the kinds.
+abbrev pub lists_with : SettingMap → Name → LinkNames → List DependencyList
+lists_with entries unit links = map (list_with entries unit links) settable
+
+-- the same with no names
+abbrev pub no_names : List DependencyList
+no_names = map (λ dep. record { kind = dep; names = [] }) settable
+
+-- the notes on words and then on links
+abbrev pub dependency_notes : SettingMap → Name → LinkNames → List SettingNote
+dependency_notes entries unit links = word_notes entries unit ++ link_notes unit kind.Wants links.wanted ++ link_notes unit kind.Requires links.required
+
+-- the notes on settings: on booleans, on values that can't be expanded, on dependencies
+abbrev pub setting_notes : List Assignment → Name → LinkNames → List SettingNote
+setting_notes items unit links = boolean_notes items ++ escape_notes (settings_of items) unit ++ dependency_notes (settings_of items) unit links
+
+-- ---- the unit
+
+-- what stands for a name is the unit's status
+abbrev pub IsStatus : Choice → Status → Type 0
+IsStatus choice.NotFound status = status ≡ NotFound
+IsStatus choice.Masked status = status ≡ Masked
+IsStatus (choice.Fragment path) status = status ≡ Loaded path
+IsStatus (choice.Alias other) status = ⊥
+IsStatus (choice.Bad cause) status = status ≡ Bad cause
+
+-- the settings of a unit with this fragment and these drop-ins
+abbrev pub settings_in : EntryMap → PathParts → List PathParts → SettingMap
+settings_in s fragment dropins = settings_of (items_of s (fragment ∷ dropins))
+
+-- the unit has what its files and links come to, its fragment being at this path
+pub record HasSettings (s : EntryMap) (fragment : PathParts) (unit : LoadedUnit) : Type 0 where
+  pub dropins_are : AreDropIns s unit.names unit.dropins
+  pub links : LinkNames
+  pub links_are : AreLinkNames s unit.names links
+  pub values_are : unit.values ≡ rows_of (settings_in s fragment unit.dropins) unit.name
+  pub deps_are : unit.deps ≡ lists_with (settings_in s fragment unit.dropins) unit.name links
+  pub notes_are : unit.notes ≡ file_notes s (fragment ∷ unit.dropins) ++ map note.Setting (setting_notes (items_of s (fragment ∷ unit.dropins)) unit.name links)
+  pub manual_is : unit.manual ≡ refuses (settings_in s fragment unit.dropins)
+
+-- the unit has neither drop-ins nor settings, and names no other
+pub record HasNothing (unit : LoadedUnit) : Type 0 where
+  pub no_dropins : unit.dropins ≡ []
+  pub no_values : unit.values ≡ []
+  pub no_deps : unit.deps ≡ no_names
+  pub no_notes : unit.notes ≡ []
+  pub not_manual : unit.manual ≡ false
+
+-- the unit has what a status lets it have
+abbrev pub HasAllOf : EntryMap → LoadedUnit → Status → Type 0
+HasAllOf s unit (Loaded fragment) = HasSettings s fragment unit
+HasAllOf s unit NotFound = HasNothing unit
+HasAllOf s unit Masked = HasNothing unit
+HasAllOf s unit (Bad cause) = HasNothing unit
+
+-- This is the unit of a main name in a store.
+pub record IsUnit (s : EntryMap) (name : Name) (unit : LoadedUnit) : Type 0 where
+  pub main_is : main s name ≡ name
+  pub name_is : unit.name ≡ name
+  pub names_are : AreNames s name unit.names
+  pub status_is : IsStatus (resolution s name).choice unit.status
+  pub has : HasAllOf s unit unit.status

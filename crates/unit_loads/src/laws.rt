@@ -1,0 +1,17 @@
+//! What is true of all units: laws, each the contract of a function that does nothing.
+ghost use Rattle.unit_loads.specs.NameLaws.{ListsHaveWhatIsNamed, ListsRise, OthersNameNone, UnitsListAllKinds};
+ghost use Rattle.unit_loads.specs.UnitLaws.{OneUnit};
+
+/// Two units of one name in one store are the same unit, so a load is a function of the store.
+pub fn one_unit()
+    ensures one { OneUnit }
+{}
+
+/// A unit has a list of names for each kind that a unit file may set, in the order of the kinds. Each rises, and together
+/// they have just the names that the unit's words and links give. Only a loaded unit names any.
+pub fn named_unit_laws()
+    ensures kinds { UnitsListAllKinds }
+    ensures rise { ListsRise }
+    ensures exact { ListsHaveWhatIsNamed }
+    ensures loaded { OthersNameNone }
+{}

@@ -1,0 +1,17 @@
+//! One unit of a store: its names, the file that stands for it, its drop-ins, and what these files and its links come to.
+//!
+//! A load of a store's units stands on one call that makes one unit. What a unit is, is a function of the store: no two
+//! units of one name are in a store.
+#![tactic(auto)]
+
+mod dependencies;
+mod files;
+mod laws;
+mod links;
+mod loads;
+mod settled;
+mod units;
+
+pub use laws::{named_unit_laws, one_unit};
+pub use loads::{load_one, load_unit};
+pub use units::{Status, Unit, UnitNote};

@@ -1,0 +1,127 @@
+//! A unit of a store.
+ghost use Rattle.std.specs.Prelude.{◌≡◌, IfOk};
+ghost use Rattle.fragment_choice.specs.Resolutions.{main, resolution};
+ghost use Rattle.unit_loads.specs.Units.{HasNothing, HasSettings, IsUnit, no_names};
+
+use crate::files::UnitText;
+use crate::links::LinkNames;
+use crate::settled::Settled;
+use crate::units::{Status, Unit};
+use dropins::order;
+use fragment_choice::{AliasIndex, Choice, Resolution, resolve};
+use replica_store::{Path, Store};
+use section_reader::Items;
+use setting_rules::{DepKind, DependencyList};
+use std::alloc::{AllocError, Global};
+use unit_name::UnitName;
+
+/// The unit of a main name in the store of an index; its dependencies are the names that its words and links give, not yet
+/// the mains of these (systemd.unit(5)).
+///
+/// Beside the look-ups for its names, its drop-ins and its links: linear in the bytes of its files and in what they expand
+/// to, and O(n log n) in the names of a kind. It fails for want of memory alone.
+pub fn load_unit(alloc: Global, index: &AliasIndex, name: &UnitName) -> Result<Unit, AllocError>
+    requires main { main index.now name.now ≡ name.now }
+    ensures unit { IfOk result (IsUnit index.now name.now) }
+{
+    let resolved = resolve(alloc, index.store(), name)?;
+    load_resolved(alloc, index, resolved)
+}
+
+/// The unit of a name's main in a store, as `load_unit` gives it.
+///
+/// It makes an index of the whole store; for several units make one and ask for each. It fails for want of memory alone.
+pub fn load_one(alloc: Global, store: &Store, name: &UnitName) -> Result<Unit, AllocError>
+    ensures unit { IfOk result (IsUnit store.now (main store.now name.now)) }
+{
+    let resolved = resolve(alloc, store, name)?;
+    let index = AliasIndex::of(alloc, store)?;
+    load_resolved(alloc, &index, resolved)
+}
+
+// The unit of a main name, with what stands for it.
+fn load_resolved(
+    alloc: Global,
+    index: &AliasIndex,
+    resolved: Resolution,
+) -> Result<Unit, AllocError>
+    requires resolved { resolution index.now resolved.main ≡ resolved }
+    ensures unit { IfOk result (IsUnit index.now resolved.main) }
+{
+    let Resolution { main, choice } = resolved;
+    let names = index.names_of(alloc, &main)?;
+    match choice {
+        Choice::Fragment(path) => loaded(alloc, index.store(), main, names, path),
+        Choice::NotFound => unloaded(alloc, main, names, Status::NotFound),
+        Choice::Masked => unloaded(alloc, main, names, Status::Masked),
+        Choice::Bad(cause) => unloaded(alloc, main, names, Status::Bad(cause)),
+        Choice::Alias(_) => unreachable!(),
+    }
+}
+
+// The unit of these names whose fragment is at this path.
+fn loaded(
+    alloc: Global,
+    store: &Store,
+    name: UnitName,
+    names: Vec<UnitName>,
+    fragment: Path,
+) -> Result<Unit, AllocError>
+    ensures name { IfOk result (λ unit. unit.name ≡ name) }
+    ensures names { IfOk result (λ unit. unit.names ≡ names.items) }
+    ensures status { IfOk result (λ unit. unit.status ≡ Status.Loaded fragment) }
+    ensures settings { IfOk result (HasSettings store.now fragment) }
+{
+    let dropins = order(alloc, store, &names)?;
+    let links = LinkNames::of(alloc, store, &names)?;
+    let text = UnitText::of(alloc, store, &fragment, &dropins)?;
+    let settled = Settled::of(alloc, &name, text, &links)?;
+    Ok(Unit {
+        name,
+        names: Items::from_vec(names),
+        status: Status::Loaded(fragment),
+        dropins: Items::from_vec(dropins),
+        values: settled.values,
+        deps: settled.deps,
+        notes: settled.notes,
+        manual: settled.manual,
+    })
+}
+
+// The unit of these names without a fragment.
+fn unloaded(
+    alloc: Global,
+    name: UnitName,
+    names: Vec<UnitName>,
+    status: Status,
+) -> Result<Unit, AllocError>
+    ensures name { IfOk result (λ unit. unit.name ≡ name) }
+    ensures names { IfOk result (λ unit. unit.names ≡ names.items) }
+    ensures status { IfOk result (λ unit. unit.status ≡ status) }
+    ensures nothing { IfOk result HasNothing }
+{
+    Ok(Unit {
+        name,
+        names: Items::from_vec(names),
+        status,
+        dropins: Items::new(alloc),
+        values: Items::new(alloc),
+        deps: lists_without_names(alloc)?,
+        notes: Items::new(alloc),
+        manual: false,
+    })
+}
+
+// A list without names for each kind that a unit file may set.
+fn lists_without_names(alloc: Global) -> Result<Items<DependencyList>, AllocError>
+    ensures lists { IfOk result (λ lists. lists ≡ no_names) }
+{
+    let mut lists = Items::new(alloc);
+    for kind in DepKind::settable() {
+        lists.push(DependencyList {
+            kind: *kind,
+            names: Items::new(alloc),
+        })?;
+    }
+    Ok(lists)
+}
