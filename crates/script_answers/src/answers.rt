@@ -130,11 +130,7 @@ fn append_version(
 }
 
 // Appends the line of an entry.
-fn append_entry(
-    out: &mut Vec<u8>,
-    scratch: &mut String,
-    placed: &Placed,
-) -> Result<(), AllocError>
+fn append_entry(out: &mut Vec<u8>, scratch: &mut String, placed: &Placed) -> Result<(), AllocError>
     ensures appended { OnOk result (out.new.items ≡ out.old.items ++ entry_line placed.now) }
 {
     let entry = placed.entry();
