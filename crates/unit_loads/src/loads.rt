@@ -16,7 +16,7 @@ use std::alloc::{AllocError, Global};
 use unit_name::UnitName;
 
 /// The unit of a main name in the store of an index; its dependencies are the names that its words and links give, not yet
-/// the mains of these (systemd.unit(5)).
+/// the mains of these (systemd.unit(5)). A template gives a unit too, as if it had no instance, but no load asks for one.
 ///
 /// Beside the look-ups for its names, its drop-ins and its links: linear in the bytes of its files and in what they expand
 /// to, and O(n log n) in the names of a kind. It fails for want of memory alone.
