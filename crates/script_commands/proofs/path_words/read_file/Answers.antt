@@ -1,7 +1,6 @@
-use Rattle.std.proofs.Common.{Vec, Global, ℕ, Option, refl, subst}
+use Rattle.std.proofs.Common.{Vec, Global, ℕ, Option, subst}
 use Rattle.std.specs.Prelude.{MatchOption}
 use Rattle.script_words.specs.Text.{Spells, IsBadText}
-use Rattle.script_commands.specs.Files.{IsNoFile}
 use Rattle.script_commands.proofs.Contents.{file_refused}
 use Rattle.script_commands.proofs.path_words.read_file.Goals as goal
 
