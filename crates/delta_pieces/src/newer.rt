@@ -70,7 +70,7 @@ fn version_at(versions: &[(Path, Version)], placed: &Placed) -> Option<Version>
     }
 }
 
-// Copies of the entries of one store that are newer than what another holds. One pass over the first, and one look in
+// Copies of the entries of one store that are newer than what another holds. One pass over the first, and a look in
 // the other for each of its entries.
 pub fn newer_than(alloc: Global, store: &Store, other: &Store) -> Result<Store, AllocError>
     ensures cut { IfOk result (λ newer. newer ≡ cut store.now (digest_of other.now) None) }

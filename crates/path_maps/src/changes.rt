@@ -13,7 +13,8 @@ pub struct Changes {
     pub added: usize,
 }
 
-/// What joining another store changes. One look at each of its entries, without memory.
+/// What joining another store changes. A look for each of its entries, without memory: a
+/// comparison or two where its path stands behind the one before, else a search.
 pub fn count_changes(store: &Store, other: &Store) -> Changes
     ensures changed { result.changed ≡ rises store.now (finmap.entries other.now) }
     ensures added { result.added ≡ additions store.now (finmap.entries other.now) }

@@ -226,8 +226,8 @@ impl Store {
         Ok(())
     }
 
-    /// Joins copies of what another store holds, and answers how many paths changed. One look at each of its entries;
-    /// where there is news, the join then costs what is news and a search for each, or one pass over both, whichever is
+    /// Joins copies of what another store holds, and answers how many paths changed. A look for each of its entries, which
+    /// is a search where this store doesn't hold its path; where there is news, the join then costs what is news and a search for each, or one pass over both, whichever is
     /// less. Copies of entries share their bytes.
     ///
     /// Where memory is refused, the store has part of what the join adds, and calling again with the same gives the rest.
@@ -258,8 +258,8 @@ impl Store {
         }
     }
 
-    /// Joins what another store holds, and answers how many paths changed. One look at each of its entries; where there
-    /// is news, the join then costs what is news and a search for each, or one pass over both, whichever is less.
+    /// Joins what another store holds, and answers how many paths changed. A look for each of its entries, which is a
+    /// search where this store doesn't hold its path; where there is news, the join then costs what is news and a search for each, or one pass over both, whichever is less.
     ///
     /// Where memory is refused, the store lies between what it was and the join, and joining the rest that comes back
     /// gives that join.
