@@ -1,10 +1,13 @@
 -- Copies of entries that are joined one by one.
-use Rattle.std.proofs.Common.{◌≡◌, ℕ, zero, suc, Bool, true, false, cond, List, [], ◌∷◌, take, drop, map, refl, sym, ap, ◌∙◌}
+use Rattle.std.proofs.Common.{◌≡◌, ℕ, zero, suc, Bool, true, false, cond, Option, Some, None, Bor, List, [], ◌∷◌, take, drop, map, refl, sym, ap, ◌∙◌}
+use Rattle.std.specs.Option.{option_copied, option_map}
 use Rattle.std.specs.Prelude.{filter}
 use Rattle.std.specs.FinMap as finmap
 use Rattle.load_path.specs.Paths.{PathParts}
 use Rattle.edit_sums.specs.Entries.{Entry}
 use Rattle.edit_sums.specs.Sums.{EntryMap, edit_of, sum_of, join, with_edit}
+use Rattle.world_law.specs.Cuts.{is_newer, digest_of}
+use Rattle.world_law.specs.CutLaws.{get-digest_of}
 use Rattle.edit_sums.specs.SumLaws.{sum_of-append, with_edit-join, join_assoc, join_comm, join-nothing}
 
 abbrev pub sum_at : List (PathParts × Entry) → EntryMap
@@ -45,3 +48,43 @@ module _ (s : EntryMap) (e : PathParts × Entry) (es xs : List (PathParts × Ent
     failed_first fails =
         ap (λ b. join s (sum_at (cond b (e ∷ filter p es) (filter p es)))) (sym fails)
         ∙ ap (λ l. join s (sum_at (filter p l))) (sym is) ∙ h
+
+-- ---- entries beside what another store holds
+
+abbrev pub Compared : Type 0
+Compared = (PathParts × Entry) × Option Entry
+
+abbrev pub is_news_beside : Compared → Bool
+is_news_beside b = is_newer b.0.1.version (option_map (λ (x : Entry). x.version) b.1)
+
+-- those that are newer
+abbrev pub news : List Compared → List (PathParts × Entry)
+news bs = map (λ b. b.0) (filter is_news_beside bs)
+
+news_all : (held : PathParts → Option Entry) (es : List (PathParts × Entry)) → news (map (λ p. (p, held p.0)) es) ≡ filter (λ p. is_newer p.1.version (option_map (λ (x : Entry). x.version) (held p.0))) es
+news_all held [] = refl
+news_all held (e ∷ es) =
+    elim (is_news_beside (e, held e.0)) as (λ b. map (λ (c : Compared). c.0) (cond b ((e, held e.0) ∷ filter is_news_beside (map (λ p. (p, held p.0)) es)) (filter is_news_beside (map (λ p. (p, held p.0)) es)))
+    ≡ cond b (e ∷ filter (λ (p : PathParts × Entry). is_newer p.1.version (option_map (λ (x : Entry). x.version) (held p.0))) es) (filter (λ (p : PathParts × Entry). is_newer p.1.version (option_map (λ (x : Entry). x.version) (held p.0))) es)) [
+      | true ↦ ap (λ (l : List (PathParts × Entry)). e ∷ l) (news_all held es)
+      | false ↦ news_all held es
+    ]
+
+-- they are those that are newer than the other's digest
+pub news_of_digest : (other : EntryMap) (es : List (PathParts × Entry)) → news (map (λ p. (p, finmap.get other p.0)) es) ≡ filter (λ p. is_newer p.1.version (finmap.get (digest_of other) p.0)) es
+news_of_digest other es = news_all (finmap.get other) es ∙ (λ i. filter (λ (p : PathParts × Entry). is_newer p.1.version (sym (get-digest_of other p.0) i)) es)
+
+pub held_version : (held : Option (Bor Entry)) → option_map (λ x. x.now.version) held ≡ option_map (λ (x : Entry). x.version) (option_copied held)
+held_version None = refl
+held_version (Some x) = refl
+
+module _ (s : EntryMap) (b : Compared) (bs xs : List Compared) (is : xs ≡ b ∷ bs) (t : EntryMap) (h : join s (sum_at (news xs)) ≡ t) where
+  pub passed_beside : is_news_beside b ≡ true → join (with_edit s (edit_of b.0)) (sum_at (news bs)) ≡ t
+  passed_beside passes =
+      joined_first s b.0 (news bs) ∙ ap (λ c. join s (sum_at (map (λ (x : Compared). x.0) (cond c (b ∷ filter is_news_beside bs) (filter is_news_beside bs))))) (sym passes)
+      ∙ ap (λ l. join s (sum_at (news l))) (sym is) ∙ h
+
+  pub failed_beside : is_news_beside b ≡ false → join s (sum_at (news bs)) ≡ t
+  failed_beside fails =
+      ap (λ c. join s (sum_at (map (λ (x : Compared). x.0) (cond c (b ∷ filter is_news_beside bs) (filter is_news_beside bs))))) (sym fails)
+      ∙ ap (λ l. join s (sum_at (news l))) (sym is) ∙ h

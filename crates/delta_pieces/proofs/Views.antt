@@ -68,14 +68,6 @@ newer_is_cut s d es vs held asked =
     ∙ (λ i. sum_of (map edit_of (filter (λ (p : PathParts × Entry). is_newer p.1.version (sym (finmap.get-entries d p.0) i)) (finmap.entries s))))
     ∙ news_is_cut s d
 
--- the version that is held, in place of the digest's
-pub version_held : (s : EntryMap) (q : PathParts) (held : Option (Bor Entry)) → option_copied held ≡ finmap.get s q → option_map (λ x. x.now.version) held ≡ finmap.get (digest_of s) q
-version_held s q held is = by held ∙ ap (option_map (λ (x : Entry). x.version)) is ∙ sym (get-digest_of s q)
-  where
-    by : (held : Option (Bor Entry)) → option_map (λ x. x.now.version) held ≡ option_map (λ (x : Entry). x.version) (option_copied held)
-    by None = refl
-    by (Some x) = refl
-
 -- no more are left than there were
 pub all_left : (n : ℕ) (es : List (PathParts × Entry)) (m : ℕ) → m ≡ length es → length (drop n es) ≤ m
 all_left n es m all = let left = length-drop n es in omega (arith, left, all)

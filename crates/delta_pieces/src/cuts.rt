@@ -28,8 +28,8 @@ pub fn delta_for(alloc: Global, replica: &Replica, asked: &Digest) -> Result<Pie
 /// The same for another replica's own digest, which isn't made: copies of what the first holds that is news to the
 /// second.
 ///
-/// One pass over the first, and for each of its entries a look in the second: a comparison or two where the path stands
-/// there behind the one before, else a search. It fails for want of memory alone.
+/// Both are read side by side: an entry costs a comparison or two, and a search where the second holds many paths before
+/// it. It fails for want of memory alone.
 pub fn delta_between(alloc: Global, from: &Replica, to: &Replica) -> Result<Piece, AllocError>
     ensures cut { IfOk result (λ piece. piece ≡ cut from.now.store (digest_of to.now.store) None) }
     ensures whole { IfOk result (λ piece. IsHonest (edits_of to.now.store ++ edits_of from.now.store) →

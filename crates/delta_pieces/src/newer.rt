@@ -13,7 +13,7 @@ use crate::digests::Digest;
 use edit_sums::{Edit, Entry};
 use join_law::Version;
 use load_path::Path;
-use replica_store::{Entries, Finger, Placed, Store};
+use replica_store::{Entries, Placed, Store};
 use std::alloc::{AllocError, Global};
 
 // Copies of the entries that are newer. One pass over entries and versions together.
@@ -70,16 +70,13 @@ fn version_at(versions: &[(Path, Version)], placed: &Placed) -> Option<Version>
     }
 }
 
-// Copies of the entries of one store that are newer than what another holds. One pass over the first, and a look in
-// the other for each of its entries.
+// Copies of the entries of one store that are newer than what another holds. Both are read side by side.
 pub fn newer_than(alloc: Global, store: &Store, other: &Store) -> Result<Store, AllocError>
     ensures cut { IfOk result (λ newer. newer ≡ cut store.now (digest_of other.now) None) }
 {
     let mut newer = Store::new(alloc);
-    let mut finger = Finger::new();
-    let mut entries = store.entries();
-    while let Some(placed) = entries.next_entry() {
-        let held = other.held_for(&placed, &mut finger);
+    let mut both = store.entries_beside(other);
+    while let Some((placed, held)) = both.next_entry() {
         if is_news(placed.entry(), held) {
             join_copy(&mut newer, &placed)?;
         }

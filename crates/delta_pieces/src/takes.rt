@@ -13,7 +13,7 @@ pub struct TakeFault {
     pub rest: Piece,
 }
 
-/// Joins what a piece carries, and answers how many paths changed. A search for each of its entries;
+/// Joins what a piece carries, and answers how many paths changed. Both are read side by side;
 /// then it costs what is news and a search for each, or one pass over both, whichever is less.
 ///
 /// Where memory is refused, the replica's store lies between what it was and the join, and taking

@@ -13,7 +13,8 @@ use Rattle.dropins.specs.declared.precedence.Take.{Take}
 use Rattle.dropins.specs.declared.precedence.Take.TheVariants.{Nothing, Placed}
 use Rattle.dropins.specs.Taken.{Candidate, as_found, candidate_at, IsTaken}
 use Rattle.dropins.specs.Taken.Candidate.{Mask, At}
-use Rattle.dropins.specs.Walks.{lent, path, ranks, take_at, take_of, taken, taken_in, took, took_in}
+use Rattle.load_levels.specs.Levels.{levels}
+use Rattle.dropins.specs.Walks.{lent, path, take_at, take_of, taken, taken_in, took, took_in}
 use Rattle.dropins.specs.WalkLaws.{found_iff_taken, found_name, path_or, found_path}
 
 -- what a taken entry is by its path
@@ -47,7 +48,7 @@ module _ (s : EntryMap) (x : Search) (ds : List (List ℕ)) where
   seen_in f r = first_map seen (λ d. take_at s x (path r d f)) ds ∙ first_same (λ d. option_map seen (take_at s x (path r d f))) (λ d. candidate_at s x (path r d f)) (λ d. seen_at s x (path r d f)) ds
 
   seen_took : (f : List ℕ) → option_map seen (took s x ds f) ≡ taken s x ds f
-  seen_took f = first_map seen (took_in s x ds f) ranks ∙ first_same (λ r. option_map seen (took_in s x ds f r)) (taken_in s x ds f) (seen_in f) ranks
+  seen_took f = first_map seen (took_in s x ds f) levels ∙ first_same (λ r. option_map seen (took_in s x ds f r)) (taken_in s x ds f) (seen_in f) levels
 
   -- an entry that is lent is the store's
   held_at : (q : PathParts) (p : PathParts × Entry) → take_at s x q ≡ Some (Placed p) → finmap.get s p.0 ≡ Some p.1
@@ -64,9 +65,9 @@ module _ (s : EntryMap) (x : Search) (ds : List (List ℕ)) where
 
   held : (f : List ℕ) (p : PathParts × Entry) → took s x ds f ≡ Some (Placed p) → finmap.get s p.0 ≡ Some p.1
   held f p h =
-      let rank = first_is (took_in s x ds f) ranks 0 (Placed p) h in
-      let folder = first_is (λ d. take_at s x (path (get_or ranks rank.place 0) d f)) ds [] (Placed p) rank.says in
-      held_at (path (get_or ranks rank.place 0) (get_or ds folder.place []) f) p folder.says
+      let rank = first_is (took_in s x ds f) levels 0 (Placed p) h in
+      let folder = first_is (λ d. take_at s x (path (get_or levels rank.place 0) d f)) ds [] (Placed p) rank.says in
+      held_at (path (get_or levels rank.place 0) (get_or ds folder.place []) f) p folder.says
 
   pub took_name : (f : List ℕ) (p : PathParts × Entry) → took s x ds f ≡ Some (Placed p) → p.0.name ≡ f
   took_name f p h = found_name s x ds f p.0 (sym (seen_took f) ∙ ap (option_map seen) h)

@@ -4,6 +4,7 @@ use Rattle.std.specs.Prelude.{◌⊎◌, slice_get}
 use Rattle.std.specs.Option.{option_and_then}
 use Rattle.list_laws.specs.Agreements.{agree_everywhere}
 use Rattle.load_path.specs.Paths.{PathParts, path_cmp}
+use Rattle.load_levels.specs.Levels.{IsLevel, level_of}
 use Rattle.load_path.specs.PathLaws.{path_cmp_total, path_cmp-IsAntisymmetric}
 use Rattle.edit_sums.specs.Sums.{EntryMap, visible_at}
 use Rattle.dropins.specs.Taken.Candidate.{Mask, At}
@@ -12,9 +13,9 @@ use Rattle.dropins.specs.Taken.{Candidate, as_found, Stands, IsTaken, TakenFor}
 use Rattle.dropins.specs.Walks.{taken}
 use Rattle.dropins.specs.WalkLaws as walk
 
--- a directory's rank goes before the closeness of a folder: what is taken has at most the rank of anything that stands for its file name, in whichever folder
+-- a level goes before the closeness of a folder: what is taken has at most the level of anything that stands for its file name, in whichever folder
 abbrev pub RanksGoFirst : Type 0
-RanksGoFirst = (s : EntryMap) (x : Search) (ds : List (List ℕ)) (c d : Candidate) (p q : PathParts) (i : ℕ) → IsTaken s x ds c p → Stands s x ds d q i → q.name ≡ p.name → p.rank ≤ q.rank
+RanksGoFirst = (s : EntryMap) (x : Search) (ds : List (List ℕ)) (c d : Candidate) (p q : PathParts) (i : ℕ) → IsTaken s x ds c p → Stands s x ds d q i → q.name ≡ p.name → level_of p ≤ level_of q
 
 -- where anything stands for a file name, something is taken for it
 abbrev pub SomethingIsTaken : Type 0
@@ -30,7 +31,7 @@ MasksHide = (s : EntryMap) (x : Search) (ds : List (List ℕ)) (p q : PathParts)
 
 -- what is taken depends on what is visible in the folders alone
 abbrev pub FoldersDecide : Type 0
-FoldersDecide = (s t : EntryMap) (x : Search) (ds : List (List ℕ)) → ((p : PathParts) (i : ℕ) → p.rank < 4 → slice_get ds i ≡ Some p.folder → visible_at s p ≡ visible_at t p)
+FoldersDecide = (s t : EntryMap) (x : Search) (ds : List (List ℕ)) → ((p : PathParts) (i : ℕ) → IsLevel (level_of p) → slice_get ds i ≡ Some p.folder → visible_at s p ≡ visible_at t p)
     → (c : Candidate) (p : PathParts) → IsTaken s x ds c p → IsTaken t x ds c p
 
 -- once something is removed, a mask too, that is taken which is taken where it never was
@@ -62,14 +63,14 @@ pub folders_decide : FoldersDecide
 folders_decide s t x ds same c p a = record {
   place = a.place;
   stands = record {
-    rank_within = a.stands.rank_within;
+    level_within = a.stands.level_within;
     folder_is = a.stands.folder_is;
-    says = ap (option_and_then (as_found x p)) (sym (same p a.place a.stands.rank_within a.stands.folder_is)) ∙ a.stands.says;
+    says = ap (option_and_then (as_found x p)) (sym (same p a.place a.stands.level_within a.stands.folder_is)) ∙ a.stands.says;
   };
   least = λ d q i st n. a.least d q i (record {
-    rank_within = st.rank_within;
+    level_within = st.level_within;
     folder_is = st.folder_is;
-    says = ap (option_and_then (as_found x q)) (same q i st.rank_within st.folder_is) ∙ st.says;
+    says = ap (option_and_then (as_found x q)) (same q i st.level_within st.folder_is) ∙ st.says;
   }) n;
 }
 

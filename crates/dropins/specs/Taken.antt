@@ -6,6 +6,7 @@ use Rattle.std.specs.FinMap as finmap
 use Rattle.std.specs.List.{Contains}
 use Rattle.std.specs.Str.{bytes_eq}
 use Rattle.load_path.specs.Paths.{PathParts}
+use Rattle.load_levels.specs.Levels.{IsLevel, level_of}
 use Rattle.edit_sums.specs.Entries.{Entry}
 use Rattle.edit_sums.specs.Sums.{EntryMap, visible_at}
 use Rattle.edit_sums.specs.declared.contents.Content.{Content}
@@ -58,15 +59,15 @@ candidate_at s x p = option_and_then (as_found x p) (visible_at s p)
 
 -- this candidate stands at the path: the path is in the folder of this place of the list, in a directory of the load path
 pub record Stands (s : EntryMap) (x : Search) (ds : List (List ℕ)) (c : Candidate) (p : PathParts) (place : ℕ) : Type 0 where
-  pub rank_within : p.rank < 4
+  pub level_within : IsLevel (level_of p)
   pub folder_is : slice_get ds place ≡ Some p.folder
   pub says : candidate_at s x p ≡ Some c
 
--- the candidate at the path is taken for the path's file name: of all that stand for it, it has the least rank, and in that rank the first folder of the list
+-- the candidate at the path is taken for the path's file name: of all that stand for it, it has the least level, and in that level the first folder of the list
 pub record IsTaken (s : EntryMap) (x : Search) (ds : List (List ℕ)) (c : Candidate) (p : PathParts) : Type 0 where
   pub place : ℕ
   pub stands : Stands s x ds c p place
-  pub least : (d : Candidate) (q : PathParts) (i : ℕ) → Stands s x ds d q i → q.name ≡ p.name → (p.rank < q.rank) ⊎ ((p.rank ≡ q.rank) × (place ≤ i))
+  pub least : (d : Candidate) (q : PathParts) (i : ℕ) → Stands s x ds d q i → q.name ≡ p.name → (level_of p < level_of q) ⊎ ((level_of p ≡ level_of q) × (place ≤ i))
 
 -- what is taken for a file name
 pub record TakenFor (s : EntryMap) (x : Search) (ds : List (List ℕ)) (f : List ℕ) (c : Candidate) : Type 0 where

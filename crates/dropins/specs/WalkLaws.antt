@@ -1,5 +1,5 @@
 -- Laws of the walk: what it finds first for a file name is what is taken for it, and nothing else is.
-use Rattle.std.proofs.Common.{◌≡◌, ℕ, zero, suc, ◌<◌, ◌≤◌, Bool, true, false, cond, Option, Some, None, List, [], ◌∷◌, length, get_or, refl, ap, sym, ◌∙◌, subst, inl, inr, arith}
+use Rattle.std.proofs.Common.{◌≡◌, ℕ, ◌<◌, ◌≤◌, Bool, true, false, cond, Option, Some, None, List, [], ◌∷◌, length, get_or, refl, ap, sym, ◌∙◌, subst, inl, inr, arith}
 use Rattle.std.specs.Prelude.{◌↔◌, ◌⊎◌, slice_get}
 use Rattle.std.specs.Option.{option_and_then}
 use Rattle.std.proofs.lemmas.Bool.{cases_lt}
@@ -12,16 +12,10 @@ use Rattle.dropins.specs.Taken.Candidate.{Mask, At}
 use Rattle.dropins.specs.declared.precedence.Search.{Search}
 use Rattle.dropins.specs.declared.precedence.Search.TheVariants.{DropIns, Links}
 use Rattle.dropins.specs.Taken.{Candidate, is_conf, is_null, content_as_drop_in, as_found, candidate_at, Stands, IsTaken, TakenFor}
-use Rattle.dropins.specs.Walks.{path, taken_in, ranks, taken}
+use Rattle.load_levels.specs.Levels.{levels}
+use Rattle.load_levels.specs.LevelLaws.{level_is}
+use Rattle.dropins.specs.Walks.{path, taken_in, taken}
 use Rattle.list_laws.specs.FirstSaid.{IsFirst, first_is, none_says}
-
--- each rank stands at its own place
-pub rank_is : (r d : ℕ) → r < 4 → get_or ranks r d ≡ r
-rank_is zero d h = refl
-rank_is (suc zero) d h = refl
-rank_is (suc (suc zero)) d h = refl
-rank_is (suc (suc (suc zero))) d h = refl
-rank_is (suc (suc (suc (suc r)))) d h = absurd (omega arith)
 
 -- ---- a candidate that is a path stands at that path
 
@@ -74,19 +68,19 @@ module _ (s : EntryMap) (x : Search) (ds : List (List ℕ)) where
   pub none_stands : (f : List ℕ) → taken s x ds f ≡ None → (c : Candidate) (p : PathParts) (i : ℕ) → Stands s x ds c p i → p.name ≡ f → ⊥
   none_stands f h c p i st e =
       let folder = get_or_from_slice_get ds i p.folder [] st.folder_is in
-      let none = none_says (λ d. candidate_at s x (path p.rank d f)) ds [] (ap (taken_in s x ds f) (sym (rank_is p.rank 0 st.rank_within)) ∙ none_says (taken_in s x ds f) ranks 0 h p.rank st.rank_within) i (slice_get_within ds i p.folder st.folder_is) in
+      let none = none_says (λ d. candidate_at s x (path p.rank d f)) ds [] (ap (taken_in s x ds f) (sym (level_is p.rank 0 st.level_within)) ∙ none_says (taken_in s x ds f) levels 0 h p.rank st.level_within) i (slice_get_within ds i p.folder st.folder_is) in
       none-some _ (sym none ∙ ap (candidate_at s x) (sym (parts p p.rank (get_or ds i []) f refl (sym folder) e)) ∙ st.says)
 
 -- what is found first is taken
 module _ (s : EntryMap) (x : Search) (ds : List (List ℕ)) (f : List ℕ) (c : Candidate) (h : taken s x ds f ≡ Some c) where
-  first_rank : IsFirst (taken_in s x ds f) ranks 0 c
-  first_rank = first_is (taken_in s x ds f) ranks 0 c h
+  first_rank : IsFirst (taken_in s x ds f) levels 0 c
+  first_rank = first_is (taken_in s x ds f) levels 0 c h
 
   first_folder : IsFirst (λ d. candidate_at s x (path first_rank.place d f)) ds [] c
-  first_folder = first_is (λ d. candidate_at s x (path first_rank.place d f)) ds [] c (ap (taken_in s x ds f) (sym (rank_is first_rank.place 0 first_rank.within)) ∙ first_rank.says)
+  first_folder = first_is (λ d. candidate_at s x (path first_rank.place d f)) ds [] c (ap (taken_in s x ds f) (sym (level_is first_rank.place 0 first_rank.within)) ∙ first_rank.says)
 
   lesser_rank : (r i : ℕ) → r < first_rank.place → i < length ds → candidate_at s x (path r (get_or ds i []) f) ≡ None
-  lesser_rank r i l w = none_says (λ d. candidate_at s x (path r d f)) ds [] (ap (taken_in s x ds f) (sym (rank_is r 0 (omega (arith, first_rank.within, l)))) ∙ first_rank.before r l) i w
+  lesser_rank r i l w = none_says (λ d. candidate_at s x (path r d f)) ds [] (ap (taken_in s x ds f) (sym (level_is r 0 (omega (arith, first_rank.within, l)))) ∙ first_rank.before r l) i w
 
   module _ (d : Candidate) (q : PathParts) (i : ℕ) (st : Stands s x ds d q i) (n : q.name ≡ f) where
     clash : {C : Type 0} (r : ℕ) → q.rank ≡ r → candidate_at s x (path r (get_or ds i []) f) ≡ None → C
@@ -107,7 +101,7 @@ module _ (s : EntryMap) (x : Search) (ds : List (List ℕ)) (f : List ℕ) (c : 
     name_is = refl;
     taken = record {
       place = first_folder.place;
-      stands = record { rank_within = first_rank.within; folder_is = slice_get-get_or ds first_folder.place [] first_folder.within; says = first_folder.says };
+      stands = record { level_within = first_rank.within; folder_is = slice_get-get_or ds first_folder.place [] first_folder.within; says = first_folder.says };
       least = λ d q i st n. ranked d q i st n (cases_lt q.rank first_rank.place) (cases_lt first_rank.place q.rank);
     };
   }

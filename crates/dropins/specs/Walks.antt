@@ -1,4 +1,4 @@
--- What is taken for a file name, found by walking through ranks and folders: words for private clauses.
+-- What is taken for a file name, found by walking through levels and folders: words for private clauses.
 -- Source: this project's own.
 use Rattle.std.specs.Prelude.{ℕ, Option, None, if◌then◌else◌, List, [], ◌∷◌, ◌++◌}
 use Rattle.std.specs.Option.{option_and_then, option_map}
@@ -7,6 +7,7 @@ use Rattle.std.specs.Str.{bytes_eq}
 use Rattle.edit_sums.specs.Entries.{Entry}
 use Rattle.list_laws.specs.FirstSaid.{first_said}
 use Rattle.load_path.specs.Paths.{PathParts}
+use Rattle.load_levels.specs.Levels.{first_level}
 use Rattle.edit_sums.specs.Sums.{EntryMap, shown}
 use Rattle.dropins.specs.declared.precedence.Take.{Take}
 use Rattle.dropins.specs.declared.precedence.Take.TheVariants.{Nothing, Placed}
@@ -16,10 +17,6 @@ use Rattle.dropins.specs.Taken.Candidate.{Mask, At}
 
 abbrev pub path : ℕ → List ℕ → List ℕ → PathParts
 path r d f = record { rank = r; folder = d; name = f }
-
--- the ranks of the directories
-abbrev pub ranks : List ℕ
-ranks = 0 ∷ 1 ∷ 2 ∷ 3 ∷ []
 
 -- an entry that gives its path, or a mask
 abbrev pub lent : PathParts × Entry → Candidate → Take
@@ -44,7 +41,7 @@ took_in s x ds f r = first_said (λ d. take_at s x (path r d f)) ds
 
 -- what is taken for a file name
 abbrev pub took : EntryMap → Search → List (List ℕ) → List ℕ → Option Take
-took s x ds f = first_said (took_in s x ds f) ranks
+took s x ds f = first_level (took_in s x ds f)
 
 -- the candidate of a file name in a directory's first folder that has one
 abbrev pub taken_in : EntryMap → Search → List (List ℕ) → List ℕ → ℕ → Option Candidate
@@ -52,7 +49,7 @@ taken_in s x ds f r = first_said (λ d. candidate_at s x (path r d f)) ds
 
 -- the candidate that is found first for a file name
 abbrev pub taken : EntryMap → Search → List (List ℕ) → List ℕ → Option Candidate
-taken s x ds f = first_said (taken_in s x ds f) ranks
+taken s x ds f = first_level (taken_in s x ds f)
 
 abbrev pub given : Take → List (PathParts × Entry)
 given Nothing = []

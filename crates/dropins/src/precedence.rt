@@ -14,13 +14,11 @@ ghost use Rattle.dropins.specs.declared.precedence.Search.TheVariants.{DropIns, 
 ghost use Rattle.dropins.specs.Walks.{path, said_for, take_at, take_of, took, took_in, unmasked};
 
 use byte_strings::Bytes;
+use load_levels::LEVELS;
 use replica_store::{Content, LinkTarget, Path, Placed, Store};
 use std::alloc::{AllocError, Global};
 use std::collections::BTreeMap;
 use unit_name::UnitName;
-
-/// The number of the load path's directories.
-const RANKS: u8 = 4;
 
 /// What is looked for in folders.
 #[derive(Clone, Copy, Debug, PartialEq, Eq)]
@@ -72,7 +70,7 @@ pub fn paths_of(alloc: Global, entries: &[Placed]) -> Result<Vec<Path>, AllocErr
     Ok(paths)
 }
 
-// For each file name what is taken at the least rank, and there in the first of the folders.
+// For each file name what is taken at the least level, and there in the first of the folders.
 //
 // A search in the store for each folder in each rank, then for each path that stands there one in
 // what is taken: O((r + p) log n) with p paths in r such folders.
@@ -86,8 +84,8 @@ fn taken<'a>(
         dirs.now f) }
 {
     let mut takes = BTreeMap::new(alloc);
-    for rank in 0..RANKS {
-        take_rank(store, &mut takes, search, rank, dirs)?;
+    for level in 0..LEVELS {
+        take_rank(store, &mut takes, search, level, dirs)?;
     }
     Ok(takes)
 }

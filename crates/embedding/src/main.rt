@@ -6,6 +6,7 @@ use replica_store::{Content, ContentFault, EditFault, Path, PathFault, Replica};
 use script_pipes::Watched;
 use std::alloc::{AllocError, Global};
 use std::io;
+use std::thread::Threads;
 use thiserror::Error;
 
 /// What may go wrong here.
@@ -26,7 +27,10 @@ enum Fault {
 }
 
 // What a script is answered by.
-fn answers_to(rt: &impl AllocGlobal, script: &[u8]) -> Result<Vec<u8>, ShellFault> {
+fn answers_to(
+    rt: &(impl AllocGlobal + Threads + Sync),
+    script: &[u8],
+) -> Result<Vec<u8>, ShellFault> {
     let mut source = Watched::new(script);
     let mut sink = Watched::new(Vec::new(rt.alloc()));
     run(rt, &mut source, &mut sink)?;

@@ -16,9 +16,9 @@ use Rattle.world_law.specs.declared.events.Event.TheVariants as event
 use Rattle.world_law.specs.Cuts.{cut, digest_of}
 use Rattle.script_words.specs.TextLaws.{spells_one}
 use Rattle.script_commands.specs.declared.commands.Command.{Command}
-use Rattle.script_commands.specs.declared.commands.Command.TheVariants.{Node, Put, Link, Remove, Merge, Part, Send, Sweep, Files, Cat, Same}
+use Rattle.script_commands.specs.declared.commands.Command.TheVariants.{Node, Put, Link, Remove, Merge, Part, Send, Sweep, Files, Cat, Show, List as ListUnits, Workers, Same}
 use Rattle.script_commands.specs.declared.commands.Refusal.{Refusal}
-use Rattle.script_commands.specs.declared.commands.Refusal.TheVariants.{BadLink, BadText, Component, Depth, Directory, FileTooLarge, NodeTaken, Nothing, UnknownNode, UnknownPiece, VersionsSpent, WriterTaken}
+use Rattle.script_commands.specs.declared.commands.Refusal.TheVariants.{BadLink, BadText, Component, Depth, Directory, FileTooLarge, NodeTaken, Nothing, UnknownNode, UnknownPiece, VersionsSpent, Workers as NoCrew, WriterTaken}
 use Rattle.script_commands.specs.Outcomes.{Outcome, is_spent}
 use Rattle.script_commands.specs.Paths.{paths_of}
 use Rattle.script_answers.specs.Texts.{changed_line, entries_line, ok_line}
@@ -30,6 +30,11 @@ use Rattle.script_worlds.specs.NodeLaws.{named_within}
 use Rattle.script_worlds.specs.LawfulLaws.{lawful_answered, lawful_given, lawful_merged, lawful_put, lawful_with_node, puts_with_node}
 use Rattle.unit_answers.specs.Units.{TellsFiles}
 use Rattle.unit_answers.specs.UnitLaws.{files_are_told_once, files_spend_nothing}
+use Rattle.load_answers.specs.Lists.{TellsList}
+use Rattle.load_answers.specs.ListLaws.{lists_are_told_once, lists_spend_nothing}
+use Rattle.load_answers.specs.Loads.{IsCrew}
+use Rattle.load_answers.specs.Shows.{TellsUnit}
+use Rattle.load_answers.specs.ShowLaws.{units_are_told_once, units_spend_nothing}
 use Rattle.fleet_script.specs.Does.{AtNode, AtPath, AtPaths, AtPiece, Does, Gives, IsRead, Reads, Refuses, RefusesPath, TellsPaths, WithFile, WithTarget, WithText, Writes, if_any}
 use Rattle.fleet_script.proofs.Between.{merged_all-append, merged_nodes}
 
@@ -203,6 +208,27 @@ module _ (old : ScriptWorld) where
       unspent free outcome new (inl p) = ap is_spent p.1.outcome_is
       unspent free outcome new (inr p) = ap is_spent p.1.outcome_is
 
+  -- a word is given where a fact holds, and a refusal where it doesn't
+  gives_or_refuses : (P : Type 0) (words : List ℕ) (refusal : Refusal) → is_spent (Err refusal) ≡ false → IsStep old (λ outcome new. (P × Gives words old outcome new) ⊎ ((P → ⊥) × Refuses old refusal outcome new))
+  gives_or_refuses P words refusal other = record { one = one; follows = follows; unspent = unspent }
+    where
+      C : Outcome → ScriptWorld → Type 0
+      C outcome new = (P × Gives words old outcome new) ⊎ ((P → ⊥) × Refuses old refusal outcome new)
+
+      one : (a b : Outcome) (x y : ScriptWorld) → C a x → C b y → (a ≡ b) × (x ≡ y)
+      one a b x y (inl p) (inl q) = (gives words old (stays old refl)).one a b x y p.1 q.1
+      one a b x y (inl p) (inr q) = absurd (q.0 p.0)
+      one a b x y (inr p) (inl q) = absurd (p.0 q.0)
+      one a b x y (inr p) (inr q) = refused_once refusal a b x y p.1 q.1
+
+      follows : (outcome : Outcome) (new : ScriptWorld) → C outcome new → Follows old new
+      follows outcome new (inl p) = stays new p.1.world_is
+      follows outcome new (inr p) = stays new p.1.world_is
+
+      unspent : HasCounters old → (outcome : Outcome) (new : ScriptWorld) → C outcome new → is_spent outcome ≡ false
+      unspent free outcome new (inl p) = ap is_spent p.1.outcome_is
+      unspent free outcome new (inr p) = ap is_spent p.1.outcome_is ∙ other
+
   -- ---- one recursion over the commands
 
   pub does : (command : Command) → IsStep old (λ outcome new. Does old command outcome new)
@@ -254,6 +280,9 @@ module _ (old : ScriptWorld) where
       gives (codes "ok\n") (swept old) (puts_nothing (swept old) (lawful_swept old) (puts_merged_all old (map (λ k. (k, 0)) others ++ map (λ k. (0, k)) others)))
   does (Files node) = reads node TellsPaths (λ s a b p q. p ∙ sym q) (λ s outcome p. ap is_spent p)
   does (Cat node unit) = reads node (TellsFiles unit) (files_are_told_once unit) (files_spend_nothing unit)
+  does (Show node unit) = reads node (TellsUnit unit) (units_are_told_once unit) (units_spend_nothing unit)
+  does (ListUnits node unit) = reads node (TellsList unit) (lists_are_told_once unit) (lists_spend_nothing unit)
+  does (Workers count) = gives_or_refuses (IsCrew count) (codes "ok\n") NoCrew refl
   does (Same left right) =
       let C : ℕ → ℕ → Outcome → ScriptWorld → Type 0 = λ j k outcome new. ((held old j ≡ held old k) × Gives (codes "same\n") old outcome new) ⊎ ((held old j ≡ held old k → ⊥) × Gives (codes "differ\n") old outcome new) in
       at_node left (λ j outcome new. AtNode old outcome new right (λ k. C j k outcome new))

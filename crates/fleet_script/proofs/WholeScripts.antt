@@ -15,7 +15,8 @@ use Rattle.script_commands.specs.declared.commands.Command.{Command}
 use Rattle.script_commands.specs.declared.commands.Refusal.{Refusal}
 use Rattle.script_commands.specs.declared.commands.Refusal.TheVariants.{Arguments, LineTooLong, UnknownCommand, VersionsSpent}
 use Rattle.script_commands.specs.Commands.{command_of}
-use Rattle.script_commands.specs.WrittenLaws.{BeginsWithVerb, others_are_refused}
+use Rattle.script_commands.specs.WrittenLaws.{BeginsWithVerb}
+use Rattle.script_commands.specs.ReadLaws.{others_are_refused}
 use Rattle.script_commands.specs.Outcomes.{Outcome, is_spent}
 use Rattle.script_answers.specs.Texts.{error_line, outcome_text}
 use Rattle.script_worlds.specs.Counts.{IsPutUpTo}

@@ -16,10 +16,13 @@ use Rattle.script_commands.specs.declared.commands.Command.{Command}
 use Rattle.script_commands.specs.declared.commands.Command.TheVariants as command
 use Rattle.script_commands.specs.declared.commands.Refusal.{Refusal}
 use Rattle.script_commands.specs.Paths.{paths_of}
-use Rattle.script_commands.specs.declared.commands.Refusal.TheVariants.{UnknownNode, BadText, UnknownPiece, NodeTaken, WriterTaken, Directory, Depth, Component, FileTooLarge, BadLink, VersionsSpent, Nothing}
+use Rattle.script_commands.specs.declared.commands.Refusal.TheVariants.{UnknownNode, BadText, UnknownPiece, NodeTaken, WriterTaken, Directory, Depth, Component, FileTooLarge, BadLink, VersionsSpent, Nothing, Workers}
 use Rattle.script_commands.specs.Outcomes.{Outcome}
 use Rattle.script_answers.specs.Texts.{ok_line, changed_line, entries_line, files_text}
 use Rattle.unit_answers.specs.Units.{TellsFiles}
+use Rattle.load_answers.specs.Lists.{TellsList}
+use Rattle.load_answers.specs.Loads.{IsCrew}
+use Rattle.load_answers.specs.Shows.{TellsUnit}
 use Rattle.script_worlds.specs.Worlds.{ScriptWorld, held, happened, with_node, node_named, has_writer, next_edit, parted, piece_named, merged, swept}
 
 -- the answer is these words, and the new world is that one
@@ -146,6 +149,10 @@ module _ (old : ScriptWorld) (outcome : Outcome) (new : ScriptWorld) where
   Compares left right = AtNode left (λ j. AtNode right (λ k.
       ((held old j ≡ held old k) × Gives (codes "same\n") old outcome new) ⊎ ((held old j ≢ held old k) × Gives (codes "differ\n") old outcome new)))
 
+  -- so many workers load from now on; their number changes no answer
+  abbrev pub Crews : ℕ → Type 0
+  Crews count = (IsCrew count × Gives (codes "ok\n") old outcome new) ⊎ (¬ IsCrew count × Refuses old Workers outcome new)
+
 -- From the old world a command may have this outcome, and leave the new world.
 abbrev pub Does : ScriptWorld → Command → Outcome → ScriptWorld → Type 0
 Does old (command.Node name writer) outcome new = Names old outcome new name writer
@@ -158,4 +165,7 @@ Does old (command.Send piece node) outcome new = Sends old outcome new piece nod
 Does old command.Sweep outcome new = Sweeps old outcome new
 Does old (command.Files node) outcome new = Reads old outcome new node TellsPaths
 Does old (command.Cat node unit) outcome new = Reads old outcome new node (TellsFiles unit)
+Does old (command.Show node unit) outcome new = Reads old outcome new node (TellsUnit unit)
+Does old (command.List node unit) outcome new = Reads old outcome new node (TellsList unit)
+Does old (command.Workers count) outcome new = Crews old outcome new count
 Does old (command.Same left right) outcome new = Compares old outcome new left right

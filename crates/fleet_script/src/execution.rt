@@ -1,6 +1,6 @@
 //! Commands are done here.
 ghost use Rattle.std.specs.Prelude.{◌≡◌, ◌<◌, Some, length, vec_len, IfOk, MatchResult};
-ghost use Rattle.script_commands.specs.declared.commands.Command.TheVariants.{Node, Put, Link, Remove, Files, Cat, Same};
+ghost use Rattle.script_commands.specs.declared.commands.Command.TheVariants.{Node, Put, Link, Remove, Files, Cat, Show, List, Workers, Same};
 ghost use Rattle.script_commands.specs.Commands.{command_of};
 ghost use Rattle.fleet_script.specs.Does.{Does, Refuses, Writes};
 ghost use Rattle.fleet_script.specs.Holds.{Continues, Executes, Goes, HasNoNode, IsBlank, kept_in};
@@ -9,6 +9,7 @@ ghost use Rattle.fleet_script.specs.Scripts.{AnswersLine};
 use crate::states::Shell;
 use byte_strings::Bytes;
 use edit_sums::Content;
+use load_answers::{Crew, tell_list, tell_unit};
 use load_path::Path;
 use replica_store::Replica;
 use script_answers::{list_files, put_done, refused};
@@ -16,6 +17,7 @@ use script_commands::{Command, Fault, Refusal, parse, read_file, read_link, read
 use script_words::is_passed_over;
 use std::alloc::{AllocError, Global};
 use std::collections::{BTreeMap, BTreeSet};
+use std::thread::Threads;
 use unit_answers::tell_files;
 
 /// The most bytes of a line of a script, its line end not counted.
@@ -31,6 +33,7 @@ impl Shell {
             numbers: BTreeMap::new(alloc),
             writers: BTreeSet::new(alloc),
             pieces: BTreeMap::new(alloc),
+            workers: Crew::one(),
         }
     }
 
@@ -121,6 +124,45 @@ impl Shell {
         tell_files(alloc, self.nodes[at].store(), unit)
     }
 
+    // Tells a unit, as all that must be loaded of a node comes to it.
+    fn show<R: Threads + Sync>(
+        &mut self,
+        rt: &R,
+        alloc: Global,
+        node: &[u8],
+        unit: &[u8],
+    ) -> Result<Vec<u8>, Fault>
+        ensures done { Executes self.old self.new (Show node.now unit.now) result }
+    {
+        let at = self.node_at(alloc, node)?;
+        tell_unit(rt, alloc, self.nodes[at].store(), unit, &self.workers)
+    }
+
+    // Lists what a unit pulls, as all that must be loaded of a node comes to it.
+    fn list<R: Threads + Sync>(
+        &mut self,
+        rt: &R,
+        alloc: Global,
+        node: &[u8],
+        unit: &[u8],
+    ) -> Result<Vec<u8>, Fault>
+        ensures done { Executes self.old self.new (List node.now unit.now) result }
+    {
+        let at = self.node_at(alloc, node)?;
+        tell_list(rt, alloc, self.nodes[at].store(), unit, &self.workers)
+    }
+
+    fn workers(&mut self, alloc: Global, count: u32) -> Result<Vec<u8>, Fault>
+        ensures done { Executes self.old self.new (Workers count) result }
+    {
+        let Some(workers) = Crew::of(count) else {
+            return Err(Fault::Refused(Refusal::Workers));
+        };
+        let text = Vec::from_slice(alloc, b"ok\n")?;
+        self.workers = workers;
+        Ok(text)
+    }
+
     fn same(&mut self, alloc: Global, left: &[u8], right: &[u8]) -> Result<Vec<u8>, Fault>
         ensures done { Executes self.old self.new (Same left.now right.now) result }
     {
@@ -155,7 +197,11 @@ impl Shell {
 
 impl Shell {
     // Does what a line asks for.
-    fn execute<R: AllocGlobal>(&mut self, rt: &R, line: &[u8]) -> Result<Vec<u8>, Fault>
+    fn execute<R: AllocGlobal + Threads + Sync>(
+        &mut self,
+        rt: &R,
+        line: &[u8],
+    ) -> Result<Vec<u8>, Fault>
         ensures done { Goes (kept_in self.old) (kept_in self.new) (λ before outcome after.
             MatchResult (command_of line.now) (λ command. Does before command outcome after)
             (λ refusal. Refuses before refusal outcome after)) result }
@@ -193,12 +239,15 @@ impl Shell {
             Command::Sweep => self.sweep(alloc),
             Command::Files { node } => self.files(alloc, node.as_slice()),
             Command::Cat { node, unit } => self.cat(alloc, node.as_slice(), unit.as_slice()),
+            Command::Show { node, unit } => self.show(rt, alloc, node.as_slice(), unit.as_slice()),
+            Command::List { node, unit } => self.list(rt, alloc, node.as_slice(), unit.as_slice()),
+            Command::Workers { count } => self.workers(alloc, count),
             Command::Same { left, right } => self.same(alloc, left.as_slice(), right.as_slice()),
         }
     }
 
     /// The answer to a line.
-    pub fn answer_line<R: AllocGlobal>(
+    pub fn answer_line<R: AllocGlobal + Threads + Sync>(
         &mut self,
         rt: &R,
         line: &[u8],

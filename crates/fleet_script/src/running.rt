@@ -9,6 +9,7 @@ ghost use Rattle.fleet_script.specs.Scripts.{Answers, AnswersFront};
 use crate::states::Shell;
 use script_pipes::{MAX_SCRIPT_BYTES, ReadFault, Sink, Source, WriteFault, read_all, write_all};
 use script_words::cut_line;
+use std::thread::Threads;
 use thiserror::Error;
 
 /// How many bytes of answers are gathered before they are written.
@@ -50,7 +51,7 @@ fn give_up<K: Sink>(writer: &mut K, pending: &[u8]) -> Result<(), ShellFault>
 }
 
 // Writes the answers to a script, gathered in large pieces.
-fn answer_all<R: AllocGlobal, K: Sink>(
+fn answer_all<R: AllocGlobal + Threads + Sync, K: Sink>(
     rt: &R,
     script: &[u8],
     writer: &mut K,
@@ -89,7 +90,8 @@ fn answer_all<R: AllocGlobal, K: Sink>(
 /// A script has at most 16,777,216 bytes and takes at most 20,000,000 reads. Any reader or writer
 /// of std is a source or a sink in a `Watched` that was made for this run. A buffer of the
 /// writer's own is flushed by its owner. Linear in the bytes of the script beside its commands.
-pub fn run<R: AllocGlobal, S: Source, K: Sink>(
+/// It may wait for threads, where a command loads by several workers.
+pub fn run<R: AllocGlobal + Threads + Sync, S: Source, K: Sink>(
     rt: &R,
     reader: &mut S,
     writer: &mut K,

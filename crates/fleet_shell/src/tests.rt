@@ -14,23 +14,33 @@ const SCRIPT: &[u8] = b"node a 1\nfrob\nput a /etc/systemd/system/x A\nfiles a\n
 const ANSWERS: &str =
     "ok\nerror: X1 UnknownCommand\nok 1.1\n/etc/systemd/system/x 1.1 file 1\nend\n";
 
-// How a run ends, in words: its exit status, what standard error was told, and what was written.
-fn told<S: Source>(
-    alloc: Global,
-    source: &mut S,
-    mut writer: Watched<Narrow>,
-) -> Result<String, Fail> {
+// The status that a fault has, and the words on standard error, also where nobody hears them.
+fn end_of(alloc: Global, outcome: Result<(), ShellFault>, hears: bool) -> Result<String, Fail> {
     let line = Cell::new(None);
     let noted = Noted {
         line: &line,
         alloc,
-        hears: true,
+        hears,
     };
-    let code = answer_script(&noted, source, &mut writer);
+    let status = finish(&noted, outcome);
     let said = line.replace(None);
-    let words = said.as_ref().map_or("well", |line| line.as_str());
-    let held = writer.into_inner().held;
-    Ok(format!(in alloc; "{code:?}: {words}: {}", str::from_utf8(&held)?)?)
+    let words = said.as_ref().map_or("nothing", |line| line.as_str());
+    Ok(format!(in alloc; "{status} {words}")?)
+}
+
+// How a run ends, in words: its exit status, what standard error is told, and what was written.
+//
+// The runtime that hears standard error in a test starts no threads, so the two halves of the program are called here.
+fn told<R: AllocGlobal + Threads + Sync, S: Source>(
+    rt: &R,
+    source: &mut S,
+    mut writer: Watched<Narrow>,
+) -> Result<String, Fail> {
+    let outcome = run(rt, source, &mut writer);
+    let mut words = end_of(rt.alloc(), outcome, true)?;
+    words.push_str(": ")?;
+    words.push_str(str::from_utf8(&writer.into_inner().held)?)?;
+    Ok(words)
 }
 
 // A writer that takes so many bytes a write, and so many writes.
@@ -45,36 +55,48 @@ fn narrow(alloc: Global, width: usize, writes_left: usize, takes_none: bool) -> 
 }
 
 // How a run ends whose reader gives a byte a read and fails behind so many reads.
-fn read_end(alloc: Global, interrupts: bool, reads_left: usize) -> Result<String, Fail> {
+fn read_end<R: AllocGlobal + Threads + Sync>(
+    rt: &R,
+    interrupts: bool,
+    reads_left: usize,
+) -> Result<String, Fail> {
     let mut source = Watched::new(Slow {
         bytes: SCRIPT,
         interrupts,
         is_interrupted: false,
         reads_left,
     });
-    told(alloc, &mut source, narrow(alloc, 1_000, 1_000, false))
+    told(rt, &mut source, narrow(rt.alloc(), 1_000, 1_000, false))
 }
 
 // How a run ends whose writer takes a byte a write and fails, or takes none, behind so many writes.
-fn write_end(alloc: Global, takes_none: bool, writes_left: usize) -> Result<String, Fail> {
+fn write_end<R: AllocGlobal + Threads + Sync>(
+    rt: &R,
+    takes_none: bool,
+    writes_left: usize,
+) -> Result<String, Fail> {
     let mut source = Watched::new(SCRIPT);
     told(
-        alloc,
+        rt,
         &mut source,
-        narrow(alloc, 1, writes_left, takes_none),
+        narrow(rt.alloc(), 1, writes_left, takes_none),
     )
 }
 
 // How a run of that script ends that goes well.
 fn good_end(alloc: Global) -> Result<String, Fail> {
-    Ok(format!(in alloc; "ExitCode(unix_exit_status(0)): well: {ANSWERS}")?)
+    Ok(format!(in alloc; "0 nothing: {ANSWERS}")?)
 }
 
 // Whether each run ends in a read fault whose reader fails at one of its first reads.
-fn each_is_unread(alloc: Global, interrupts: bool, reads: usize) -> Result<bool, Fail> {
-    let bad = "ExitCode(unix_exit_status(1)): fleet: read fault\n: ";
+fn each_is_unread<R: AllocGlobal + Threads + Sync>(
+    rt: &R,
+    interrupts: bool,
+    reads: usize,
+) -> Result<bool, Fail> {
+    let bad = "1 fleet: read fault\n: ";
     for reads_left in 0..reads {
-        if read_end(alloc, interrupts, reads_left)?.as_str() != bad {
+        if read_end(rt, interrupts, reads_left)?.as_str() != bad {
             return Ok(false);
         }
     }
@@ -85,22 +107,23 @@ fn each_is_unread(alloc: Global, interrupts: bool, reads: usize) -> Result<bool,
 #[test]
 fn each_read_fails_in_turn(rt: HostRuntime) -> Result<(), Fail> {
     let reads = SCRIPT.len() + 1;
-    assert!(rt; each_is_unread(rt.alloc(), false, reads)?);
-    assert!(rt; each_is_unread(rt.alloc(), true, 2 * reads)?);
+    assert!(rt; each_is_unread(&rt, false, reads)?);
+    assert!(rt; each_is_unread(&rt, true, 2 * reads)?);
     let good = good_end(rt.alloc())?;
-    assert!(rt; read_end(rt.alloc(), false, reads)? == good);
-    assert!(rt; read_end(rt.alloc(), true, 2 * reads)? == good);
+    assert!(rt; read_end(&rt, false, reads)? == good);
+    assert!(rt; read_end(&rt, true, 2 * reads)? == good);
     Ok(())
 }
 
 // Whether each run ends in a write fault behind the answers so far whose writer fails at one of its first writes.
-fn each_is_unwritten(alloc: Global, takes_none: bool) -> Result<bool, Fail> {
+fn each_is_unwritten<R: AllocGlobal + Threads + Sync>(
+    rt: &R,
+    takes_none: bool,
+) -> Result<bool, Fail> {
     for writes_left in 0..ANSWERS.len() {
         let front = ANSWERS.get(..writes_left).unwrap_or(ANSWERS);
-        let bad = format!(in alloc;
-            "ExitCode(unix_exit_status(1)): fleet: write fault\n: {front}"
-        )?;
-        if write_end(alloc, takes_none, writes_left)? != bad {
+        let bad = format!(in rt.alloc(); "1 fleet: write fault\n: {front}")?;
+        if write_end(rt, takes_none, writes_left)? != bad {
             return Ok(false);
         }
     }
@@ -109,47 +132,40 @@ fn each_is_unwritten(alloc: Global, takes_none: bool) -> Result<bool, Fail> {
 
 #[test]
 fn each_write_fails_in_turn(rt: HostRuntime) -> Result<(), Fail> {
-    assert!(rt; each_is_unwritten(rt.alloc(), false)?);
-    assert!(rt; each_is_unwritten(rt.alloc(), true)?);
+    assert!(rt; each_is_unwritten(&rt, false)?);
+    assert!(rt; each_is_unwritten(&rt, true)?);
     let good = good_end(rt.alloc())?;
-    assert!(rt; write_end(rt.alloc(), false, ANSWERS.len())? == good);
-    assert!(rt; write_end(rt.alloc(), true, ANSWERS.len())? == good);
+    assert!(rt; write_end(&rt, false, ANSWERS.len())? == good);
+    assert!(rt; write_end(&rt, true, ANSWERS.len())? == good);
     Ok(())
 }
 
 // How many bytes are written of the answers to 10,000 lines, of 1,000 bytes a write, before a write fails.
-fn written_in_pieces(alloc: Global, writes_left: usize) -> Result<usize, Fail> {
-    let mut script = Vec::new(alloc);
+fn written_in_pieces<R: AllocGlobal + Threads + Sync>(
+    rt: &R,
+    writes_left: usize,
+) -> Result<usize, Fail> {
+    let mut script = Vec::new(rt.alloc());
     for _ in 0..10_000 {
         script.extend_from_slice(b"frob\n")?;
     }
     let mut source = Watched::new(script.as_slice());
-    let words = told(alloc, &mut source, narrow(alloc, 1_000, writes_left, false))?;
+    let words = told(
+        rt,
+        &mut source,
+        narrow(rt.alloc(), 1_000, writes_left, false),
+    )?;
     Ok(words.len())
 }
 
 // More answers than are written at once: 10,000 times 25 bytes.
 #[test]
 fn long_answers_are_written_in_pieces(rt: HostRuntime) -> Result<(), Fail> {
-    let bad = "ExitCode(unix_exit_status(1)): fleet: write fault\n: ".len();
-    let good = "ExitCode(unix_exit_status(0)): well: ".len();
-    assert_eq!(rt; written_in_pieces(rt.alloc(), 1)?, bad + 1_000);
-    assert_eq!(rt; written_in_pieces(rt.alloc(), 1_000)?, good + 250_000);
+    let bad = "1 fleet: write fault\n: ".len();
+    let good = "0 nothing: ".len();
+    assert_eq!(rt; written_in_pieces(&rt, 1)?, bad + 1_000);
+    assert_eq!(rt; written_in_pieces(&rt, 1_000)?, good + 250_000);
     Ok(())
-}
-
-// The status that a fault has, and the words on standard error, also where nobody hears them.
-fn end_of(alloc: Global, outcome: Result<(), ShellFault>, hears: bool) -> Result<String, Fail> {
-    let line = Cell::new(None);
-    let noted = Noted {
-        line: &line,
-        alloc,
-        hears,
-    };
-    let status = finish(&noted, outcome);
-    let said = line.replace(None);
-    let words = said.as_ref().map_or("nothing", |line| line.as_str());
-    Ok(format!(in alloc; "{status} {words}")?)
 }
 
 #[test]

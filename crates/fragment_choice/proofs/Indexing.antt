@@ -1,5 +1,5 @@
 -- How the index of a store is made.
-use Rattle.std.proofs.Common.{◌≡◌, ℕ, suc, ◌<◌, ◌≤◌, Bool, true, false, cond, ◌==◌, Option, Some, None, List, [], ◌∷◌, ◌++◌, filter, refl, ap, sym, ◌∙◌, subst, arith, ◌⊎◌, inl, inr, eq-eqb, unwrap_or}
+use Rattle.std.proofs.Common.{◌≡◌, ℕ, suc, ◌<◌, Bool, true, false, cond, ◌==◌, Option, Some, None, List, [], ◌∷◌, ◌++◌, filter, refl, ap, sym, ◌∙◌, subst, arith, ◌⊎◌, inl, inr, eq-eqb, unwrap_or}
 use Rattle.std.specs.Option.{option_and_then}
 use Rattle.std.specs.Ordering.{is_eq}
 use Rattle.std.specs.BTreeMap.{BTreeMap, get, UpdatesBy, is_at}
@@ -24,6 +24,7 @@ use Rattle.fragment_choice.specs.declared.choices.Choice.TheVariants.{Alias}
 use Rattle.fragment_choice.specs.Choices.{own_path, own_choice}
 use Rattle.fragment_choice.specs.LinkedNames.{is_link, unit_of}
 use Rattle.fragment_choice.specs.LinkLaws.{ByLink, alias_same, own_link}
+use Rattle.load_levels.specs.Levels.{IsLevel}
 use Rattle.fragment_choice.specs.Indexes.{IsIndexOf, IsAny, IsOwnAt, IsOwnEntry, IsOwnLink, Collects, Puts, PutsOwn, owners_at, names_in}
 use Rattle.fragment_choice.proofs.Gathering.{put_there, put_kept, read, unread}
 
@@ -126,11 +127,11 @@ collects_rank s rank next old mid new q g h = collects_then (IsOwnBelow s rank) 
         less_or true e = inr (subst (λ x. IsOwnAt s x n) (eqb-true r rank e) l)
         less_or false e = inl (r, (let differs = eqb-false r rank e in omega arith), l)
 
-pub collects_ranks : (s : EntryMap) (end : ℕ) (old new : List Name) → 4 ≤ end → Collects (IsOwnBelow s end) old new → Collects (IsOwnLink s) old new
-collects_ranks s end old new le g = record { kept = g.kept; found = λ n o. by n o }
+pub collects_ranks : (s : EntryMap) (end : ℕ) (old new : List Name) → ((level : ℕ) → IsLevel level → level < end) → Collects (IsOwnBelow s end) old new → Collects (IsOwnLink s) old new
+collects_ranks s end old new all g = record { kept = g.kept; found = λ n o. by n o }
   where
     by : (n : Name) → IsOwnLink s n → IsAmong n new
-    by n (r, lt, o) = g.found n (r, omega arith, o)
+    by n (r, lt, o) = g.found n (r, all r lt, o)
 
 -- a list taken out of a map, and put back with one name more
 pub puts : (o t : Name) (old mid new : BTreeMap Name (Vec Name)) (taken : Option (Vec Name)) (names : Vec Name)

@@ -11,10 +11,11 @@ use Rattle.unit_name.specs.Names.{Name, IsName, is_name, kind, shape, instance}
 use Rattle.unit_name.specs.Forms.{template_of, with_instance}
 use Rattle.unit_name.specs.NameLaws.{instances_have_the_template, templates_keep_parts}
 use Rattle.list_laws.specs.FirstSaid.{first_said}
+use Rattle.load_levels.specs.Levels.{levels}
 use Rattle.fragment_choice.specs.declared.choices.Choice.{Choice}
 use Rattle.fragment_choice.specs.declared.choices.Choice.TheVariants.{NotFound, Masked, Alias, Bad}
 use Rattle.fragment_choice.specs.declared.choices.Cause.TheVariants.{Kind, Shape, Target}
-use Rattle.fragment_choice.specs.Choices.{alias_of, content_says, is_bad_kind, is_null, is_self, last_component, link_says, own_choice, own_path, ranks, says, shapes_agree, target_says}
+use Rattle.fragment_choice.specs.Choices.{alias_of, content_says, is_bad_kind, is_null, is_self, last_component, link_says, own_choice, own_path, says, shapes_agree, target_says}
 use Rattle.fragment_choice.specs.Resolutions.{Leads}
 use Rattle.fragment_choice.specs.LinkLaws.{IsPassed, alias_said, has_template, passed, template_alias}
 
@@ -129,7 +130,7 @@ module _ (n o : Name) (lawful : IsName n) (of : template_of n ≡ Some o) where
 
   pub template_leads : (s : EntryMap) (m : Name) → own_choice s n o ≡ Some (Alias m) → LeadsTemplate s o m
   template_leads s m h =
-      let w = along s m ranks h in
+      let w = along s m levels h in
       record { target = w.target; own = w.said; template = w.template }
 
 -- what leads n to m

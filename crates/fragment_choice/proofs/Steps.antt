@@ -1,23 +1,14 @@
--- The ranks one by one, and the steps of a chain.
-use Rattle.std.proofs.Common.{◌≡◌, ℕ, suc, ◌<◌, Option, Some, None, drop, refl, ap, sym, ◌∙◌, subst}
-use Rattle.std.specs.Option.{option_or}
-use Rattle.list_laws.specs.FirstSaid.{first_said}
+-- The steps of a chain.
+use Rattle.std.proofs.Common.{◌≡◌, ℕ, suc, refl, ap, sym, ◌∙◌, subst}
 use Rattle.fragment_choice.specs.declared.choices.Choice.{Choice}
 use Rattle.fragment_choice.specs.declared.choices.Choice.TheVariants.{NotFound, Masked, Fragment, Alias, Bad}
 use Rattle.fragment_choice.specs.declared.choices.Cause.TheVariants.{Loop}
 use Rattle.fragment_choice.specs.declared.resolutions.Resolution.{Resolution}
 use Rattle.unit_name.specs.Names.{Name}
 use Rattle.edit_sums.specs.Sums.{EntryMap}
-use Rattle.fragment_choice.specs.Choices.{ranks, choice}
-use Rattle.fragment_choice.specs.ChoiceLaws.{next_rank}
+use Rattle.fragment_choice.specs.Choices.{choice}
 use Rattle.fragment_choice.specs.Resolutions.{follow, ended_or, resolution, Resolves, IsEnd}
 use Rattle.fragment_choice.specs.ResolutionLaws.{resolution_resolves, no_alias_stands}
-
-pub said_there : {B : Type 0} (f : ℕ → Option B) (r : ℕ) (x : B) (w : Option B) → r < 4 → f r ≡ Some x → first_said f (drop r ranks) ≡ w → Some x ≡ w
-said_there f r x w h e i = sym (next_rank f r h ∙ ap (λ o. option_or o (first_said f (drop (suc r) ranks))) e) ∙ i
-
-pub passed_over : {B : Type 0} (f : ℕ → Option B) (r s : ℕ) (w : Option B) → r < 4 → s ≡ suc r → f r ≡ None → first_said f (drop r ranks) ≡ w → first_said f (drop s ranks) ≡ w
-passed_over f r s w h t e i = ap (λ k. first_said f (drop k ranks)) t ∙ sym (next_rank f r h ∙ ap (λ o. option_or o (first_said f (drop (suc r) ranks))) e) ∙ i
 
 -- one name more is asked
 pub asked : (s : EntryMap) (n m : Name) (k j : ℕ) (c : Choice) (w : Resolution) → k ≡ suc j → c ≡ choice s m → follow s k n m ≡ w → ended_or (follow s j n) m c ≡ w

@@ -1,5 +1,5 @@
 -- Laws of choices: lesser ranks come first, and only what is visible counts.
-use Rattle.std.proofs.Common.{◌≡◌, ◌≢◌, ℕ, zero, suc, ◌+◌, ◌<◌, ◌≤◌, Option, Some, None, [], ◌∷◌, drop, refl, ap, sym, ◌∙◌, cond, IsTrue, arith, unwrap_or}
+use Rattle.std.proofs.Common.{◌≡◌, ◌≢◌, ℕ, ◌<◌, ◌≤◌, Option, Some, None, [], ◌∷◌, refl, ap, sym, ◌∙◌, cond, IsTrue, unwrap_or}
 use Rattle.std.specs.Option.{option_and_then, option_or}
 use Rattle.load_path.specs.Paths.{PathParts, path_cmp}
 use Rattle.load_path.specs.PathLaws.{path_cmp_total, path_cmp-IsAntisymmetric}
@@ -9,22 +9,24 @@ use Rattle.edit_sums.specs.Sums.{EntryMap, visible_at}
 use Rattle.unit_name.specs.Names.{Name}
 use Rattle.unit_name.specs.Forms.{template_of}
 use Rattle.list_laws.specs.Agreements.{agree_everywhere}
-use Rattle.list_laws.specs.FirstSaid.{first_said, first_same, none_says}
+use Rattle.list_laws.specs.FirstSaid.{first_same}
+use Rattle.load_levels.specs.Levels.{IsLevel, levels}
+use Rattle.load_levels.specs.LevelLaws.{first_at, both_say}
 use Rattle.fragment_choice.specs.declared.choices.Choice.{Choice}
 use Rattle.fragment_choice.specs.declared.choices.Choice.TheVariants.{NotFound, Masked}
-use Rattle.fragment_choice.specs.Choices.{choice, content_says, is_null, link_says, last_component, own_choice, own_path, ranks, says}
+use Rattle.fragment_choice.specs.Choices.{choice, content_says, is_null, link_says, last_component, own_choice, own_path, says}
 
 -- the least rank that says anything of n under its own name makes the choice
 abbrev pub LeastRankChooses : Type 0
-LeastRankChooses = (s : EntryMap) (n : Name) (r : ℕ) (c : Choice) → r < 4 → says s n n r ≡ Some c → ((k : ℕ) → k < r → says s n n k ≡ None) → choice s n ≡ c
+LeastRankChooses = (s : EntryMap) (n : Name) (r : ℕ) (c : Choice) → IsLevel r → says s n n r ≡ Some c → ((k : ℕ) → k < r → says s n n k ≡ None) → choice s n ≡ c
 
 -- where the own name says nothing, the least rank does that says anything of n under its template's
 abbrev pub TemplatesComeLast : Type 0
-TemplatesComeLast = (s : EntryMap) (n o : Name) (r : ℕ) (c : Choice) → own_choice s n n ≡ None → template_of n ≡ Some o → r < 4 → says s n o r ≡ Some c → ((k : ℕ) → k < r → says s n o k ≡ None) → choice s n ≡ c
+TemplatesComeLast = (s : EntryMap) (n o : Name) (r : ℕ) (c : Choice) → own_choice s n n ≡ None → template_of n ≡ Some o → IsLevel r → says s n o r ≡ Some c → ((k : ℕ) → k < r → says s n o k ≡ None) → choice s n ≡ c
 
 -- a choice that is made up to a rank is the same in each store that shows the same up to there
 abbrev pub GreaterRanksDontCount : Type 0
-GreaterRanksDontCount = (s t : EntryMap) (n : Name) (r : ℕ) (c : Choice) → r < 4 → says s n n r ≡ Some c → ((k : ℕ) → k ≤ r → visible_at t (own_path n k) ≡ visible_at s (own_path n k)) → choice t n ≡ choice s n
+GreaterRanksDontCount = (s t : EntryMap) (n : Name) (r : ℕ) (c : Choice) → IsLevel r → says s n n r ≡ Some c → ((k : ℕ) → k ≤ r → visible_at t (own_path n k) ≡ visible_at s (own_path n k)) → choice t n ≡ choice s n
 
 -- an empty file, or a link to /dev/null
 abbrev pub IsMask : Content → Type 0
@@ -35,7 +37,7 @@ IsMask (File (b ∷ bs)) = ⊥
 
 -- a mask hides whatever stands in greater ranks and for the template
 abbrev pub MasksHide : Type 0
-MasksHide = (s : EntryMap) (n : Name) (r : ℕ) (x : Content) → r < 4 → visible_at s (own_path n r) ≡ Some x → IsMask x → ((k : ℕ) → k < r → says s n n k ≡ None) → choice s n ≡ Masked
+MasksHide = (s : EntryMap) (n : Name) (r : ℕ) (x : Content) → IsLevel r → visible_at s (own_path n r) ≡ Some x → IsMask x → ((k : ℕ) → k < r → says s n n k ≡ None) → choice s n ≡ Masked
 
 -- stores that show the same choose the same
 abbrev pub OnlyVisibleCounts : Type 0
@@ -45,65 +47,21 @@ OnlyVisibleCounts = (s t : EntryMap) → ((p : PathParts) → visible_at s p ≡
 abbrev pub RemovalsGiveBack : Type 0
 RemovalsGiveBack = (s t : EntryMap) (p : PathParts) → visible_at s p ≡ None → visible_at t p ≡ None → ((q : PathParts) → q ≢ p → visible_at s q ≡ visible_at t q) → (n : Name) → choice s n ≡ choice t n
 
--- the ranks from one on: this one, then the greater ones
-pub next_rank : {B : Type 0} (f : ℕ → Option B) (r : ℕ) → r < 4 → first_said f (drop r ranks) ≡ option_or (f r) (first_said f (drop (suc r) ranks))
-next_rank f zero h = refl
-next_rank f (suc zero) h = refl
-next_rank f (suc (suc zero)) h = refl
-next_rank f (suc (suc (suc zero))) h = refl
-next_rank f (suc (suc (suc (suc r)))) h = absurd (omega arith)
-
-this_rank : {B : Type 0} (f : ℕ → Option B) (i : ℕ) (o : Option B) → i < 4 → f i ≡ o → first_said f (drop i ranks) ≡ option_or o (first_said f (drop (suc i) ranks))
-this_rank f i o h e = next_rank f i h ∙ ap (λ x. option_or x (first_said f (drop (suc i) ranks))) e
-
--- none answers just where each rank has no answer
-pub none_said : {B : Type 0} (f : ℕ → Option B) → first_said f ranks ≡ None → (r : ℕ) → r < 4 → f r ≡ None
-none_said f h zero l = none_says f ranks 0 h 0 (omega arith)
-none_said f h (suc zero) l = none_says f ranks 0 h 1 (omega arith)
-none_said f h (suc (suc zero)) l = none_says f ranks 0 h 2 (omega arith)
-none_said f h (suc (suc (suc zero))) l = none_says f ranks 0 h 3 (omega arith)
-none_said f h (suc (suc (suc (suc r)))) l = absurd (omega arith)
-
-pub all_none : {B : Type 0} (f : ℕ → Option B) → ((r : ℕ) → r < 4 → f r ≡ None) → first_said f ranks ≡ None
-all_none f none = this_rank f 0 None (omega arith) (none 0 (omega arith)) ∙ this_rank f 1 None (omega arith) (none 1 (omega arith)) ∙ this_rank f 2 None (omega arith) (none 2 (omega arith)) ∙ this_rank f 3 None (omega arith) (none 3 (omega arith))
-
--- from any rank on, the first answer is that of r
-first_at : {B : Type 0} (f : ℕ → Option B) (r : ℕ) (c : B) → r < 4 → f r ≡ Some c → ((k : ℕ) → k < r → f k ≡ None) → (d i : ℕ) → d + i ≡ r → first_said f (drop i ranks) ≡ Some c
-first_at f r c h e none zero i p = this_rank f i (Some c) (omega arith) (let q : i ≡ r = omega arith in ap f q ∙ e)
-first_at f r c h e none (suc d) i p = this_rank f i None (omega arith) (none i (omega arith)) ∙ first_at f r c h e none d (suc i) (omega arith)
-
--- two that answer the same up to a rank that answers, have the same first answer
-record BothSay {B : Type 0} (o p : Option B) : Type 0 where
-  word : B
-  first : o ≡ Some word
-  second : p ≡ Some word
-
-both_say : {B : Type 0} (f g : ℕ → Option B) (r : ℕ) (c : B) → r < 4 → f r ≡ Some c → ((k : ℕ) → k ≤ r → g k ≡ f k) → (d i : ℕ) → d + i ≡ r → BothSay (first_said f (drop i ranks)) (first_said g (drop i ranks))
-both_say f g r c h e same zero i p =
-    let q : i ≡ r = omega arith in
-    record { word = c; first = this_rank f i (Some c) (omega arith) (ap f q ∙ e); second = this_rank g i (Some c) (omega arith) (same i (omega arith) ∙ ap f q ∙ e) }
-both_say {B = B} f g r c h e same (suc d) i p = by (f i) refl (both_say f g r c h e same d (suc i) (omega arith))
-  where
-    by : (o : Option B) → f i ≡ o → BothSay (first_said f (drop (suc i) ranks)) (first_said g (drop (suc i) ranks)) → BothSay (first_said f (drop i ranks)) (first_said g (drop i ranks))
-    by (Some x) q more = record { word = x; first = this_rank f i (Some x) (omega arith) q; second = this_rank g i (Some x) (omega arith) (same i (omega arith) ∙ q) }
-    by None q more =
-        record { word = more.word; first = this_rank f i None (omega arith) q ∙ more.first; second = this_rank g i None (omega arith) (same i (omega arith) ∙ q) ∙ more.second }
-
 own_chooses : (s : EntryMap) (n : Name) (c : Choice) → own_choice s n n ≡ Some c → choice s n ≡ c
 own_chooses s n c own = ap (λ o. unwrap_or (option_or o (option_and_then (own_choice s n) (template_of n))) NotFound) own
 
 pub least_rank_chooses : LeastRankChooses
-least_rank_chooses s n r c h e none = own_chooses s n c (first_at (says s n n) r c h e none r 0 (omega arith))
+least_rank_chooses s n r c h e none = own_chooses s n c (first_at (says s n n) r c h e none)
 
 pub templates_come_last : TemplatesComeLast
 templates_come_last s n o r c nothing t h e none =
     ap (λ x. unwrap_or (option_or x (option_and_then (own_choice s n) (template_of n))) NotFound) nothing
     ∙ ap (λ x. unwrap_or (option_and_then (own_choice s n) x) NotFound) t
-    ∙ ap (λ x. unwrap_or x NotFound) (first_at (says s n o) r c h e none r 0 (omega arith))
+    ∙ ap (λ x. unwrap_or x NotFound) (first_at (says s n o) r c h e none)
 
 pub greater_ranks_dont_count : GreaterRanksDontCount
 greater_ranks_dont_count s t n r c h e same =
-    let both = both_say (says s n n) (says t n n) r c h e (λ k l. ap (option_and_then (content_says n n (own_path n k))) (same k l)) r 0 (omega arith) in
+    let both = both_say (says s n n) (says t n n) r c h e (λ k l. ap (option_and_then (content_says n n (own_path n k))) (same k l)) in
     own_chooses t n both.word both.second ∙ sym (own_chooses s n both.word both.first)
 
 mask_says : (n o : Name) (p : PathParts) (x : Content) → IsMask x → content_says n o p x ≡ Some Masked
@@ -117,7 +75,7 @@ masks_hide s n r x h e m none =
     least_rank_chooses s n r Masked h (ap (option_and_then (content_says n n (own_path n r))) e ∙ mask_says n n (own_path n r) x m) none
 
 own_same : (s t : EntryMap) → ((p : PathParts) → visible_at s p ≡ visible_at t p) → (n o : Name) → own_choice s n o ≡ own_choice t n o
-own_same s t same n o = first_same (says s n o) (says t n o) (λ k. ap (option_and_then (content_says n o (own_path o k))) (same (own_path o k))) ranks
+own_same s t same n o = first_same (says s n o) (says t n o) (λ k. ap (option_and_then (content_says n o (own_path o k))) (same (own_path o k))) levels
 
 pub only_visible_counts : OnlyVisibleCounts
 only_visible_counts s t same n =

@@ -5,8 +5,8 @@ use Rattle.std.specs.Option.{option_and_then, option_or}
 use Rattle.std.specs.List.{after_last}
 use Rattle.std.specs.Str.{bytes_eq}
 use Rattle.std.specs.Ordering.{eq_by_cmp}
-use Rattle.list_laws.specs.FirstSaid.{first_said}
 use Rattle.load_path.specs.Paths.{PathParts}
+use Rattle.load_levels.specs.Levels.{first_level}
 use Rattle.edit_sums.specs.declared.contents.Content.{Content}
 use Rattle.edit_sums.specs.declared.contents.Content.TheVariants.{Gone, Link, File}
 use Rattle.edit_sums.specs.Sums.{EntryMap, visible_at}
@@ -115,12 +115,9 @@ own_path o rank = path_at rank [] o
 abbrev pub says : EntryMap → Name → Name → ℕ → Option Choice
 says s n o rank = option_and_then (content_says n o (own_path o rank)) (visible_at s (own_path o rank))
 
-abbrev pub ranks : List ℕ
-ranks = 0 ∷ 1 ∷ 2 ∷ 3 ∷ []
-
--- what the least rank says that says anything of n under the own name o
+-- what the least level says that says anything of n under the own name o
 abbrev pub own_choice : EntryMap → Name → Name → Option Choice
-own_choice s n o = first_said (says s n o) ranks
+own_choice s n o = first_level (says s n o)
 
 -- what n's own paths say, else what its template's do
 abbrev pub choice : EntryMap → Name → Choice

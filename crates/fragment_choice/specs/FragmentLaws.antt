@@ -11,10 +11,11 @@ use Rattle.unit_name.specs.declared.names.Shape.TheVariants.{Plain, Template, In
 use Rattle.unit_name.specs.Names.{Name, shape, instance, kind, is_name}
 use Rattle.unit_name.specs.Forms.{template_of, with_instance}
 use Rattle.list_laws.specs.FirstSaid.{first_said}
+use Rattle.load_levels.specs.Levels.{levels}
 use Rattle.fragment_choice.specs.declared.choices.Choice.{Choice}
 use Rattle.fragment_choice.specs.declared.choices.Choice.TheVariants.{NotFound, Masked, Fragment, Bad}
 use Rattle.fragment_choice.specs.declared.resolutions.Resolution.{Resolution}
-use Rattle.fragment_choice.specs.Choices.{choice, own_choice, says, content_says, link_says, alias_of, alias_to, own_path, ranks, is_null, is_self, is_bad_kind, shapes_agree, last_component}
+use Rattle.fragment_choice.specs.Choices.{choice, own_choice, says, content_says, link_says, alias_of, alias_to, own_path, is_null, is_self, is_bad_kind, shapes_agree, last_component}
 use Rattle.fragment_choice.specs.declared.choices.Cause.TheVariants as cause
 use Rattle.fragment_choice.specs.Resolutions.{Resolves, resolution}
 use Rattle.fragment_choice.specs.Resolutions.Resolves.{ends_at, goes_on}
@@ -85,13 +86,13 @@ chosen_file : (s : EntryMap) (n : Name) (p : PathParts) → choice s n ≡ Fragm
 chosen_file s n p e = by (own_choice s n n) refl (template_of n) e
   where
     by : (y : Option Choice) → own_choice s n n ≡ y → (t : Option Name) → unwrap_or (option_or y (option_and_then (own_choice s n) t)) NotFound ≡ Fragment p → IsFileAt s p
-    by (Some c) at t e = first_file s n n ranks p (at ∙ ap Some e)
+    by (Some c) at t e = first_file s n n levels p (at ∙ ap Some e)
     by None at None e = cc (e)
     by None at (Some o) e = of_template (own_choice s n o) refl e
       where
         of_template : (z : Option Choice) → own_choice s n o ≡ z → unwrap_or z NotFound ≡ Fragment p → IsFileAt s p
         of_template None there e = cc (e)
-        of_template (Some c) there e = first_file s n o ranks p (there ∙ ap Some e)
+        of_template (Some c) there e = first_file s n o levels p (there ∙ ap Some e)
 
 resolved_file : (s : EntryMap) (n : Name) (r : Resolution) (p : PathParts) → Resolves s n r → r.choice ≡ Fragment p → IsFileAt s p
 resolved_file s n r p (ends_at k u short chain ends) e = chosen_file s u p e

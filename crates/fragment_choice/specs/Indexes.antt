@@ -1,12 +1,13 @@
 -- The links of a store by the names that they lead to: words for private clauses.
 -- Source: this project's own.
-use Rattle.std.specs.Prelude.{◌≡◌, ℕ, Option, Some, None, List, [], ◌∷◌, ◌⊎◌, ◌<◌, IsTrue}
+use Rattle.std.specs.Prelude.{◌≡◌, ℕ, Option, Some, None, List, [], ◌∷◌, ◌⊎◌, IsTrue}
 use Rattle.std.specs.BTreeMap.{BTreeMap, get}
 use Rattle.std.specs.Global.{Vec}
 use Rattle.list_laws.specs.Members.{IsAmong}
 use Rattle.edit_sums.specs.Entries.{Entry}
 use Rattle.edit_sums.specs.Sums.{EntryMap, shown, visible_at}
 use Rattle.load_path.specs.Paths.{PathParts}
+use Rattle.load_levels.specs.Levels.{IsLevel}
 use Rattle.unit_name.specs.Names.{Name, name_cmp, IsName}
 use Rattle.unit_name.specs.Forms.{with_instance}
 use Rattle.fragment_choice.specs.declared.choices.Choice.TheVariants.{Alias}
@@ -58,7 +59,7 @@ pub record IsOwnAt (s : EntryMap) (rank : ℕ) (n : Name) : Type 0 where
 
 -- the same at some rank
 abbrev pub IsOwnLink : EntryMap → Name → Type 0
-IsOwnLink s n = (rank : ℕ) × (rank < 4) × IsOwnAt s rank n
+IsOwnLink s n = (rank : ℕ) × IsLevel rank × IsOwnAt s rank n
 
 -- names were added: those that pass are all there
 pub record Collects (Passes : Name → Type 0) (old new : List Name) : Type 0 where

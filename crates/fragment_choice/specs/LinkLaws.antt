@@ -1,5 +1,5 @@
 -- Laws of links: where aliases come from, and what an instance keeps along them.
-use Rattle.std.proofs.Common.{◌≡◌, ℕ, ◌<◌, Bool, true, false, cond, Option, Some, None, List, [], ◌∷◌, refl, ap, sym, ◌∙◌, subst, arith, unwrap_or, ◌⊎◌, inl, inr}
+use Rattle.std.proofs.Common.{◌≡◌, ℕ, Bool, true, false, cond, Option, Some, None, List, [], ◌∷◌, refl, ap, sym, ◌∙◌, subst, unwrap_or, ◌⊎◌, inl, inr}
 use Rattle.std.specs.Option.{option_and_then, option_or}
 use Rattle.std.proofs.lemmas.Slice.Eq.{bytes_eq-Decides}
 use Rattle.std.proofs.lemmas.Option.{same_Some, none-some}
@@ -11,12 +11,13 @@ use Rattle.unit_name.specs.declared.names.Shape.TheVariants.{Plain, Template, In
 use Rattle.unit_name.specs.Names.{Name, IsName, is_name, kind, shape, instance}
 use Rattle.unit_name.specs.Forms.{template_at, template_of, with_instance}
 use Rattle.unit_name.specs.NameLaws.{instances_have_the_template, templates_keep_parts}
-use Rattle.list_laws.specs.FirstSaid.{first_said}
+use Rattle.load_levels.specs.Levels.{IsLevel}
+use Rattle.load_levels.specs.LevelLaws.{said_by}
 use Rattle.fragment_choice.specs.declared.choices.Choice.{Choice}
 use Rattle.fragment_choice.specs.declared.choices.Choice.TheVariants.{NotFound, Masked, Fragment, Alias, Bad}
 use Rattle.fragment_choice.specs.declared.choices.Cause.TheVariants.{Kind, Shape, Target}
 use Rattle.fragment_choice.specs.declared.resolutions.Resolution.{Resolution}
-use Rattle.fragment_choice.specs.Choices.{alias_of, alias_to, content_says, is_bad_kind, is_null, is_self, last_component, link_says, own_choice, own_path, ranks, says, shapes_agree, target_says}
+use Rattle.fragment_choice.specs.Choices.{alias_of, alias_to, content_says, is_bad_kind, is_null, is_self, last_component, link_says, own_choice, own_path, says, shapes_agree, target_says}
 use Rattle.fragment_choice.specs.Resolutions.{Chain, Leads, Resolves, main, resolution}
 use Rattle.fragment_choice.specs.Resolutions.Chain.{here, step}
 use Rattle.fragment_choice.specs.Resolutions.Resolves.{ends_at, goes_on}
@@ -25,36 +26,16 @@ use Rattle.fragment_choice.specs.LinkedNames.{is_link, IsLinkedAt}
 
 -- a name that is an alias has a visible link of its own name or of its template's
 abbrev pub AliasesHaveLinks : Type 0
-AliasesHaveLinks = (s : EntryMap) (n m : Name) → Leads s n m → (rank : ℕ) × (rank < 4) × IsLinkedAt s rank n
+AliasesHaveLinks = (s : EntryMap) (n m : Name) → Leads s n m → (rank : ℕ) × IsLevel rank × IsLinkedAt s rank n
 
 -- an instance's main name is an instance too, of the same instance part
 abbrev pub InstancesKeepTheirPart : Type 0
 InstancesKeepTheirPart = (s : EntryMap) (n : Name) → IsName n → shape n ≡ Instance → IsName (main s n) × (shape (main s n) ≡ Instance) × (instance (main s n) ≡ instance n)
 
--- an answer comes from one of the ranks
-pub said_by : {B : Type 0} (f : ℕ → Option B) (c : B) → first_said f ranks ≡ Some c → (r : ℕ) × (r < 4) × (f r ≡ Some c)
-said_by {B = B} f c h = at0 (f 0) refl h
-  where
-    at3 : (o : Option B) → f 3 ≡ o → option_or o None ≡ Some c → (r : ℕ) × (r < 4) × (f r ≡ Some c)
-    at3 (Some x) e h = (3, omega arith, e ∙ h)
-    at3 None e h = absurd (none-some _ h)
-
-    at2 : (o : Option B) → f 2 ≡ o → option_or o (option_or (f 3) None) ≡ Some c → (r : ℕ) × (r < 4) × (f r ≡ Some c)
-    at2 (Some x) e h = (2, omega arith, e ∙ h)
-    at2 None e h = at3 (f 3) refl h
-
-    at1 : (o : Option B) → f 1 ≡ o → option_or o (option_or (f 2) (option_or (f 3) None)) ≡ Some c → (r : ℕ) × (r < 4) × (f r ≡ Some c)
-    at1 (Some x) e h = (1, omega arith, e ∙ h)
-    at1 None e h = at2 (f 2) refl h
-
-    at0 : (o : Option B) → f 0 ≡ o → option_or o (option_or (f 1) (option_or (f 2) (option_or (f 3) None))) ≡ Some c → (r : ℕ) × (r < 4) × (f r ≡ Some c)
-    at0 (Some x) e h = (0, omega arith, e ∙ h)
-    at0 None e h = at1 (f 1) refl h
-
 -- the link that made a name an alias
 pub record ByLink (s : EntryMap) (n o m : Name) : Type 0 where
   pub rank : ℕ
-  pub within : rank < 4
+  pub within : IsLevel rank
   pub target : List ℕ
   pub there : visible_at s (own_path o rank) ≡ Some (Link target)
   pub said : target_says n o (last_component target) ≡ Some (Alias m)
@@ -68,7 +49,7 @@ null_or false n o t m h = by (is_name t) refl h
     by true e k = (e, k)
     by false e k = cc (k)
 
-by_link : (s : EntryMap) (n o m : Name) (r : ℕ) → r < 4 → (v : Option Content) → visible_at s (own_path o r) ≡ v → option_and_then (content_says n o (own_path o r)) v ≡ Some (Alias m) → ByLink s n o m
+by_link : (s : EntryMap) (n o m : Name) (r : ℕ) → IsLevel r → (v : Option Content) → visible_at s (own_path o r) ≡ v → option_and_then (content_says n o (own_path o r)) v ≡ Some (Alias m) → ByLink s n o m
 by_link s n o m r within None e h = cc (h)
 by_link s n o m r within (Some Gone) e h = cc (h)
 by_link s n o m r within (Some (File [])) e h = cc (h)

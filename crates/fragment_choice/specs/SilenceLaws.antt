@@ -1,5 +1,5 @@
 -- A law of what is not found: nothing speaks for the name, nor for its template.
-use Rattle.std.proofs.Common.{◌≡◌, ℕ, ◌<◌, Bool, true, false, cond, ◌||◌, Option, Some, None, List, [], ◌∷◌, codes, refl, ap, sym, ◌∙◌, subst, inl, inr, unwrap_or}
+use Rattle.std.proofs.Common.{◌≡◌, ℕ, Bool, true, false, cond, ◌||◌, Option, Some, None, List, [], ◌∷◌, codes, refl, ap, sym, ◌∙◌, subst, inl, inr, unwrap_or}
 use Rattle.std.specs.Prelude.{◌↔◌, ◌⊎◌}
 use Rattle.std.specs.Option.{option_and_then, option_or}
 use Rattle.std.specs.Ordering.{is_eq}
@@ -24,8 +24,8 @@ use Rattle.fragment_choice.specs.declared.choices.Choice.{Choice}
 use Rattle.fragment_choice.specs.declared.choices.Choice.TheVariants.{NotFound, Masked, Bad}
 use Rattle.fragment_choice.specs.declared.choices.Cause.TheVariants as cause
 use Rattle.fragment_choice.specs.Choices.{alias_of, alias_to, choice, content_says, is_bad_kind, is_null, is_same, is_self, is_that, last_component, link_says, own_choice, own_path, says, shapes_agree, target_says}
-use Rattle.fragment_choice.specs.ChoiceLaws.{none_said, all_none}
-use Rattle.fragment_choice.specs.LinkLaws.{said_by}
+use Rattle.load_levels.specs.Levels.{IsLevel}
+use Rattle.load_levels.specs.LevelLaws.{said_by, none_said, all_none}
 
 -- a link that is passed over: it leads to the name o that it has itself, or to the template of o
 pub record IsPassedOver (o : Name) (x : Content) : Type 0 where
@@ -36,7 +36,7 @@ pub record IsPassedOver (o : Name) (x : Content) : Type 0 where
 
 -- nothing speaks under the name o: whatever is visible of it in the four directories is passed over
 abbrev pub NothingSpeaks : EntryMap → Name → Type 0
-NothingSpeaks s o = (rank : ℕ) (x : Content) → rank < 4 → visible_at s (own_path o rank) ≡ Some x → IsPassedOver o x
+NothingSpeaks s o = (rank : ℕ) (x : Content) → IsLevel rank → visible_at s (own_path o rank) ≡ Some x → IsPassedOver o x
 
 -- a name is not found just where nothing speaks under it, nor under its template
 abbrev pub SilenceIsNotFound : Type 0
@@ -177,7 +177,7 @@ silent s n o e rank x h v =
 speechless : (s : EntryMap) (n o : Name) → NothingSpeaks s o → own_choice s n o ≡ None
 speechless s n o quiet = all_none (says s n o) (λ rank h. by rank h (visible_at s (own_path o rank)) refl)
   where
-    by : (rank : ℕ) → rank < 4 → (y : Option Content) → visible_at s (own_path o rank) ≡ y → option_and_then (content_says n o (own_path o rank)) y ≡ None
+    by : (rank : ℕ) → IsLevel rank → (y : Option Content) → visible_at s (own_path o rank) ≡ y → option_and_then (content_says n o (own_path o rank)) y ≡ None
     by rank h None e = refl
     by rank h (Some x) e = nothing_said n o (own_path o rank) x (quiet rank x h e)
 

@@ -6,6 +6,7 @@ ghost use Rattle.fragment_choice.specs.LinkedNames.{is_link, unit_of};
 
 use crate::choices::{Choice, own_choice};
 use crate::names::put;
+use load_levels::LEVELS;
 use replica_store::{Content, Placed, Store};
 use std::alloc::{AllocError, Global};
 use std::collections::{BTreeMap, BTreeSet};
@@ -115,8 +116,8 @@ fn linked_names(alloc: Global, store: &Store) -> Result<BTreeSet<UnitName>, Allo
     ensures linked { IfOk result (λ names. Collects (IsOwnLink store.now) [] names.keys) }
 {
     let mut names = BTreeSet::new(alloc);
-    for rank in 0..4u8 {
-        add_linked(alloc, &mut names, store, rank)?;
+    for level in 0..LEVELS {
+        add_linked(alloc, &mut names, store, level)?;
     }
     Ok(names)
 }

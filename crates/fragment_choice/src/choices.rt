@@ -3,6 +3,7 @@ ghost use Rattle.std.specs.Prelude.{◌≡◌, IfOk};
 ghost use Rattle.fragment_choice.specs.Choices.{choice, own_choice, says, content_says, link_says};
 
 use crate::links::{last_component, target_says};
+use load_levels::LEVELS;
 use replica_store::{Content, Path, Placed, Store};
 use std::alloc::{AllocError, Global};
 use thiserror::Error;
@@ -58,7 +59,7 @@ pub fn choose(alloc: Global, store: &Store, name: &UnitName) -> Result<Choice, A
     Ok(own_choice(alloc, store, name, &template)?.unwrap_or(Choice::NotFound))
 }
 
-/// What the visible paths of one own name say, the least rank first.
+/// What the visible paths of one own name say, the least level first.
 pub(crate) fn own_choice(
     alloc: Global,
     store: &Store,
@@ -67,8 +68,8 @@ pub(crate) fn own_choice(
 ) -> Result<Option<Choice>, AllocError>
     ensures choice { IfOk result (λ said. said ≡ own_choice store.now name.now own.now) }
 {
-    for rank in 0..4u8 {
-        if let Some(said) = says(alloc, store, name, own, rank)? {
+    for level in 0..LEVELS {
+        if let Some(said) = says(alloc, store, name, own, level)? {
             return Ok(Some(said));
         }
     }

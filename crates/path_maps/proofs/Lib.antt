@@ -4,6 +4,8 @@ pub mod Edits
 pub mod Sames
 pub mod Cursors
 pub mod Listed
+pub mod FoundBehind
+pub mod LeftBeside
 pub mod Rises
 pub mod Sizes
 pub mod Merges

@@ -19,6 +19,7 @@ use Rattle.edit_sums.specs.Sums.{EntryMap, is_other, changed_paths, edit_of, wit
 use Rattle.edit_sums.specs.SumLaws.{same_store, sum_of-edits_of, with_edit-of_join, join-nothing}
 use Rattle.edit_sums.specs.GreatestLaws.{get-join, get-with_edit, same_path, tied}
 use Rattle.path_maps.specs.SpreadLaws.{find_below}
+use Rattle.path_maps.specs.Beside.{Compared}
 use Rattle.path_maps.specs.Changes.{is_rise, rises, additions}
 
 count_cons : {X : Type 0} (p : X → Bool) (x : X) (xs : List X) → count_by p (x ∷ xs) ≡ cond (p x) 1 0 + count_by p xs
@@ -202,20 +203,30 @@ module _ (s : EntryMap) where
   pub join_known : (t : EntryMap) → rises s (finmap.entries t) ≡ 0 → s ≡ join s t
   join_known t none = sym (sym (all_joined s t) ∙ known_all (finmap.entries t) (from_T _ (finmap.entries_sorted t)) none)
 
+-- ---- entries beside what the other store has
+
+-- how many are greater than what stands beside them, and beside how many there is nothing
+abbrev pub rises_beside : List Compared → ℕ
+rises_beside bs = count_by (λ b. is_rise b.1 b.0.1) bs
+
+abbrev pub additions_beside : List Compared → ℕ
+additions_beside bs = count_by (λ b. not (is_some b.1)) bs
+
 -- ---- counts that can't run over
 
-module _ (s : EntryMap) (n : ℕ) (p : PathParts × Entry) (rest all : List (PathParts × Entry)) where
-  pub room_changed : is_rise (finmap.get s p.0) p.1 ≡ true → n + rises s (p ∷ rest) ≡ rises s all → n + 1 ≤ length all
-  room_changed h e =
-      let one = count_cons (λ (x : PathParts × Entry). is_rise (finmap.get s x.0) x.1) p rest ∙ ap (λ b. cond b 1 0 + rises s rest) h in
-      let most = count_by-le-length (λ (x : PathParts × Entry). is_rise (finmap.get s x.0) x.1) all in
-      omega (arith, one, e, most)
+module _ (n : ℕ) (b : Compared) (rest : List Compared) where
+  module _ (s : EntryMap) (all : List (PathParts × Entry)) where
+    pub room_changed : is_rise b.1 b.0.1 ≡ true → n + rises_beside (b ∷ rest) ≡ rises s all → n + 1 ≤ length all
+    room_changed h e =
+        let one = count_cons (λ (x : Compared). is_rise x.1 x.0.1) b rest ∙ ap (λ c. cond c 1 0 + rises_beside rest) h in
+        let most = count_by-le-length (λ (x : PathParts × Entry). is_rise (finmap.get s x.0) x.1) all in
+        omega (arith, one, e, most)
 
-  pub room_added : finmap.get s p.0 ≡ None → n + additions s (p ∷ rest) ≡ additions s all → n + 1 ≤ length all
-  room_added h e =
-      let one = count_cons (λ (x : PathParts × Entry). not (is_some (finmap.get s x.0))) p rest ∙ ap (λ (y : Option Entry). cond (not (is_some y)) 1 0 + additions s rest) h in
-      let most = count_by-le-length (λ (x : PathParts × Entry). not (is_some (finmap.get s x.0))) all in
-      omega (arith, one, e, most)
+    pub room_added : b.1 ≡ None → n + additions_beside (b ∷ rest) ≡ additions s all → n + 1 ≤ length all
+    room_added h e =
+        let one = count_cons (λ (x : Compared). not (is_some x.1)) b rest ∙ ap (λ (y : Option Entry). cond (not (is_some y)) 1 0 + additions_beside rest) h in
+        let most = count_by-le-length (λ (x : PathParts × Entry). not (is_some (finmap.get s x.0))) all in
+        omega (arith, one, e, most)
 
 pub rise_none : (x : Option Entry) (y : Entry) → x ≡ None → is_rise x y ≡ true
 rise_none x y h = ap (λ (z : Option Entry). is_rise z y) h

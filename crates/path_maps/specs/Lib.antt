@@ -6,4 +6,5 @@ pub mod Folders
 pub mod FolderLaws
 pub mod Kept
 pub mod Cursors
+pub mod Beside
 pub mod Changes

@@ -2,13 +2,14 @@
 //! as one map from paths to entries.
 #![tactic(auto)]
 
+mod beside;
 mod changes;
 mod counts;
 mod entries;
-mod fingers;
 mod look_ups;
+mod meets;
 mod stores;
 
+pub use beside::Beside;
 pub use entries::{Entries, Placed};
-pub use fingers::Finger;
 pub use stores::{FolderMap, NameMap, RankMap, Store};

@@ -1,6 +1,5 @@
 //! Look-ups by bytes that stand in no map: no key is built for them.
 ghost use Rattle.std.specs.Prelude.{◌≡◌, ◌<◌, Some, None, length, IsTrue, IfOk, IfErr, MatchOption};
-ghost use Rattle.std.specs.Option.{IfSome};
 ghost use Rattle.std.specs.Ordering.{nat_cmp};
 ghost use Rattle.std.specs.FinMap.{find, is_sorted};
 ghost use Rattle.join_law.specs.Maps.{or_empty};
@@ -32,50 +31,6 @@ pub fn pair_at<'a, V>(pairs: &'a [(Bytes, V)], key: &[u8]) -> Option<&'a (Bytes,
     }
 }
 
-// The same, sought first at a place and at the next one. The place is then that of the pair, or where it would stand.
-pub fn pair_near<'a, V>(
-    pairs: &'a [(Bytes, V)],
-    key: &[u8],
-    place: &mut usize,
-) -> Option<&'a (Bytes, V)>
-    requires sorted { IsTrue (is_sorted bytes_cmp pairs.now) }
-    ensures found { MatchOption result (find bytes_cmp key.now pairs.now ≡ None)
-        (λ pair. (pair.now.0 ≡ key.now) × (find bytes_cmp key.now pairs.now ≡ Some pair.now.1)) }
-{
-    if let Some(pair) = pair_if(pairs, *place, key) {
-        return Some(pair);
-    }
-    let next = place.saturating_add(1);
-    if let Some(pair) = pair_if(pairs, next, key) {
-        *place = next;
-        return Some(pair);
-    }
-    match place_of(pairs, key) {
-        Ok(at) => {
-            *place = at;
-            Some(&pairs[at])
-        }
-        Err(at) => {
-            *place = at;
-            None
-        }
-    }
-}
-
-// The pair at a place, if its key has these bytes.
-fn pair_if<'a, V>(pairs: &'a [(Bytes, V)], at: usize, key: &[u8]) -> Option<&'a (Bytes, V)>
-    requires sorted { IsTrue (is_sorted bytes_cmp pairs.now) }
-    ensures found { IfSome result (λ pair. (pair.now.0 ≡ key.now)
-        × (find bytes_cmp key.now pairs.now ≡ Some pair.now.1)) }
-{
-    let pair = pairs.get(at)?;
-    if pair.0.as_slice() == key {
-        Some(pair)
-    } else {
-        None
-    }
-}
-
 // The folder of these bytes, in the directory of a rank, and the names in it. O(log n), without memory.
 pub fn folder_at<'a>(
     ranks: &'a RankMap,
@@ -89,22 +44,5 @@ pub fn folder_at<'a>(
 {
     let folders = ranks.get(&rank)?;
     let (folder, names) = pair_at(folders.pairs(), folder)?;
-    Some((folder, names))
-}
-
-// The same, sought first at a place and at the next one.
-pub fn folder_near<'a>(
-    ranks: &'a RankMap,
-    rank: u8,
-    folder: &[u8],
-    place: &mut usize,
-) -> Option<(&'a Bytes, &'a NameMap)>
-    requires ranks { AreRanks ranks.now }
-    ensures found { MatchOption result (find bytes_cmp folder.now (or_empty (find nat_cmp rank ranks.now)) ≡ None)
-        (λ pair. (pair.0.now ≡ folder.now)
-        × (find bytes_cmp folder.now (or_empty (find nat_cmp rank ranks.now)) ≡ Some pair.1.now)) }
-{
-    let folders = ranks.get(&rank)?;
-    let (folder, names) = pair_near(folders.pairs(), folder, place)?;
     Some((folder, names))
 }

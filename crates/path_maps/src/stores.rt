@@ -3,14 +3,15 @@ ghost use Rattle.std.specs.Prelude.{◌≡◌, ◌≤◌, ◌↔◌, ◌+◌, Is
 ghost use Rattle.std.specs.Option.{option_copied, option_map, IfSome};
 ghost use Rattle.std.specs.FinMap as finmap;
 ghost use Rattle.edit_sums.specs.Sums.{changed_paths, high_of, join, sum_of, visible_at, with_edit, IsStoreBelow};
+ghost use Rattle.path_maps.specs.Beside.{beside};
 ghost use Rattle.path_maps.specs.Folders.{is_in, path_at};
 ghost use Rattle.path_maps.specs.PathMaps.{AreRanks, flat};
 
+use crate::beside::Beside;
 use crate::changes::count_changes;
 use crate::counts::{Counts, count_entries};
 use crate::entries::{Entries, Placed};
-use crate::fingers::Finger;
-use crate::look_ups::{folder_at, folder_near, pair_at, pair_near};
+use crate::look_ups::{folder_at, pair_at};
 use byte_strings::Bytes;
 use edit_sums::{Content, Edit, Entry};
 use join_law::{Join, JoinMap, Rest, Versioned};
@@ -120,18 +121,6 @@ impl Store {
         Some(Placed::new(rank, folder, name, entry))
     }
 
-    /// What is held at the path of an entry, maybe of another store. It takes no memory, and a comparison or two where
-    /// the finger points at the path or before it, else O(log n).
-    pub fn held_for(&self, placed: &Placed, finger: &mut Finger) -> Option<&Entry>
-        ensures held { option_copied result ≡ finmap.get self.now placed.now.0 }
-    {
-        let (rank, folder, name) = placed.parts();
-        let folder = folder.as_slice();
-        let (_, names) = folder_near(&self.ranks, rank, folder, &mut finger.folder)?;
-        let (_, value) = pair_near(names.pairs(), name.as_slice(), &mut finger.name)?;
-        value.entry()
-    }
-
     /// The visible content at a path: what is held there, if it is no removal. O(log n), without memory.
     pub fn visible(&self, path: &Path) -> Option<&Content>
         ensures visible { option_copied result ≡ visible_at self.now path.now }
@@ -187,6 +176,14 @@ impl Store {
         Entries::of_ranks(&self.ranks)
     }
 
+    /// All entries with their paths in path order, each with what another store holds there. Both are read side by side,
+    /// without memory.
+    pub fn entries_beside<'a>(&'a self, other: &'a Store) -> Beside<'a>
+        ensures entries { result ≡ beside (finmap.get other.now) (finmap.entries self.now) }
+    {
+        Beside::of_ranks(&self.ranks, &other.ranks)
+    }
+
     /// Whether both hold the same. Linear, without memory.
     pub fn same(&self, other: &Store) -> bool
         ensures same { IsTrue result ↔ (self.now ≡ other.now) }
@@ -226,9 +223,9 @@ impl Store {
         Ok(())
     }
 
-    /// Joins copies of what another store holds, and answers how many paths changed. A look for each of its entries, which
-    /// is a search where this store doesn't hold its path; where there is news, the join then costs what is news and a search for each, or one pass over both, whichever is
-    /// less. Copies of entries share their bytes.
+    /// Joins copies of what another store holds, and answers how many paths changed. Both are read side by side; where
+    /// there is news, the join then costs what is news and a search for each, or one pass over both, whichever is less.
+    /// Copies of entries share their bytes.
     ///
     /// Where memory is refused, the store has part of what the join adds, and calling again with the same gives the rest.
     pub fn merge(&mut self, other: &Store) -> Result<u64, AllocError>
@@ -258,8 +255,8 @@ impl Store {
         }
     }
 
-    /// Joins what another store holds, and answers how many paths changed. A look for each of its entries, which is a
-    /// search where this store doesn't hold its path; where there is news, the join then costs what is news and a search for each, or one pass over both, whichever is less.
+    /// Joins what another store holds, and answers how many paths changed. Both are read side by side; where there is
+    /// news, the join then costs what is news and a search for each, or one pass over both, whichever is less.
     ///
     /// Where memory is refused, the store lies between what it was and the join, and joining the rest that comes back
     /// gives that join.

@@ -10,5 +10,5 @@ mod replicas;
 pub use edit_sums::{Content, ContentFault, Edit, Entry, FileBytes, LinkTarget};
 pub use join_law::{Rest, Version};
 pub use load_path::{Path, PathFault};
-pub use path_maps::{Entries, Finger, FolderMap, NameMap, Placed, RankMap, Store};
+pub use path_maps::{Beside, Entries, FolderMap, NameMap, Placed, RankMap, Store};
 pub use replicas::{EditFault, Replica};

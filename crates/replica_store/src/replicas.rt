@@ -144,9 +144,8 @@ impl Replica {
         self.put(path, Content::gone())
     }
 
-    /// Joins copies of what a store holds, and answers how many paths changed. A search for each of its entries; then
-    /// it costs what is news and a search for each, or one pass over both, whichever is less. Copies of entries share
-    /// their bytes.
+    /// Joins copies of what a store holds, and answers how many paths changed. Both are read side by side; then it costs
+    /// what is news and a search for each, or one pass over both, whichever is less. Copies of entries share their bytes.
     ///
     /// Where memory is refused, the store lies between what it was and the join, and the same call
     /// may be made again.
@@ -161,8 +160,8 @@ impl Replica {
         self.store.merge(other)
     }
 
-    /// Joins what a store holds, and answers how many paths changed. A search for each of its entries; then it costs
-    /// what is news and a search for each, or one pass over both, whichever is less.
+    /// Joins what a store holds, and answers how many paths changed. Both are read side by side; then it costs what is
+    /// news and a search for each, or one pass over both, whichever is less.
     ///
     /// Where memory is refused, the store lies between what it was and the join, and joining the rest that comes back
     /// gives that join.

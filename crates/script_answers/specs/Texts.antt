@@ -12,7 +12,7 @@ use Rattle.edit_sums.specs.Entries.{Entry}
 use Rattle.edit_sums.specs.Sums.{EntryMap}
 use Rattle.script_commands.specs.declared.commands.Refusal.{Refusal}
 use Rattle.script_commands.specs.Outcomes.{Outcome}
-use Rattle.script_commands.specs.declared.commands.Refusal.TheVariants.{UnknownCommand, Arguments, UnknownNode, BadText, UnknownPiece, NodeTaken, WriterTaken, LineTooLong, Directory, Depth, Component, FileTooLarge, BadLink, VersionsSpent, Nothing, Length, Kind, EmptyPrefix, BadByte, NotFound, Masked, Bad}
+use Rattle.script_commands.specs.declared.commands.Refusal.TheVariants.{UnknownCommand, Arguments, UnknownNode, BadText, UnknownPiece, NodeTaken, WriterTaken, LineTooLong, Directory, Depth, Component, FileTooLarge, BadLink, VersionsSpent, Nothing, Length, Kind, EmptyPrefix, BadByte, NotFound, Masked, Bad, Template, Workers, TooManyUnits}
 
 -- the counter, a dot, the writer
 abbrev pub version_text : Version → List ℕ
@@ -64,6 +64,9 @@ refusal_name (BadByte place) = codes "N4 BadByte"
 refusal_name (NotFound unit) = codes "P2 NotFound"
 refusal_name (Masked unit) = codes "P3 Masked"
 refusal_name (Bad unit) = codes "P4 Bad"
+refusal_name Template = codes "P1 Template"
+refusal_name Workers = codes "L1 Workers"
+refusal_name TooManyUnits = codes "L2 TooManyUnits"
 
 -- the values of a refusal, each behind a space
 abbrev pub refusal_values : Refusal → List ℕ

@@ -37,6 +37,9 @@ fn code_and_name(refusal: &Refusal) -> &'static [u8]
         Refusal::NotFound(_) => b"P2 NotFound",
         Refusal::Masked(_) => b"P3 Masked",
         Refusal::Bad(_) => b"P4 Bad",
+        Refusal::Template => b"P1 Template",
+        Refusal::Workers => b"L1 Workers",
+        Refusal::TooManyUnits => b"L2 TooManyUnits",
     }
 }
 

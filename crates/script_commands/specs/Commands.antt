@@ -6,7 +6,7 @@ use Rattle.script_words.specs.Words.{words_of, text_after}
 use Rattle.script_words.specs.Names.{is_name}
 use Rattle.script_words.specs.Numbers.{number_of}
 use Rattle.script_commands.specs.declared.commands.Command.{Command}
-use Rattle.script_commands.specs.declared.commands.Command.TheVariants.{Node, Put, Link, Remove, Merge, Part, Send, Sweep, Files, Cat, Same}
+use Rattle.script_commands.specs.declared.commands.Command.TheVariants.{Node, Put, Link, Remove, Merge, Part, Send, Sweep, Files, Cat, Show, List as ListUnits, Workers, Same}
 use Rattle.script_commands.specs.declared.commands.Refusal.{Refusal}
 use Rattle.script_commands.specs.declared.commands.Refusal.TheVariants.{UnknownCommand, Arguments}
 
@@ -68,9 +68,36 @@ abbrev pub cat_command : List (List ℕ) → Result Command Refusal
 cat_command (node ∷ unit ∷ []) = if is_name node then Ok (Cat node unit) else Err Arguments
 cat_command words = Err Arguments
 
+abbrev pub show_command : List (List ℕ) → Result Command Refusal
+show_command (node ∷ unit ∷ []) = if is_name node then Ok (Show node unit) else Err Arguments
+show_command words = Err Arguments
+
+abbrev pub list_command : List (List ℕ) → Result Command Refusal
+list_command (node ∷ unit ∷ []) = if is_name node then Ok (ListUnits node unit) else Err Arguments
+list_command words = Err Arguments
+
+abbrev pub workers_with : Option ℕ → Result Command Refusal
+workers_with None = Err Arguments
+workers_with (Some count) = Ok (Workers count)
+
+abbrev pub workers_command : List (List ℕ) → Result Command Refusal
+workers_command (count ∷ []) = workers_with (number_of count)
+workers_command words = Err Arguments
+
 abbrev pub same_command : List (List ℕ) → Result Command Refusal
 same_command (left ∷ right ∷ []) = if is_name left && is_name right then Ok (Same left right) else Err Arguments
 same_command words = Err Arguments
+
+-- the first word names the command, which changes no node
+abbrev pub question_of : List ℕ → List (List ℕ) → Result Command Refusal
+question_of verb words =
+    if bytes_eq verb (codes "files") then files_command words
+    else (if bytes_eq verb (codes "cat") then cat_command words
+    else (if bytes_eq verb (codes "show") then show_command words
+    else (if bytes_eq verb (codes "list") then list_command words
+    else (if bytes_eq verb (codes "workers") then workers_command words
+    else (if bytes_eq verb (codes "same") then same_command words
+    else Err UnknownCommand)))))
 
 -- the first word names the command
 abbrev pub command_of_words : List (List ℕ) → List ℕ → Result Command Refusal
@@ -84,10 +111,7 @@ command_of_words (verb ∷ words) line =
     else (if bytes_eq verb (codes "part") then part_command words
     else (if bytes_eq verb (codes "send") then send_command words
     else (if bytes_eq verb (codes "sweep") then sweep_command words
-    else (if bytes_eq verb (codes "files") then files_command words
-    else (if bytes_eq verb (codes "cat") then cat_command words
-    else (if bytes_eq verb (codes "same") then same_command words
-    else Err UnknownCommand))))))))))
+    else question_of verb words)))))))
 
 -- the command of a line, or why it is none
 abbrev pub command_of : List ℕ → Result Command Refusal

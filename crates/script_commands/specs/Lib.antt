@@ -3,4 +3,5 @@ pub mod Faults
 pub mod Files
 pub mod Outcomes
 pub mod Paths
+pub mod ReadLaws
 pub mod WrittenLaws

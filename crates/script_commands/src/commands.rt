@@ -127,6 +127,20 @@ pub enum Command<'a> {
         node: Word<'a>,
         unit: Word<'a>,
     },
+    /// A unit, as a node's units come to it: its names, files, values, dependencies and notes.
+    Show {
+        node: Word<'a>,
+        unit: Word<'a>,
+    },
+    /// All that a unit pulls, as a node's units come to it, each with its least distance.
+    List {
+        node: Word<'a>,
+        unit: Word<'a>,
+    },
+    /// So many workers load from now on.
+    Workers {
+        count: u32,
+    },
     /// Whether two nodes hold the same.
     Same {
         left: Word<'a>,
@@ -163,6 +177,12 @@ pub enum Refusal {
     Masked(UnitName),
     /// The unit that is bad.
     Bad(UnitName),
+    /// A template stands where a unit is asked for.
+    Template,
+    /// The workers aren't 1 to 64.
+    Workers,
+    /// More names must be loaded than a load may have.
+    TooManyUnits,
 }
 
 /// Why a command was not done.

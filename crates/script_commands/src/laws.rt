@@ -1,8 +1,8 @@
 //! Laws of commands: each is read back from how it is written.
-ghost use Rattle.script_commands.specs.WrittenLaws.{CatIsReadBack, EmptyPutIsReadBack, FilesIsReadBack, JustItsWordsAreRead, LinkIsReadBack, MergeIsReadBack, NodeIsReadBack, OthersAreRefused, PartIsReadBack, PutIsReadBack, RemoveIsReadBack, SameIsReadBack, SendIsReadBack, SweepIsReadBack};
+ghost use Rattle.script_commands.specs.WrittenLaws.{CatIsReadBack, EmptyPutIsReadBack, FilesIsReadBack, JustItsWordsAreRead, LinkIsReadBack, ListIsReadBack, MergeIsReadBack, NodeIsReadBack, OthersAreRefused, PartIsReadBack, PutIsReadBack, RemoveIsReadBack, SameIsReadBack, SendIsReadBack, ShowIsReadBack, SweepIsReadBack, WorkersIsReadBack};
 
 /// Each command is read back from its words with one space between each two: names as names may be,
-/// a writer number in decimal, and paths, targets and units as any words. What `put` writes is all
+/// numbers in decimal, and paths, targets and units as any words. What `put` writes is all
 /// that follows the path and one space.
 pub fn commands_read_back()
     ensures node { NodeIsReadBack }
@@ -16,6 +16,9 @@ pub fn commands_read_back()
     ensures sweep { SweepIsReadBack }
     ensures files { FilesIsReadBack }
     ensures cat { CatIsReadBack }
+    ensures show { ShowIsReadBack }
+    ensures list { ListIsReadBack }
+    ensures workers { WorkersIsReadBack }
     ensures same { SameIsReadBack }
 
     // However many spaces there are, a line is a command just where it has that command's words.

@@ -1,7 +1,7 @@
 //! From a line to a command.
 ghost use Rattle.std.specs.Prelude.{◌≡◌, [], ◌∷◌, MatchOption};
 ghost use Rattle.script_words.specs.Words.{words_of, text_after};
-ghost use Rattle.script_commands.specs.Commands.{command_of, node_command, put_command, link_command, remove_command, merge_command, part_command, send_command, sweep_command, files_command, cat_command, same_command, AreNotOne, AreNotTwo, AreNotThree};
+ghost use Rattle.script_commands.specs.Commands.{command_of, node_command, put_command, link_command, remove_command, merge_command, part_command, send_command, sweep_command, files_command, cat_command, list_command, show_command, workers_command, same_command, question_of, AreNotOne, AreNotTwo, AreNotThree};
 
 use crate::commands::{Command, Refusal, Word, Words};
 use script_words::{cut_word, is_name, parse_number, text_of_rest};
@@ -29,10 +29,25 @@ pub fn parse(line: &[u8]) -> Result<Command<'_>, Refusal>
         send(rest)
     } else if verb == b"sweep".as_slice() {
         sweep(rest)
-    } else if verb == b"files".as_slice() {
+    } else {
+        question(verb, rest)
+    }
+}
+
+// The command of a line whose first word begins no command that changes nodes.
+fn question<'a>(verb: &[u8], rest: &'a [u8]) -> Result<Command<'a>, Refusal>
+    ensures command { result ≡ question_of verb.now (words_of rest.now) }
+{
+    if verb == b"files".as_slice() {
         files(rest)
     } else if verb == b"cat".as_slice() {
         cat(rest)
+    } else if verb == b"show".as_slice() {
+        show(rest)
+    } else if verb == b"list".as_slice() {
+        list(rest)
+    } else if verb == b"workers".as_slice() {
+        workers(rest)
     } else if verb == b"same".as_slice() {
         same(rest)
     } else {
@@ -235,6 +250,50 @@ fn cat(rest: &[u8]) -> Result<Command<'_>, Refusal>
         })
     } else {
         Err(Refusal::Arguments)
+    }
+}
+
+fn show(rest: &[u8]) -> Result<Command<'_>, Refusal>
+    ensures command { result ≡ show_command (words_of rest.now) }
+{
+    let Some((node, unit)) = two_words(rest) else {
+        return Err(Refusal::Arguments);
+    };
+    if is_name(node) {
+        Ok(Command::Show {
+            node: Word::new(node),
+            unit: Word::new(unit),
+        })
+    } else {
+        Err(Refusal::Arguments)
+    }
+}
+
+fn list(rest: &[u8]) -> Result<Command<'_>, Refusal>
+    ensures command { result ≡ list_command (words_of rest.now) }
+{
+    let Some((node, unit)) = two_words(rest) else {
+        return Err(Refusal::Arguments);
+    };
+    if is_name(node) {
+        Ok(Command::List {
+            node: Word::new(node),
+            unit: Word::new(unit),
+        })
+    } else {
+        Err(Refusal::Arguments)
+    }
+}
+
+fn workers(rest: &[u8]) -> Result<Command<'_>, Refusal>
+    ensures command { result ≡ workers_command (words_of rest.now) }
+{
+    let Some(count) = one_word(rest) else {
+        return Err(Refusal::Arguments);
+    };
+    match parse_number(count) {
+        Some(count) => Ok(Command::Workers { count }),
+        None => Err(Refusal::Arguments),
     }
 }
 

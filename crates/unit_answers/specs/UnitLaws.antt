@@ -29,14 +29,23 @@ one_cat s main fragment text other a b =
     )) in
     a.text_is ∙ ap (λ ps. cat_text s (fragment ∷ ps)) dropins ∙ sym b.text_is
 
-module _ (s : EntryMap) (a b : Outcome) where
-  name_refused_once : (fault : NameFault) → RefusesName fault a → RefusesName fault b → a ≡ b
-  name_refused_once name.Length p q = p ∙ sym q
-  name_refused_once name.Kind p q = p ∙ sym q
-  name_refused_once name.EmptyPrefix p q = p ∙ sym q
-  name_refused_once (name.BadByte place) p q = p ∙ sym q
-  name_refused_once name.Memory p q = absurd p
+-- a word that is no unit name is refused in one way
+pub name_refused_once : (a b : Outcome) (fault : NameFault) → RefusesName fault a → RefusesName fault b → a ≡ b
+name_refused_once a b name.Length p q = p ∙ sym q
+name_refused_once a b name.Kind p q = p ∙ sym q
+name_refused_once a b name.EmptyPrefix p q = p ∙ sym q
+name_refused_once a b (name.BadByte place) p q = p ∙ sym q
+name_refused_once a b name.Memory p q = absurd p
 
+-- and not for want of counters
+pub name_unspent : (outcome : Outcome) (fault : NameFault) → RefusesName fault outcome → is_spent outcome ≡ false
+name_unspent outcome name.Length p = ap is_spent p
+name_unspent outcome name.Kind p = ap is_spent p
+name_unspent outcome name.EmptyPrefix p = ap is_spent p
+name_unspent outcome (name.BadByte place) p = ap is_spent p
+name_unspent outcome name.Memory p = absurd p
+
+module _ (s : EntryMap) (a b : Outcome) where
   choice_told_once : (main : Name) (c : Choice) → TellsChoice s main c a → TellsChoice s main c b → a ≡ b
   choice_told_once main choice.NotFound p q = p ∙ sym q
   choice_told_once main choice.Masked p q = p ∙ sym q
@@ -47,7 +56,7 @@ module _ (s : EntryMap) (a b : Outcome) where
   told_once : (r : Result Name NameFault) → MatchResult r (λ n. TellsChoice s (resolution s n).main (resolution s n).choice a) (λ fault. RefusesName fault a)
       → MatchResult r (λ n. TellsChoice s (resolution s n).main (resolution s n).choice b) (λ fault. RefusesName fault b) → a ≡ b
   told_once (Ok n) p q = choice_told_once (resolution s n).main (resolution s n).choice p q
-  told_once (Err fault) p q = name_refused_once fault p q
+  told_once (Err fault) p q = name_refused_once a b fault p q
 
 pub files_are_told_once : FilesAreToldOnce
 files_are_told_once word s a b p q = told_once s a b (name_of word) p q
@@ -63,13 +72,6 @@ files_spend_nothing word s outcome t = by (name_of word) t
     choice_unspent main (choice.Alias other) p = absurd p
     choice_unspent main (choice.Bad cause) p = ap is_spent p
 
-    name_unspent : (fault : NameFault) → RefusesName fault outcome → is_spent outcome ≡ false
-    name_unspent name.Length p = ap is_spent p
-    name_unspent name.Kind p = ap is_spent p
-    name_unspent name.EmptyPrefix p = ap is_spent p
-    name_unspent (name.BadByte place) p = ap is_spent p
-    name_unspent name.Memory p = absurd p
-
     by : (r : Result Name NameFault) → MatchResult r (λ n. TellsChoice s (resolution s n).main (resolution s n).choice outcome) (λ fault. RefusesName fault outcome) → is_spent outcome ≡ false
     by (Ok n) p = choice_unspent (resolution s n).main (resolution s n).choice p
-    by (Err fault) p = name_unspent fault p
+    by (Err fault) p = name_unspent outcome fault p

@@ -13,5 +13,5 @@ mod settled;
 mod units;
 
 pub use laws::{named_unit_laws, one_unit};
-pub use loads::{load_one, load_unit};
+pub use loads::{load_one, load_resolved, load_unit};
 pub use units::{Status, Unit, UnitNote};

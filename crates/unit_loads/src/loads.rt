@@ -39,8 +39,9 @@ pub fn load_one(alloc: Global, store: &Store, name: &UnitName) -> Result<Unit, A
     load_resolved(alloc, &index, resolved)
 }
 
-// The unit of a main name, with what stands for it.
-fn load_resolved(
+/// The unit of a main name for which this stands, as `resolve` gives it for each of its names: the same as `load_unit`, which
+/// resolves the name first. It fails for want of memory alone.
+pub fn load_resolved(
     alloc: Global,
     index: &AliasIndex,
     resolved: Resolution,

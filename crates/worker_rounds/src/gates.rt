@@ -10,7 +10,7 @@ pub trait Gate {
 /// So many times a gate is asked for one piece at most; then its worker goes on.
 pub const TURNS: u32 = 1_000_000;
 
-// Asks the gate until it lets the piece's worker go on, or was asked so many times.
+/// Asks the gate until it lets the piece's worker go on, or was asked `TURNS` times.
 pub fn pass_gate<G: Gate>(gate: &G, piece: usize) {
     for _ in 0..TURNS {
         if gate.arrive(piece) {

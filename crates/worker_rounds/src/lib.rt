@@ -9,5 +9,5 @@ mod rounds;
 mod workers;
 
 pub use faults::LoadFault;
-pub use gates::{Gate, TURNS};
+pub use gates::{Gate, TURNS, pass_gate};
 pub use rounds::{MOST_WORKERS, close_loaded_by_workers};

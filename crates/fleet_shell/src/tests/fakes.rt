@@ -72,14 +72,6 @@ pub struct Noted<'a> {
     pub hears: bool,
 }
 
-impl Alloc for Noted<'_> {
-    type A = Global;
-
-    fn alloc(&self) -> Global {
-        self.alloc
-    }
-}
-
 impl Eprint for Noted<'_> {
     fn eprint<D: Display + Drop>(&self, _value: D) -> io::Result<()> {
         Err(Error::from(ErrorKind::Other))

@@ -1,12 +1,13 @@
 use Rattle.std.proofs.Common.{◌≡◌, length, map}
 use Rattle.std.specs.Prelude.{filter}
 use Rattle.std.specs.FinMap as finmap
-use Rattle.edit_sums.specs.Sums.{edit_of, join, sum_of}
+use Rattle.edit_sums.specs.Sums.{join}
 use Rattle.world_law.specs.Cuts.{is_newer, digest_of}
+use Rattle.delta_pieces.proofs.Joined.{sum_at, news}
 use Rattle.delta_pieces.proofs.newer.newer_than.Given as goal
 
 abbrev pub invariant-loop-placed : goal.invariant-loop-placed
-invariant-loop-placed l = join l.newer (sum_of (map edit_of (filter (λ p. is_newer p.1.version (finmap.get (digest_of l.other) p.0)) l.entries))) ≡ sum_of (map edit_of (filter (λ p. is_newer p.1.version (finmap.get (digest_of l.other) p.0)) (finmap.entries l.store)))
+invariant-loop-placed l = join l.newer (sum_at (news l.both)) ≡ sum_at (filter (λ p. is_newer p.1.version (finmap.get (digest_of l.other) p.0)) (finmap.entries l.store))
 
 abbrev pub decreases-loop-placed : goal.decreases-loop-placed
-decreases-loop-placed l = length l.entries
+decreases-loop-placed l = length l.both

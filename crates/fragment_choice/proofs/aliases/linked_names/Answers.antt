@@ -4,16 +4,16 @@ use Rattle.fragment_choice.specs.Indexes.{Collects, IsOwnLink}
 use Rattle.fragment_choice.proofs.Indexing.{IsOwnBelow, collects_none, collects_rank, collects_ranks}
 use Rattle.fragment_choice.proofs.aliases.linked_names.Goals as goal
 
-pub loop-rank-init : goal.loop-rank-init
-loop-rank-init c = collects_none (IsOwnBelow c.args.store.now 0) c.new-names.result.keys (λ n l. absurd (let lt = l.1 in omega arith))
+pub loop-level-init : goal.loop-level-init
+loop-level-init c = collects_none (IsOwnBelow c.args.store.now 0) c.new-names.result.keys (λ n l. absurd (let lt = l.1 in omega arith))
 
-pub loop-rank-preserved : goal.loop-rank-preserved
-loop-rank-preserved c =
-    collects_rank c.args.store.now c.loop-rank.rank (c.loop-rank.rank + 1) c.new-names.result.keys c.loop-rank.names.keys c.add_linked.new.names.keys (omega arith) c.loop-rank.invariant c.in_ok-add_linked.ensures.added
+pub loop-level-preserved : goal.loop-level-preserved
+loop-level-preserved c =
+    collects_rank c.args.store.now c.loop-level.level (c.loop-level.level + 1) c.new-names.result.keys c.loop-level.names.keys c.add_linked.new.names.keys (omega arith) c.loop-level.invariant c.in_ok-add_linked.ensures.added
 
 pub returns : goal.returns
 returns c = record {
   linked =
-      subst (λ (old : List Name). Collects (IsOwnLink c.args.store.now) old c.loop-rank.names.keys) c.new-names.ensures.empty
-      (collects_ranks c.args.store.now c.loop-rank.rank c.new-names.result.keys c.loop-rank.names.keys c.loop-rank-test.false c.loop-rank.invariant);
+      subst (λ (old : List Name). Collects (IsOwnLink c.args.store.now) old c.loop-level.names.keys) c.new-names.ensures.empty
+      (collects_ranks c.args.store.now c.loop-level.level c.new-names.result.keys c.loop-level.names.keys (λ l h. let all = c.loop-level-test.false in omega (arith, h, all)) c.loop-level.invariant);
 }

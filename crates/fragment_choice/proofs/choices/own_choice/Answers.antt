@@ -1,12 +1,12 @@
 use Rattle.std.proofs.Common.{sym, ◌∙◌, arith}
 use Rattle.fragment_choice.specs.Choices.{says}
-use Rattle.fragment_choice.proofs.Steps.{said_there, passed_over}
+use Rattle.load_levels.specs.LevelLaws.{said_there, passed_over}
 use Rattle.fragment_choice.proofs.choices.own_choice.Goals as goal
 
 pub returns-in-Some : goal.returns-in-Some
 returns-in-Some c = record {
-  choice = said_there (says c.args.store.now c.args.name.now c.args.own.now) c.loop-rank.rank c.in-Some.said _ (omega arith) (sym c.in_ok-said.ensures.said ∙ c.in-Some.is) c.loop-rank.invariant;
+  choice = said_there (says c.args.store.now c.args.name.now c.args.own.now) c.loop-level.level c.in-Some.said _ (omega arith) (sym c.in_ok-said.ensures.said ∙ c.in-Some.is) c.loop-level.invariant;
 }
 
-pub loop-rank-preserved : goal.loop-rank-preserved
-loop-rank-preserved c = passed_over (says c.args.store.now c.args.name.now c.args.own.now) c.loop-rank.rank _ _ (omega arith) (omega arith) (sym c.in_ok-said.ensures.said ∙ c.in_default.is) c.loop-rank.invariant
+pub loop-level-preserved : goal.loop-level-preserved
+loop-level-preserved c = passed_over (says c.args.store.now c.args.name.now c.args.own.now) c.loop-level.level _ _ (omega arith) (omega arith) (sym c.in_ok-said.ensures.said ∙ c.in_default.is) c.loop-level.invariant

@@ -1,7 +1,7 @@
 use Rattle.std.proofs.Common.{Ok, sym, ap, ◌∙◌}
 use Rattle.fleet_script.specs.Holds.{kept_in}
 use Rattle.fleet_script.proofs.Lines.{executed}
-use Rattle.script_commands.specs.declared.commands.Command.TheVariants.{Node, Put, Link, Remove, Merge, Part, Send, Sweep, Files, Cat, Same}
+use Rattle.script_commands.specs.declared.commands.Command.TheVariants.{Node, Put, Link, Remove, Merge, Part, Send, Sweep, Files, Cat, Show, List as ListUnits, Workers, Same}
 use Rattle.fleet_script.proofs.states.Shell.execute.Goals as goal
 
 pub returns-in-Node : goal.returns-in-Node
@@ -36,3 +36,12 @@ returns-in-Sweep g c = record { done = executed (kept_in c.args.self.now) (kept_
 
 pub returns-in-Cat : goal.returns-in-Cat
 returns-in-Cat g c = record { done = executed (kept_in c.args.self.now) (kept_in c.cat.new.self) c.args.line.now (Cat c.in-Cat.node c.in-Cat.unit) c.cat.result (ap Ok (sym c.in-Cat.is) ∙ c.in_ok-name.ensures.command) (rw c.as_slice-in-Cat-2.ensures.bytes at (rw c.as_slice-in-Cat.ensures.bytes at c.cat.ensures.done)) }
+
+pub returns-in-Show : goal.returns-in-Show
+returns-in-Show g c = record { done = executed (kept_in c.args.self.now) (kept_in c.show.new.self) c.args.line.now (Show c.in-Show.node c.in-Show.unit) c.show.result (ap Ok (sym c.in-Show.is) ∙ c.in_ok-name.ensures.command) (rw c.as_slice-in-Show-2.ensures.bytes at (rw c.as_slice-in-Show.ensures.bytes at c.show.ensures.done)) }
+
+pub returns-in-Workers : goal.returns-in-Workers
+returns-in-Workers g c = record { done = executed (kept_in c.args.self.now) (kept_in c.workers.new.self) c.args.line.now (Workers c.in-Workers.count) c.workers.result (ap Ok (sym c.in-Workers.is) ∙ c.in_ok-name.ensures.command) c.workers.ensures.done }
+
+pub returns-in-List : goal.returns-in-List
+returns-in-List g c = record { done = executed (kept_in c.args.self.now) (kept_in c.list.new.self) c.args.line.now (ListUnits c.in-List.node c.in-List.unit) c.list.result (ap Ok (sym c.in-List.is) ∙ c.in_ok-name.ensures.command) (rw c.as_slice-in-List-2.ensures.bytes at (rw c.as_slice-in-List.ensures.bytes at c.list.ensures.done)) }

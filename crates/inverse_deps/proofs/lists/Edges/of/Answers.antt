@@ -1,0 +1,22 @@
+use Rattle.std.proofs.Common.{Some, ap, sym, ◌∙◌}
+use Rattle.std.specs.Cmp.Lexicographic.{nat_list_cmp_total}
+use Rattle.sorted_pairs.specs.PlaceLaws.{find_at, find_gap}
+use Rattle.unit_name.specs.Names.{name_cmp}
+use Rattle.inverse_deps.specs.Edges.{EdgeMap, list_at, names_in}
+use Rattle.inverse_deps.proofs.lists.Edges.of.Goals as goal
+
+pub returns-in-Ok : goal.returns-in-Ok
+returns-in-Ok c = record {
+  names =
+      c.list_of.ensures.list
+      ∙ ap (λ lists. list_at c.args.kind (Some lists)) (c.as_slice.ensures.elements ∙ ap (λ p. p.1) c.index.ensures)
+      ∙ ap (list_at c.args.kind) (sym (find_at name_cmp c.args.name.now _ _ c.index.result.now (rw c.deref.ensures.value at c.in-Ok.ensures.found)))
+      ∙ ap (λ (m : EdgeMap). names_in m c.args.kind c.args.name.now) c.self.view_is;
+}
+
+pub returns-in-Err : goal.returns-in-Err
+returns-in-Err c = record {
+  names =
+      ap (list_at c.args.kind) (sym (find_gap name_cmp c.args.name.now nat_list_cmp_total _ _ c.self.invariant (rw c.deref.ensures.value at c.in-Err.ensures.absent)))
+      ∙ ap (λ (m : EdgeMap). names_in m c.args.kind c.args.name.now) c.self.view_is;
+}

@@ -1,0 +1,76 @@
+-- The dependencies between the units of a load, as either side has them.
+-- Source: systemd.unit(5), "Mapping of unit properties to their inverses".
+use Rattle.std.specs.Prelude.{◌≡◌, ◌⊎◌, ◌↔◌, ℕ, Option, Some, None, List, []}
+use Rattle.std.specs.List.{slice_index_or}
+use Rattle.std.specs.List.Sorted.{IsStrictlySortedBy}
+use Rattle.std.specs.FinMap.{find}
+use Rattle.list_laws.specs.Members.{IsAmong}
+use Rattle.unit_name.specs.Names.{Name, name_cmp}
+use Rattle.setting_rules.specs.declared.kinds.DepKind.{DepKind}
+use Rattle.setting_rules.specs.declared.kinds.DepKind.TheVariants.{Before, After, Wants, WantedBy, Requires, RequiredBy, Requisite, RequisiteOf, BindsTo, BoundBy, PartOf, ConsistsOf, Conflicts, ConflictedBy, OnFailure, OnFailureOf, PropagatesReloadTo, ReloadPropagatedFrom}
+use Rattle.setting_rules.specs.Kinds.{inverse}
+use Rattle.unit_loads.specs.declared.units.Unit.{Unit as LoadedUnit}
+use Rattle.unit_loads.specs.NamedUnits.{IsListed}
+use Rattle.parallel_load.specs.Loads.{LoadMap, unit_in}
+
+-- ---- edges
+
+-- the name is the main name of a unit of the load
+abbrev pub IsUnitIn : LoadMap → Name → Type 0
+IsUnitIn load name = (unit : LoadedUnit) × (unit_in load name ≡ Some unit)
+
+-- The unit u has the unit v as a dependency of this kind.
+pub record DependsOn (load : LoadMap) (dep : DepKind) (u v : Name) : Type 0 where
+  pub unit : LoadedUnit
+  pub unit_is : unit_in load u ≡ Some unit
+  pub listed : IsListed unit.deps dep v
+  pub other : IsUnitIn load v
+
+-- An edge of this kind leads from the unit u to the unit v: either of the two names the other, by the kind or by its inverse.
+abbrev pub IsEdge : LoadMap → DepKind → Name → Name → Type 0
+IsEdge load dep u v = DependsOn load dep u v ⊎ DependsOn load (inverse dep) v u
+
+-- ---- lists of edges
+
+-- the place of a kind among all kinds
+abbrev pub place : DepKind → ℕ
+place Before = 0
+place After = 1
+place Wants = 2
+place WantedBy = 3
+place Requires = 4
+place RequiredBy = 5
+place Requisite = 6
+place RequisiteOf = 7
+place BindsTo = 8
+place BoundBy = 9
+place PartOf = 10
+place ConsistsOf = 11
+place Conflicts = 12
+place ConflictedBy = 13
+place OnFailure = 14
+place OnFailureOf = 15
+place PropagatesReloadTo = 16
+place ReloadPropagatedFrom = 17
+
+-- for each name a list of names for each kind, in the order of the kinds
+abbrev pub EdgeMap : Type 0
+EdgeMap = List (Name × List (List Name))
+
+-- the list of a kind; no names where there is none
+abbrev pub list_at : DepKind → Option (List (List Name)) → List Name
+list_at dep None = []
+list_at dep (Some lists) = slice_index_or lists (place dep) []
+
+-- the names to which edges of this kind lead from a name
+abbrev pub names_in : EdgeMap → DepKind → Name → List Name
+names_in edges dep name = list_at dep (find name_cmp name edges)
+
+-- these are the units to which edges of this kind lead from a unit, each once, in byte order
+pub record AreEdgesFrom (load : LoadMap) (dep : DepKind) (u : Name) (names : List Name) : Type 0 where
+  pub rising : IsStrictlySortedBy name_cmp names
+  pub exact : (v : Name) → IsAmong v names ↔ IsEdge load dep u v
+
+-- These are all edges of the load.
+abbrev pub AreEdges : LoadMap → EdgeMap → Type 0
+AreEdges load edges = (dep : DepKind) (u : Name) → AreEdgesFrom load dep u (names_in edges dep u)

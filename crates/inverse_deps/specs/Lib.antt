@@ -1,0 +1,7 @@
+pub mod EdgeLaws
+pub mod Edges
+pub mod MakingLaws
+pub mod NamingLaws
+pub mod NumberLaws
+pub mod Tables
+pub mod Numbers

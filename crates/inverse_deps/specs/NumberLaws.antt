@@ -1,0 +1,88 @@
+-- Numbers of names: they compare as the names do, each unit has one, and what is loaded for a name stands at its number.
+use Rattle.std.proofs.Common.{◌≡◌, ◌<◌, ℕ, zero, suc, List, [], ◌∷◌, length, get_or, cond, IsTrue, Option, Some, None, refl, ap, sym, ◌∙◌, arith}
+use Rattle.std.specs.Map.{keys_of}
+use Rattle.std.specs.Option.{option_and_then}
+use Rattle.std.specs.Cmp.{IsTotalOrder}
+use Rattle.std.specs.Cmp.Lexicographic.{nat_list_cmp_total}
+use Rattle.std.specs.FinMap.{IsAntisymmetric}
+use Rattle.std.specs.FinMap.Entries.{find, is_sorted, below_all}
+use Rattle.std.specs.Ordering.{is_eq}
+use Rattle.std.specs.declared.cmp.Ordering.{Ordering}
+use Rattle.std.specs.declared.cmp.Ordering.TheVariants.{Less, Equal, Greater}
+use Rattle.std.proofs.lemmas.Bool.{and_parts}
+use Rattle.std.proofs.lemmas.Cmp.{tied_itself}
+use Rattle.std.proofs.lemmas.Option.{none-some}
+use Rattle.list_laws.specs.Orderings.{is_less, turned}
+use Rattle.index_rows.specs.Numbering.{IsNumbering}
+use Rattle.unit_name.specs.Names.{Name, name_cmp}
+use Rattle.unit_name.specs.NameLaws.{name_cmp-IsAntisymmetric}
+use Rattle.parallel_load.specs.declared.loaded.NameLoad.{NameLoad}
+use Rattle.parallel_load.specs.Loads.{LoadMap, load_at, unit_in, unit_part}
+use Rattle.inverse_deps.specs.Edges.{IsUnitIn}
+use Rattle.inverse_deps.specs.Numbers.{count_of, name_at}
+
+-- the key at a place
+pub key_at_place : {K V : Type 0} (es : List (K × V)) (i : ℕ) (d : K × V) (k : K) → i < length es → (get_or es i d).0 ≡ get_or (keys_of es) i k
+key_at_place [] i d k l = absurd (omega arith)
+key_at_place (e ∷ es) zero d k l = refl
+key_at_place (e ∷ es) (suc i) d k l = key_at_place es i d k (omega arith)
+
+pub keys_length : {K V : Type 0} (es : List (K × V)) → length (keys_of es) ≡ length es
+keys_length [] = refl
+keys_length (x ∷ xs) = ap suc (keys_length xs)
+
+module _ {K V : Type 0} (R : K → K → Ordering) where
+  below_key : (x : K) (es : List (K × V)) (j : ℕ) (d : K) → IsTrue (below_all R x es) → j < length es → R x (get_or (keys_of es) j d) ≡ Less
+  below_key x [] j d h l = absurd (omega arith)
+  below_key x (e ∷ es) zero d h l = is_less _ (and_parts _ _ h).0
+  below_key x (e ∷ es) (suc j) d h l = below_key x es j d (and_parts _ _ h).1 (omega arith)
+
+  keys_rise : (es : List (K × V)) (i j : ℕ) (d : K) → IsTrue (is_sorted R es) → i < j → j < length es → R (get_or (keys_of es) i d) (get_or (keys_of es) j d) ≡ Less
+  keys_rise [] i j d s l m = absurd (omega arith)
+  keys_rise (e ∷ es) i zero d s l m = absurd (omega arith)
+  keys_rise (e ∷ es) zero (suc j) d s l m = below_key e.0 es j d (and_parts _ _ s).0 (omega arith)
+  keys_rise (e ∷ es) (suc i) (suc j) d s l m = keys_rise es i j d (and_parts _ _ s).1 (omega arith) (omega arith)
+
+  -- what is found at the key of a place stands there
+  pub find_place : IsTotalOrder R → (es : List (K × V)) (i : ℕ) (k : K) (d : K × V) → IsTrue (is_sorted R es) → i < length es
+      → find R (get_or (keys_of es) i k) es ≡ Some (get_or es i d).1
+  find_place o [] i k d s l = absurd (omega arith)
+  find_place o (e ∷ es) zero k d s l = ap (λ r. cond (is_eq r) (Some e.1) (find R e.0 es)) (tied_itself o e.0)
+  find_place o (e ∷ es) (suc i) k d s l =
+      let below = below_key e.0 es i k (and_parts _ _ s).0 (omega arith) in
+      let key = get_or (keys_of es) i k in
+      ap (λ r. cond (is_eq r) (Some e.1) (find R key es)) (turned R o e.0 key Less below)
+      ∙ find_place o es i k d (and_parts _ _ s).1 (omega arith)
+
+  -- what is found has a place
+  pub place_of_found : IsAntisymmetric R → (k : K) (es : List (K × V)) (v : V) (d : K) → find R k es ≡ Some v
+      → (i : ℕ) × ((i < length es) × (get_or (keys_of es) i d ≡ k))
+  place_of_found exact k [] v d h = absurd (none-some _ h)
+  place_of_found exact k (e ∷ es) v d h = by (R k e.0) refl h (place_of_found exact k es v d)
+    where
+      later : (i : ℕ) × ((i < length es) × (get_or (keys_of es) i d ≡ k)) → (i : ℕ) × ((i < length (e ∷ es)) × (get_or (keys_of (e ∷ es)) i d ≡ k))
+      later r = let l = r.1.0 in (suc r.0, (omega arith, r.1.1))
+
+      by : (r : Ordering) → R k e.0 ≡ r → cond (is_eq r) (Some e.1) (find R k es) ≡ Some v
+          → (find R k es ≡ Some v → (i : ℕ) × ((i < length es) × (get_or (keys_of es) i d ≡ k)))
+          → (i : ℕ) × ((i < length (e ∷ es)) × (get_or (keys_of (e ∷ es)) i d ≡ k))
+      by Less c f more = later (more f)
+      by Equal c f more = (0, (omega arith, sym (exact k e.0 c)))
+      by Greater c f more = later (more f)
+
+module _ (load : LoadMap) (sorted : IsTrue (is_sorted name_cmp load.names)) where
+  -- names in byte order rise with their numbers
+  pub load_numbering : IsNumbering (count_of load) (name_at load) name_cmp
+  load_numbering = record { rises = λ i j l m. keys_rise name_cmp load.names i j [] sorted l m }
+
+  -- the unit of a name is what stands at its number, if that is a unit
+  pub unit_at : (i : ℕ) (d : Name × NameLoad) → i < count_of load → unit_in load (name_at load i) ≡ unit_part (get_or load.names i d).1
+  unit_at i d l = ap (λ o. option_and_then unit_part o) (find_place name_cmp nat_list_cmp_total load.names i [] d sorted l)
+
+-- each unit has a number
+pub unit_number : (load : LoadMap) (u : Name) → IsUnitIn load u → (i : ℕ) × ((i < count_of load) × (name_at load i ≡ u))
+unit_number load u h = by (load_at load u) refl h.1
+  where
+    by : (o : Option NameLoad) → load_at load u ≡ o → option_and_then unit_part o ≡ Some h.0 → (i : ℕ) × ((i < count_of load) × (name_at load i ≡ u))
+    by None e f = absurd (none-some _ f)
+    by (Some v) e f = place_of_found name_cmp name_cmp-IsAntisymmetric u load.names v [] e

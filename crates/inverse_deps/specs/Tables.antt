@@ -1,0 +1,30 @@
+-- Edges by numbers, kind by kind: words for private clauses.
+-- Source: this project's own.
+use Rattle.std.specs.Prelude.{◌≡◌, ◌<◌, ℕ, List, [], length}
+use Rattle.std.specs.List.{slice_index_or}
+use Rattle.std.specs.declared.vec.Vec.{Vec}
+use Rattle.std.specs.declared.alloc.Global.{Global}
+use Rattle.name_closure.specs.ListedLaws.{Named}
+use Rattle.index_rows.specs.Numbering.{AreNamedSteps}
+use Rattle.index_rows.specs.Rows.{row, AreRowsOf}
+use Rattle.unit_name.specs.Names.{Name}
+use Rattle.setting_rules.specs.declared.kinds.DepKind.{DepKind}
+use Rattle.setting_rules.specs.declared.kinds.DepKind.TheVariants.{Before}
+use Rattle.setting_rules.specs.Kinds.{kinds}
+use Rattle.parallel_load.specs.Loads.{LoadMap}
+use Rattle.inverse_deps.specs.Edges.{IsEdge, AreEdgesFrom, place}
+use Rattle.inverse_deps.specs.Numbers.{count_of, name_at}
+
+-- rows of the edges of a kind
+pub record AreEdgeRows (load : LoadMap) (dep : DepKind) (rows : List (Vec ℕ Global)) : Type 0 where
+  pub steps : AreNamedSteps (count_of load) (name_at load) (Named (row rows)) (IsEdge load dep)
+  pub within : AreRowsOf (count_of load) rows
+
+-- such rows for each kind, in the order of the kinds
+pub record AreTables (load : LoadMap) (tables : List (Vec (Vec ℕ Global) Global)) : Type 0 where
+  pub all : length tables ≡ length kinds
+  pub each : (k : ℕ) (d : Vec (Vec ℕ Global) Global) → k < length kinds → AreEdgeRows load (slice_index_or kinds k Before) (slice_index_or tables k d).items
+
+-- the edges from a unit, kind by kind
+abbrev pub AreListsFrom : LoadMap → Name → List (List Name) → Type 0
+AreListsFrom load u lists = (dep : DepKind) → AreEdgesFrom load dep u (slice_index_or lists (place dep) [])

@@ -1,0 +1,59 @@
+//! The edges of a load are found kind by kind, and listed unit by unit.
+ghost use Rattle.std.specs.Prelude.{◌<◌, IfOk};
+ghost use Rattle.inverse_deps.specs.Edges.{AreEdges};
+ghost use Rattle.inverse_deps.specs.Numbers.{count_of, name_at};
+ghost use Rattle.inverse_deps.specs.Tables.{AreListsFrom, AreTables};
+
+use crate::lists::Edges;
+use crate::numbers::names_of;
+use crate::steps::edge_rows;
+use index_rows::row;
+use parallel_load::Loaded;
+use section_reader::Items;
+use setting_rules::{DepKind, in_byte_order};
+use std::alloc::{AllocError, Global};
+use unit_name::UnitName;
+
+/// All edges of a load. It fails for want of memory alone. O(n) and the dependencies, beside the logarithm of n, for n names.
+pub fn edges(alloc: Global, loaded: &Loaded) -> Result<Edges, AllocError>
+    ensures edges { IfOk result (AreEdges loaded.now) }
+{
+    let tables = tables(alloc, loaded)?;
+    let names = loaded.names();
+    let mut units = Vec::new(alloc);
+    'names: for number in 0..names.len() {
+        let name = names[number].0.try_clone()?;
+        units.push((name, lists_at(alloc, loaded, &tables, number)?))?;
+    }
+    Ok(Edges::new(units))
+}
+
+// For each kind, in order, the rows of its edges.
+fn tables(alloc: Global, loaded: &Loaded) -> Result<Vec<Vec<Vec<usize>>>, AllocError>
+    ensures tables { IfOk result (λ tables. AreTables loaded.now tables.items) }
+{
+    let mut tables = Vec::new(alloc);
+    'kinds: for kind in DepKind::all() {
+        tables.push(edge_rows(alloc, loaded, *kind)?)?;
+    }
+    Ok(tables)
+}
+
+// The edges from a unit, kind by kind.
+fn lists_at(
+    alloc: Global,
+    loaded: &Loaded,
+    tables: &[Vec<Vec<usize>>],
+    number: usize,
+) -> Result<Items<Items<UnitName>>, AllocError>
+    requires tables { AreTables loaded.now tables.now }
+    requires number { number < count_of loaded.now }
+    ensures lists { IfOk result (AreListsFrom loaded.now (name_at loaded.now number)) }
+{
+    let mut lists = Items::new(alloc);
+    'tables: for table in tables {
+        let names = names_of(alloc, loaded, row(table, number))?;
+        lists.push(in_byte_order(names))?;
+    }
+    Ok(lists)
+}

@@ -1,0 +1,16 @@
+//! The dependencies between the units of a load, as either side has them.
+//!
+//! A unit's files name others by a kind, and the other unit then has the inverse of that kind. What a unit has of a kind
+//! is what it names by it, and all that name it by the inverse, whether or not they are planned for.
+#![tactic(auto)]
+
+mod building;
+mod laws;
+mod lists;
+mod numbers;
+mod steps;
+
+pub use building::edges;
+pub use laws::edge_laws;
+pub use lists::Edges;
+pub use numbers::{names_of, number_of, numbers_of};

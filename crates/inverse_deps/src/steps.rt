@@ -1,0 +1,75 @@
+//! Steps between the units of a load, by rows of numbers.
+ghost use Rattle.std.specs.Prelude.{◌≡◌, Some, IfOk, IsTrue};
+ghost use Rattle.std.specs.FinMap.{is_sorted};
+ghost use Rattle.list_laws.specs.Members.{IsAmong};
+ghost use Rattle.name_closure.specs.ListedLaws.{Listed, Named};
+ghost use Rattle.index_rows.specs.Numbering.{AreNames, AreNamedSteps};
+ghost use Rattle.index_rows.specs.Rows.{AreRowsOf, row as row_of};
+ghost use Rattle.unit_name.specs.Names.{name_cmp};
+ghost use Rattle.unit_loads.specs.NamedUnits.{IsListed};
+ghost use Rattle.inverse_deps.specs.Edges.{DependsOn, IsEdge, IsUnitIn};
+ghost use Rattle.inverse_deps.specs.Numbers.{count_of, name_at};
+
+use crate::numbers::numbers_of;
+use index_rows::{joined, turned};
+use parallel_load::{Loaded, NameLoad};
+use setting_rules::{DepKind, DependencyList};
+use std::alloc::{AllocError, Global};
+
+// The units that lists of dependencies have for a kind.
+fn listed_numbers(
+    alloc: Global,
+    loaded: &Loaded,
+    lists: &[DependencyList],
+    kind: DepKind,
+) -> Result<Vec<usize>, AllocError>
+    ensures numbers { IfOk result (λ numbers. AreNames (count_of loaded.now) (name_at loaded.now) (Listed numbers.items)
+        (λ v. IsListed lists.now kind v × IsUnitIn loaded.now v)) }
+{
+    let mut numbers = Vec::new(alloc);
+    'lists: for list in lists {
+        if list.kind == kind {
+            let more = numbers_of(alloc, loaded, list.names.as_slice())?;
+            numbers.extend_from_slice(&more)?;
+        }
+    }
+    Ok(numbers)
+}
+
+// From each unit to those that it has as dependencies of a kind.
+fn dependency_rows(
+    alloc: Global,
+    loaded: &Loaded,
+    kind: DepKind,
+) -> Result<Vec<Vec<usize>>, AllocError>
+    ensures steps { IfOk result (λ rows. AreNamedSteps (count_of loaded.now) (name_at loaded.now)
+        (Named (row_of rows.items)) (DependsOn loaded.now kind)) }
+    ensures rows { IfOk result (λ rows. AreRowsOf (count_of loaded.now) rows.items) }
+    ensures sorted { IsTrue (is_sorted name_cmp loaded.now.names) }
+{
+    let names = loaded.names();
+    let mut rows = Vec::new(alloc);
+    'names: for number in 0..names.len() {
+        rows.push(match &names[number].1 {
+            NameLoad::Unit(unit) => listed_numbers(alloc, loaded, unit.deps.as_slice(), kind)?,
+            NameLoad::Alias(_) => Vec::new(alloc),
+        })?;
+    }
+    Ok(rows)
+}
+
+/// From each unit to those to which edges of a kind lead. O(n) and the dependencies, beside the logarithm of n.
+pub(crate) fn edge_rows(
+    alloc: Global,
+    loaded: &Loaded,
+    kind: DepKind,
+) -> Result<Vec<Vec<usize>>, AllocError>
+    ensures steps { IfOk result (λ rows. AreNamedSteps (count_of loaded.now) (name_at loaded.now)
+        (Named (row_of rows.items)) (IsEdge loaded.now kind)) }
+    ensures rows { IfOk result (λ rows. AreRowsOf (count_of loaded.now) rows.items) }
+{
+    let named = dependency_rows(alloc, loaded, kind)?;
+    let naming = dependency_rows(alloc, loaded, kind.inverse())?;
+    let naming = turned(alloc, &naming)?;
+    Ok(joined(alloc, &named, &naming)?)
+}

@@ -1,0 +1,29 @@
+//! What a node's history has.
+use delta_pieces::Piece;
+use edit_sums::Edit;
+use replica_store::Replica;
+
+/// What a history has: first what the node opened over, and then takes, each with the number of the seat
+/// that made it. The code makes no value of it: it stands in contracts alone.
+pub enum Event {
+    /// The replica that the node opened over.
+    Opening(Replica),
+    /// A seat's edit.
+    Edited(u64, Edit),
+    /// A piece that a seat took.
+    Absorbed(u64, Piece),
+}
+
+// An edit, with the seat that asks for it.
+#[derive(Drop)]
+pub(crate) struct AskedEdit {
+    pub(crate) seat: u64,
+    pub(crate) edit: Edit,
+}
+
+// A piece, with the seat that asks for it.
+#[derive(Drop)]
+pub(crate) struct AskedPiece {
+    pub(crate) seat: u64,
+    pub(crate) piece: Piece,
+}

@@ -1,0 +1,4 @@
+mod Closing
+mod Rows
+mod Settling
+mod Steps

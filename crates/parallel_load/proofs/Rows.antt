@@ -1,0 +1,170 @@
+-- The names at which something is visible, rank by rank.
+use Rattle.std.proofs.Common.{◌≡◌, ℕ, zero, suc, ◌+◌, ◌<◌, ◌≤◌, Bool, true, false, T, ◌==◌, ◌&&◌, not, if◌then◌else◌, Option, Some, None, is_some, List, [], ◌∷◌, ◌++◌, filter, IsTrue, refl, ap, sym, ◌∙◌, subst, inl, inr, arith, eq-eqb, append_assoc}
+use Rattle.std.specs.Prelude.{◌↔◌, ◌⊎◌, ◌≢◌, IsSome}
+use Rattle.std.specs.Option.{option_and_then}
+use Rattle.std.specs.Str.{bytes_eq}
+use Rattle.std.specs.FinMap as finmap
+use Rattle.std.proofs.lemmas.Bool.{and_from, and_parts, eqb-true}
+use Rattle.std.proofs.lemmas.Option.{same_Some}
+use Rattle.list_laws.specs.Members.{IsAmong, IsAmong-append_cases, IsAmong-append_left, IsAmong-append_right}
+use Rattle.load_path.specs.Paths.{PathParts, path_cmp}
+use Rattle.load_path.specs.PathLaws.{path_cmp-IsAntisymmetric, path_cmp_total}
+use Rattle.edit_sums.specs.Entries.{Entry}
+use Rattle.edit_sums.specs.Sums.{EntryMap, shown, visible_at}
+use Rattle.path_maps.specs.Folders.{is_in}
+use Rattle.unit_name.specs.declared.names.Shape.{Shape as UnitShape}
+use Rattle.unit_name.specs.declared.names.Shape.TheVariants.{Plain, Template, Instance}
+use Rattle.unit_name.specs.Names.{Name, IsName, is_name, shape}
+use Rattle.fragment_choice.specs.Choices.{own_path}
+use Rattle.unit_loads.specs.MemberLaws.{among_filter, among_filter_map, filter_among, filter_map_among}
+use Rattle.parallel_load.specs.PairLaws.{among_find, find_among}
+use Rattle.parallel_load.specs.Sources.{is_template, visible_name, visible_names}
+use Rattle.parallel_load.specs.Universe.{IsSource, IsVisibleAt}
+
+-- those of the ranks below this one
+abbrev pub names_below : EntryMap → ℕ → List Name
+names_below s zero = []
+names_below s (suc rank) = names_below s rank ++ visible_names s rank
+
+pub one_rank_more : (s : EntryMap) (rank : ℕ) (extra old new : List Name) → old ≡ extra ++ names_below s rank → new ≡ old ++ visible_names s rank → new ≡ extra ++ names_below s (rank + 1)
+one_rank_more s rank extra old new e f =
+    f ∙ ap (λ (ns : List Name). ns ++ visible_names s rank) e ∙ append_assoc extra (names_below s rank) (visible_names s rank)
+    ∙ ap (λ (r : ℕ). extra ++ names_below s r) (sym (succ_is rank))
+  where
+    succ_is : (r : ℕ) → r + 1 ≡ suc r
+    succ_is r = omega arith
+
+not_template : (sh : UnitShape) → not (is_template sh) ≡ true → sh ≢ Template
+not_template Plain h e = cc
+not_template Template h e = cc
+not_template Instance h e = cc
+
+template_not : (sh : UnitShape) → sh ≢ Template → not (is_template sh) ≡ true
+template_not Plain h = refl
+template_not Template h = absurd (h refl)
+template_not Instance h = refl
+
+-- what three tests let pass
+record HasPassed (a b c : Bool) (m n : Name) : Type 0 where
+  first : a ≡ true
+  second : b ≡ true
+  third : c ≡ true
+  same : m ≡ n
+
+from_if : (a b c : Bool) (m n : Name) → (if a && b && c then Some m else None) ≡ Some n → HasPassed a b c m n
+from_if true true true m n h = record { first = refl; second = refl; third = refl; same = same_Some _ _ h }
+from_if true true false m n h = cc (h)
+from_if true false c m n h = cc (h)
+from_if false b c m n h = cc (h)
+
+to_if : (a b c : Bool) (m : Name) → a ≡ true → b ≡ true → c ≡ true → (if a && b && c then Some m else None) ≡ Some m
+to_if true true true m e f g = refl
+to_if true true false m e f g = cc (g)
+to_if true false c m e f g = cc (f)
+to_if false b c m e f g = cc (e)
+
+-- the parts of a path of one component
+own_is : (rank : ℕ) (p : PathParts) (n : Name) → is_in rank [] p ≡ true → p.name ≡ n → p ≡ own_path n rank
+own_is rank p n h e =
+    let parts = and_parts _ _ h in
+    ap (λ (r : ℕ). let q : PathParts = record { rank = r; folder = p.folder; name = p.name } in q) (eq-eqb-back p.rank rank parts.0)
+    ∙ ap (λ (f : List ℕ). let q : PathParts = record { rank = rank; folder = f; name = p.name } in q) (no_bytes p.folder parts.1)
+    ∙ ap (λ (m : Name). own_path m rank) e
+  where
+    eq-eqb-back : (a b : ℕ) → (a == b) ≡ true → a ≡ b
+    eq-eqb-back a b k = eqb-true a b k
+
+    no_bytes : (f : List ℕ) → bytes_eq f [] ≡ true → f ≡ []
+    no_bytes [] k = refl
+    no_bytes (x ∷ f) k = cc (k)
+
+some_shown : (s : EntryMap) (q : PathParts) → IsSome (visible_at s q) → (x : Entry) × (finmap.get s q ≡ Some x) × (is_some (shown x) ≡ true)
+some_shown s q h = by (finmap.get s q) refl h
+  where
+    by : (o : Option Entry) → finmap.get s q ≡ o → IsSome (option_and_then shown o) → (x : Entry) × (finmap.get s q ≡ Some x) × (is_some (shown x) ≡ true)
+    by None e k = cc (k)
+    by (Some x) e k = (x, e, k)
+
+record IsShownName (p : PathParts × Entry) (n : Name) : Type 0 where
+  shown_is : is_some (shown p.1) ≡ true
+  name : IsName n
+  whole : shape n ≢ Template
+  at : p.0.name ≡ n
+
+visible_from : (p : PathParts × Entry) (n : Name) → visible_name p ≡ Some n → IsShownName p n
+visible_from p n h =
+    let r = from_if (is_some (shown p.1)) (is_name p.0.name) (not (is_template (shape p.0.name))) p.0.name n h in
+    record {
+      shown_is = r.first;
+      name = subst IsName r.same r.second;
+      whole = subst (λ (m : Name). shape m ≢ Template) r.same (not_template (shape p.0.name) r.third);
+      at = r.same;
+    }
+
+visible_to : (p : PathParts × Entry) → is_some (shown p.1) ≡ true → IsName p.0.name → shape p.0.name ≢ Template → visible_name p ≡ Some p.0.name
+visible_to p shown_is name whole =
+    to_if (is_some (shown p.1)) (is_name p.0.name) (not (is_template (shape p.0.name))) p.0.name shown_is name (template_not (shape p.0.name) whole)
+
+module _ (s : EntryMap) (rank : ℕ) where
+  pub visible_is : (n : Name) → IsAmong n (visible_names s rank) → IsVisibleAt s rank n
+  visible_is n h =
+      let r = among_filter_map visible_name (filter (λ p. is_in rank [] p.0) (finmap.entries s)) n h in
+      let here = among_filter (λ (p : PathParts × Entry). is_in rank [] p.0) (finmap.entries s) r.source r.there in
+      let v = visible_from r.source n r.makes in
+      let own = own_is rank r.source.0 n here.1 v.at in
+      let got : finmap.get s (own_path n rank) ≡ Some r.source.1 =
+      finmap.get-entries s (own_path n rank)
+      ∙ among_find path_cmp path_cmp_total (own_path n rank) r.source.1 (finmap.entries s) (is_true _ (finmap.entries_sorted s))
+      (subst (λ (q : PathParts). IsAmong {X = PathParts × Entry} (q, r.source.1) (finmap.entries s)) own here.0) in
+      record { name = v.name; whole = v.whole; shown = ap (λ (o : Option Entry). is_some (option_and_then shown o)) got ∙ v.shown_is }
+    where
+      is_true : (b : Bool) → T b → IsTrue b
+      is_true true k = refl
+      is_true false k = absurd k
+
+  pub is_visible : (n : Name) → IsVisibleAt s rank n → IsAmong n (visible_names s rank)
+  is_visible n v =
+      let x = some_shown s (own_path n rank) v.shown in
+      let there : IsAmong {X = PathParts × Entry} (own_path n rank, x.0) (finmap.entries s) =
+      find_among path_cmp path_cmp-IsAntisymmetric (own_path n rank) (finmap.entries s) x.0 (sym (finmap.get-entries s (own_path n rank)) ∙ x.1) in
+      filter_map_among visible_name (filter (λ p. is_in rank [] p.0) (finmap.entries s)) (own_path n rank, x.0) n
+      (filter_among (λ (p : PathParts × Entry). is_in rank [] p.0) (finmap.entries s) (own_path n rank, x.0) there (and_from _ _ (eq-eqb rank rank refl) refl))
+      (visible_to (own_path n rank, x.0) x.2 v.name v.whole)
+
+below_is : (s : EntryMap) (k : ℕ) (n : Name) → IsAmong n (names_below s k) → (rank : ℕ) × (rank < k) × IsVisibleAt s rank n
+below_is s zero n h = absurd h
+below_is s (suc k) n h = by (below_is s k n) (IsAmong-append_cases n (names_below s k) (visible_names s k) h)
+  where
+    by : (IsAmong n (names_below s k) → (rank : ℕ) × (rank < k) × IsVisibleAt s rank n) → IsAmong n (names_below s k) ⊎ IsAmong n (visible_names s k)
+        → (rank : ℕ) × (rank < suc k) × IsVisibleAt s rank n
+    by more (inl a) = let r = more a in let lt = r.1 in (r.0, omega arith, r.2)
+    by more (inr b) = (k, omega arith, visible_is s k n b)
+
+less_or_is : (a b : ℕ) → a ≤ b → (a < b) ⊎ (a ≡ b)
+less_or_is zero zero l = inr refl
+less_or_is zero (suc b) l = inl (omega arith)
+less_or_is (suc a) zero l = absurd (omega arith)
+less_or_is (suc a) (suc b) l = elim (less_or_is a b (omega arith)) [ inl k ↦ inl (omega arith) | inr e ↦ inr (ap suc e) ]
+
+is_below : (s : EntryMap) (k rank : ℕ) (n : Name) → rank < k → IsVisibleAt s rank n → IsAmong n (names_below s k)
+is_below s zero rank n lt v = absurd (omega arith)
+is_below s (suc k) rank n lt v = by (λ l. is_below s k rank n l v) (less_or_is rank k (omega arith))
+  where
+    by : (rank < k → IsAmong n (names_below s k)) → (rank < k) ⊎ (rank ≡ k) → IsAmong n (names_below s k ++ visible_names s k)
+    by more (inl a) = IsAmong-append_left n (names_below s k) (visible_names s k) (more a)
+    by more (inr e) = IsAmong-append_right n (names_below s k) (visible_names s k) (is_visible s k n (subst (λ (r : ℕ). IsVisibleAt s r n) e v))
+
+-- the names that are asked for and those of all ranks are the sources
+pub sources_are : (s : EntryMap) (extra names : List Name) (rank : ℕ) → names ≡ extra ++ names_below s rank → rank ≡ 4 → (n : Name) → IsAmong n names ↔ IsSource s extra n
+sources_are s extra names rank e f n = (λ h. there (IsAmong-append_cases n extra (names_below s 4) (subst (λ (ns : List Name). IsAmong n ns) all h)), λ h. subst (λ (ns : List Name). IsAmong n ns) (sym all) (back h))
+  where
+    all : names ≡ extra ++ names_below s 4
+    all = e ∙ ap (λ (r : ℕ). extra ++ names_below s r) f
+
+    there : IsAmong n extra ⊎ IsAmong n (names_below s 4) → IsSource s extra n
+    there (inl a) = inl a
+    there (inr b) = inr (below_is s 4 n b)
+
+    back : IsSource s extra n → IsAmong n (extra ++ names_below s 4)
+    back (inl a) = IsAmong-append_left n extra (names_below s 4) a
+    back (inr v) = IsAmong-append_right n extra (names_below s 4) (is_below s 4 v.0 n v.1 v.2)

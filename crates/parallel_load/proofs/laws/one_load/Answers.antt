@@ -1,0 +1,5 @@
+use Rattle.parallel_load.specs.LoadLaws.{one_load}
+use Rattle.parallel_load.proofs.laws.one_load.Goals as goal
+
+pub returns : goal.returns
+returns c = record { one = one_load }

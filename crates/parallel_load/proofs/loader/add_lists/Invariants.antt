@@ -1,0 +1,6 @@
+use Rattle.std.proofs.Common.{◌≡◌, ◌++◌, take}
+use Rattle.parallel_load.specs.Alone.{names_in_lists}
+use Rattle.parallel_load.proofs.loader.add_lists.Given as goal
+
+abbrev pub invariant-loop-list : goal.invariant-loop-list
+invariant-loop-list l = l.names.items ≡ l.initial.names.items ++ names_in_lists (take l.list-index l.lists)

@@ -1,0 +1,30 @@
+-- What is loaded for a name before main names are put in: words for private clauses, and for the laws of loads.
+-- Source: this project's own.
+use Rattle.std.specs.Prelude.{List, [], ◌∷◌}
+use Rattle.std.specs.List.{flat_map}
+use Rattle.edit_sums.specs.Sums.{EntryMap}
+use Rattle.unit_name.specs.Names.{Name}
+use Rattle.setting_rules.specs.declared.dependency_lists.DependencyList.{DependencyList}
+use Rattle.unit_loads.specs.Units.{IsUnit}
+use Rattle.parallel_load.specs.declared.loaded.NameLoad.{NameLoad}
+use Rattle.parallel_load.specs.declared.loaded.NameLoad.TheVariants.{Unit as OfUnit, Alias as OfAlias}
+use Rattle.parallel_load.specs.Loads.{IsAliasOf, by_mains}
+
+-- a unit as it is loaded alone, or what a name is an alias of
+abbrev pub IsLoadAlone : EntryMap → Name → NameLoad → Type 0
+IsLoadAlone s name (OfUnit unit) = IsUnit s name unit
+IsLoadAlone s name (OfAlias of) = IsAliasOf s name of
+
+-- all names in lists of dependencies
+abbrev pub names_in_lists : List DependencyList → List Name
+names_in_lists lists = flat_map (λ list. list.names) lists
+
+-- the names that must be loaded too
+abbrev pub named_in : NameLoad → List Name
+named_in (OfUnit unit) = names_in_lists unit.deps
+named_in (OfAlias of) = of ∷ []
+
+-- what is loaded, with dependencies by main names
+abbrev pub with_mains : (Name → Name) → NameLoad → NameLoad
+with_mains main_of (OfUnit unit) = OfUnit (by_mains main_of unit)
+with_mains main_of (OfAlias of) = OfAlias of

@@ -1,0 +1,11 @@
+pub mod Alone
+pub mod AloneLaws
+pub mod LoadLaws
+pub mod Loads
+pub mod Mains
+pub mod PairLaws
+pub mod Refusals
+pub mod Settled
+pub mod Sources
+pub mod Universe
+pub mod UniverseLaws

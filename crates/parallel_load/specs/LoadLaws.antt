@@ -1,0 +1,34 @@
+-- Laws of loads: a store has one.
+use Rattle.std.specs.Prelude.{◌≡◌, List}
+use Rattle.std.specs.Map.{keys_of}
+use Rattle.std.specs.Cmp.Lexicographic.{nat_list_cmp_total}
+use Rattle.std.proofs.Common.{ap, sym, ◌∙◌}
+use Rattle.edit_sums.specs.Sums.{EntryMap}
+use Rattle.unit_name.specs.Names.{Name, name_cmp}
+use Rattle.fragment_choice.specs.Resolutions.{main}
+use Rattle.name_closure.specs.ClosureLaws.{one_closure}
+use Rattle.name_closure.specs.LoadingLaws.{one_load_of_nodes}
+use Rattle.unit_loads.specs.UnitLaws.{one_unit}
+use Rattle.parallel_load.specs.declared.loaded.NameLoad.{NameLoad}
+use Rattle.parallel_load.specs.declared.loaded.NameLoad.TheVariants.{Unit as OfUnit, Alias as OfAlias}
+use Rattle.parallel_load.specs.Loads.{IsLoad, IsNameLoad, LoadMap, by_mains}
+use Rattle.parallel_load.specs.Universe.{IsSource, LeadsTo}
+
+-- A store and names that are asked for have one load.
+abbrev pub OneLoad : Type 0
+OneLoad = (s : EntryMap) (extra : List Name) (a b : LoadMap) → IsLoad s extra a → IsLoad s extra b → a ≡ b
+
+-- and a name stands for one thing
+pub one_name_load : (s : EntryMap) (name : Name) (x y : NameLoad) → IsNameLoad s name x → IsNameLoad s name y → x ≡ y
+one_name_load s name (OfUnit u) (OfUnit v) p q =
+    ap OfUnit (p.by_mains_is ∙ ap (by_mains (main s)) (one_unit s name p.alone q.alone p.is_unit q.is_unit) ∙ sym q.by_mains_is)
+one_name_load s name (OfUnit u) (OfAlias m) p q = absurd (q.other (sym q.main_is ∙ p.is_unit.main_is))
+one_name_load s name (OfAlias m) (OfUnit v) p q = absurd (p.other (sym p.main_is ∙ q.is_unit.main_is))
+one_name_load s name (OfAlias m) (OfAlias k) p q = ap OfAlias (sym p.main_is ∙ q.main_is)
+
+pub one_load : OneLoad
+one_load s extra a b p q =
+    let nodes = one_closure (IsSource s extra) (LeadsTo s) name_cmp nat_list_cmp_total (keys_of a.names) (keys_of b.names) p.universe q.universe in
+    let names = one_load_of_nodes (IsNameLoad s) (one_name_load s) a.names b.names nodes p.loaded q.loaded in
+    ap (λ (x : List Name). let l : LoadMap = record { extra = x; names = a.names } in l) (p.extra_is ∙ sym q.extra_is)
+    ∙ ap (λ (x : List (Name × NameLoad)). let l : LoadMap = record { extra = b.extra; names = x } in l) names

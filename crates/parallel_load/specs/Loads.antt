@@ -1,0 +1,96 @@
+-- What a load of a store is: for each name of the universe its unit, or the main name of which it is an alias.
+-- Source: systemd.unit(5), "Description"; that dependencies are told by main names is this project's own.
+use Rattle.std.specs.Prelude.{◌≡◌, ◌≢◌, not, Option, Some, None, List, map, filter, refl}
+use Rattle.std.specs.Coded.{Coded, code_by, coded×, coded_list, coded_ℕ}
+use Rattle.std.specs.List.{filter_map}
+use Rattle.std.specs.FinMap.{find}
+use Rattle.std.specs.Map.{keys_of}
+use Rattle.std.specs.Option.{option_and_then, option_map}
+use Rattle.edit_sums.specs.Sums.{EntryMap}
+use Rattle.unit_name.specs.Names.{Name, name_cmp}
+use Rattle.setting_rules.specs.declared.dependency_lists.DependencyList.{DependencyList}
+use Rattle.setting_rules.specs.Dependencies.{in_byte_order}
+use Rattle.fragment_choice.specs.Choices.{is_same}
+use Rattle.fragment_choice.specs.Resolutions.{main}
+use Rattle.name_closure.specs.Loading.{AreLoaded}
+use Rattle.unit_loads.specs.declared.units.Unit.{Unit as LoadedUnit}
+use Rattle.unit_loads.specs.Units.{IsUnit}
+use Rattle.parallel_load.specs.contracts.loaded.NameLoad as one
+use Rattle.parallel_load.specs.declared.loaded.NameLoad.{NameLoad}
+use Rattle.parallel_load.specs.declared.loaded.NameLoad.TheVariants.{Unit as OfUnit, Alias as OfAlias}
+use Rattle.parallel_load.specs.Universe.{AreUniverse}
+
+-- ---- dependencies by main names
+
+-- names as they stand in a unit's dependencies: the main name of each, without the unit, in byte order
+abbrev pub mains_of : (Name → Name) → Name → List Name → List Name
+mains_of main_of unit names = in_byte_order (filter (λ m. not (is_same m unit)) (map main_of names))
+
+abbrev pub list_by_mains : (Name → Name) → Name → DependencyList → DependencyList
+list_by_mains main_of unit list = record { kind = list.kind; names = mains_of main_of unit list.names }
+
+-- a unit with its dependencies by main names
+abbrev pub by_mains : (Name → Name) → LoadedUnit → LoadedUnit
+by_mains main_of unit = record unit { deps = map (list_by_mains main_of unit.name) unit.deps }
+
+-- ---- what a name stands for
+
+-- This is the unit of a main name in a load: as it is loaded alone, but that its dependencies are main names.
+pub record IsLoadedUnit (s : EntryMap) (name : Name) (unit : LoadedUnit) : Type 0 where
+  pub alone : LoadedUnit
+  pub is_unit : IsUnit s name alone
+  pub by_mains_is : unit ≡ by_mains (main s) alone
+
+-- the name is an alias of this main name
+pub record IsAliasOf (s : EntryMap) (name of : Name) : Type 0 where
+  pub main_is : main s name ≡ of
+  pub other : of ≢ name
+
+-- This is what a name stands for.
+abbrev pub IsNameLoad : EntryMap → Name → NameLoad → Type 0
+IsNameLoad s name (OfUnit unit) = IsLoadedUnit s name unit
+IsNameLoad s name (OfAlias of) = IsAliasOf s name of
+
+-- ---- the load
+
+-- what is loaded: the names that were asked for, and all names in byte order, each with what it stands for
+pub record LoadMap : Type 0 where
+  pub extra : List Name
+  pub names : List (Name × NameLoad)
+
+abbrev pub coded_load : Coded LoadMap
+coded_load =
+    code_by (List Name × List (Name × NameLoad)) (coded× (coded_list (coded_list coded_ℕ)) (coded_list (coded× (coded_list coded_ℕ) (one.the_row).coded)))
+    (λ l. (l.extra, l.names)) (λ p. record { extra = p.0; names = p.1 }) (λ _. refl)
+
+-- This is the load of a store with the names that are asked for.
+pub record IsLoad (s : EntryMap) (extra : List Name) (load : LoadMap) : Type 0 where
+  pub extra_is : load.extra ≡ extra
+  pub universe : AreUniverse s extra (keys_of load.names)
+  pub loaded : AreLoaded (IsNameLoad s) load.names
+
+-- ---- what is read from it
+
+abbrev pub unit_part : NameLoad → Option LoadedUnit
+unit_part (OfUnit unit) = Some unit
+unit_part (OfAlias of) = None
+
+abbrev pub main_part : NameLoad → Name
+main_part (OfUnit unit) = unit.name
+main_part (OfAlias of) = of
+
+-- what a load has for a name
+abbrev pub load_at : LoadMap → Name → Option NameLoad
+load_at load name = find name_cmp name load.names
+
+-- the unit of a main name; none for an alias, and for a name that isn't there
+abbrev pub unit_in : LoadMap → Name → Option LoadedUnit
+unit_in load name = option_and_then unit_part (load_at load name)
+
+-- the main name of a name; none for one that isn't there
+abbrev pub main_in : LoadMap → Name → Option Name
+main_in load name = option_map main_part (load_at load name)
+
+-- all units, in the byte order of their names
+abbrev pub units_in : LoadMap → List LoadedUnit
+units_in load = filter_map (λ p. unit_part p.1) load.names

@@ -1,0 +1,57 @@
+//! Why there is no load.
+ghost use Rattle.std.specs.Prelude.{◌≡◌};
+
+use name_closure::CloseFault;
+use std::alloc::AllocError;
+use thiserror::Error;
+
+/// Why there is no load.
+#[derive(Clone, Copy, Debug, PartialEq, Eq, Error)]
+pub enum LoadFault {
+    /// L1: the workers aren't 1 to 64.
+    #[error("L1 Workers")]
+    Workers,
+    /// L2: the names that must be loaded are more than 4,096.
+    #[error("L2 TooManyUnits")]
+    TooManyUnits,
+    /// Memory was refused.
+    #[error("out of memory")]
+    Memory,
+}
+
+impl From<AllocError> for LoadFault {
+    ghost use Rattle.parallel_load.specs.declared.faults.LoadFault.TheVariants.{Memory};
+
+    ghost from_gives = { λ _ fault. fault ≡ Memory };
+
+    fn from(_fault: AllocError) -> LoadFault {
+        LoadFault::Memory
+    }
+}
+
+impl From<CloseFault> for LoadFault {
+    ghost use Rattle.parallel_load.specs.Refusals.{refusal_of};
+
+    ghost from_gives = { λ fault refusal. refusal ≡ refusal_of fault };
+
+    fn from(fault: CloseFault) -> LoadFault {
+        match fault {
+            CloseFault::TooMany => LoadFault::TooManyUnits,
+            CloseFault::Memory => LoadFault::Memory,
+        }
+    }
+}
+
+impl From<worker_rounds::LoadFault> for LoadFault {
+    ghost use Rattle.parallel_load.specs.Refusals.{refusal_by_workers};
+
+    ghost from_gives = { λ fault refusal. refusal ≡ refusal_by_workers fault };
+
+    fn from(fault: worker_rounds::LoadFault) -> LoadFault {
+        match fault {
+            worker_rounds::LoadFault::Workers => LoadFault::Workers,
+            worker_rounds::LoadFault::TooMany => LoadFault::TooManyUnits,
+            worker_rounds::LoadFault::Memory => LoadFault::Memory,
+        }
+    }
+}

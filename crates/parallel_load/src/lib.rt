@@ -1,0 +1,23 @@
+//! All units that a manager must load from one store.
+//!
+//! The names are the least set that has those that are asked for and all at which something is visible, and that is closed
+//! under what names stand for and what units name. For each name stands its unit, or the main name of which it is an alias.
+//! What is loaded is a function of the store and of the names that are asked for, however many workers load.
+#![tactic(auto)]
+
+mod faults;
+mod gates;
+mod laws;
+mod loaded;
+mod loader;
+mod loads;
+mod mains;
+mod sources;
+
+pub use faults::LoadFault;
+pub use gates::OpenGate;
+pub use laws::{load_laws, one_load};
+pub use loaded::{Loaded, NameLoad};
+pub use loads::{MOST_NAMES, load_fleet, load_here};
+pub use unit_loads::{Status, Unit, UnitNote, load_one};
+pub use worker_rounds::{Gate, MOST_WORKERS, TURNS};

@@ -1,0 +1,112 @@
+//! A load: what all names stand for.
+ghost use Rattle.std.specs.Prelude.{◌≡◌, IfOk, IsTrue, map};
+ghost use Rattle.std.specs.FinMap.{is_sorted};
+ghost use Rattle.std.specs.Option.{option_copied};
+ghost use Rattle.unit_name.specs.Names.{name_cmp};
+ghost use Rattle.parallel_load.specs.Loads.{load_at, main_in, unit_in, units_in};
+
+use section_reader::Items;
+use sorted_pairs::seek;
+use std::alloc::{AllocError, Global};
+use std::marker::Model;
+use unit_loads::Unit;
+use unit_name::UnitName;
+
+/// What a name of a load stands for.
+#[derive(Debug, PartialEq, Eq, Drop)]
+pub enum NameLoad {
+    /// A unit, whose main name it is.
+    Unit(Unit),
+    /// The unit of this main name, of which it is an alias.
+    Alias(UnitName),
+}
+
+/// What is loaded from one store: the names that were asked for, and what each name of the universe stands for.
+#[derive(Debug, Drop)]
+pub struct Loaded {
+    extra: Items<UnitName>,
+    names: Vec<(UnitName, NameLoad)>,
+}
+
+impl Model for Loaded {
+    ghost use Rattle.std.specs.Prelude.{IsTrue};
+    ghost use Rattle.std.specs.FinMap.{is_sorted};
+    ghost use Rattle.unit_name.specs.Names.{name_cmp};
+    ghost use Rattle.parallel_load.specs.Loads.{LoadMap, coded_load};
+
+    ghost Value = { LoadMap };
+
+    ghost coded = { coded_load };
+
+    ghost view = { λ l. record { extra = l.extra; names = l.names.items } };
+
+    ghost invariant = { λ l. IsTrue (is_sorted name_cmp l.names.items) };
+}
+
+impl Loaded {
+    // The load of these names, which are in byte order.
+    pub(crate) fn new(extra: Items<UnitName>, names: Vec<(UnitName, NameLoad)>) -> Loaded
+        requires sorted { IsTrue (is_sorted name_cmp names.items) }
+        ensures load { result ≡ record { extra = extra; names = names.items } }
+    {
+        Loaded { extra, names }
+    }
+
+    /// The names that were asked for, as they were given. It takes no memory.
+    pub fn extra(&self) -> &[UnitName]
+        ensures extra { result.now ≡ self.now.extra }
+    {
+        self.extra.as_slice()
+    }
+
+    /// All names of the universe in byte order, each with what it stands for. It takes no memory.
+    pub fn names(&self) -> &[(UnitName, NameLoad)]
+        ensures names { result.now ≡ self.now.names }
+        ensures sorted { IsTrue (is_sorted name_cmp result.now) }
+    {
+        self.names.as_slice()
+    }
+
+    /// The unit of a main name. None for an alias, and for a name that isn't in the universe. O(log n), without memory.
+    pub fn unit(&self, name: &UnitName) -> Option<&Unit>
+        ensures unit { option_copied result ≡ unit_in self.now name.now }
+    {
+        match self.at(name)? {
+            NameLoad::Unit(unit) => Some(unit),
+            NameLoad::Alias(_) => None,
+        }
+    }
+
+    /// The main name of a name. None for a name that isn't in the universe. O(log n), without memory.
+    pub fn main(&self, name: &UnitName) -> Option<&UnitName>
+        ensures main { option_copied result ≡ main_in self.now name.now }
+    {
+        match self.at(name)? {
+            NameLoad::Unit(unit) => Some(&unit.name),
+            NameLoad::Alias(main) => Some(main),
+        }
+    }
+
+    /// All units, in the byte order of their names. It fails for want of memory alone.
+    pub fn units(&self, alloc: Global) -> Result<Vec<&Unit>, AllocError>
+        ensures units { IfOk result (λ units. map (λ u. u.now) units.items ≡ units_in self.now) }
+    {
+        let mut units = Vec::new(alloc);
+        for (_, load) in &self.names {
+            if let NameLoad::Unit(unit) = load {
+                units.push(unit)?;
+            }
+        }
+        Ok(units)
+    }
+
+    // What a name stands for.
+    fn at(&self, name: &UnitName) -> Option<&NameLoad>
+        ensures load { option_copied result ≡ load_at self.now name.now }
+    {
+        match seek(&self.names, name) {
+            Ok(at) => Some(&self.names[at].1),
+            Err(_) => None,
+        }
+    }
+}

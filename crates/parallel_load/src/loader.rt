@@ -1,0 +1,81 @@
+//! What is loaded for one name.
+ghost use Rattle.std.specs.Prelude.{◌≡◌, ◌++◌, ◌∷◌, [], IfOk, OnOk};
+ghost use Rattle.parallel_load.specs.Alone.{names_in_lists};
+
+use crate::loaded::NameLoad;
+use fragment_choice::{AliasIndex, resolve};
+use name_closure::Loads;
+use replica_store::Store;
+use setting_rules::DependencyList;
+use std::alloc::{AllocError, Global};
+use unit_loads::load_resolved;
+use unit_name::UnitName;
+
+/// Loads the names of one store.
+#[derive(Drop)]
+pub(crate) struct UnitLoader<'a> {
+    index: AliasIndex<'a>,
+}
+
+impl<'a> UnitLoader<'a> {
+    /// The loader of a store. It fails for want of memory alone.
+    pub fn of(alloc: Global, store: &'a Store) -> Result<UnitLoader<'a>, AllocError>
+        ensures store { IfOk result (λ loader. loader.index ≡ store.now) }
+    {
+        let index = AliasIndex::of(alloc, store)?;
+        Ok(UnitLoader { index })
+    }
+}
+
+impl<'a> Loads<UnitName> for UnitLoader<'a> {
+    ghost use Rattle.parallel_load.specs.Alone.{IsLoadAlone, named_in};
+    ghost use Rattle.parallel_load.specs.AloneLaws.{one_alone};
+
+    type Loaded = NameLoad;
+
+    ghost is_node = { λ _ _. Unit {0} };
+
+    ghost is_loaded = { λ loader name one. IsLoadAlone loader.index name one };
+
+    ghost named = { λ _ one. named_in one };
+
+    fn load(&self, alloc: Global, node: &UnitName) -> Result<NameLoad, AllocError> {
+        let resolved = resolve(alloc, self.index.store(), node)?;
+        if resolved.main == *node {
+            Ok(NameLoad::Unit(load_resolved(alloc, &self.index, resolved)?))
+        } else {
+            Ok(NameLoad::Alias(resolved.main))
+        }
+    }
+
+    fn names(&self, alloc: Global, one: &NameLoad) -> Result<Vec<UnitName>, AllocError> {
+        let mut names = Vec::new(alloc);
+        match one {
+            NameLoad::Unit(unit) => add_lists(&mut names, unit.deps.as_slice())?,
+            NameLoad::Alias(main) => names.push(main.try_clone()?)?,
+        }
+        Ok(names)
+    }
+
+    ghost one = { one_alone };
+}
+
+// Adds all names in lists of dependencies.
+fn add_lists(names: &mut Vec<UnitName>, lists: &[DependencyList]) -> Result<(), AllocError>
+    ensures added { OnOk result (names.new.items ≡ names.old.items ++ names_in_lists lists.now) }
+{
+    for list in lists {
+        add_names(names, list.names.as_slice())?;
+    }
+    Ok(())
+}
+
+// Adds names to names.
+pub(crate) fn add_names(names: &mut Vec<UnitName>, more: &[UnitName]) -> Result<(), AllocError>
+    ensures added { OnOk result (names.new.items ≡ names.old.items ++ more.now) }
+{
+    for name in more {
+        names.push(name.try_clone()?)?;
+    }
+    Ok(())
+}

@@ -1,0 +1,104 @@
+//! Loads of a store.
+ghost use Rattle.std.specs.Prelude.{◌≡◌, ◌↔◌, ◌⊎◌, ◌<◌, Err, IfOk, IfErr};
+ghost use Rattle.std.specs.BTreeMap.{keys};
+ghost use Rattle.std.specs.List.Sorted.{IsStrictlySortedBy};
+ghost use Rattle.unit_name.specs.Names.{name_cmp};
+ghost use Rattle.parallel_load.specs.Loads.{IsLoad};
+ghost use Rattle.parallel_load.specs.Refusals.{OnTooMany, OnWorkers};
+ghost use Rattle.parallel_load.specs.Settled.{settled_names};
+ghost use Rattle.parallel_load.specs.Universe.{IsTooLarge};
+ghost use Rattle.parallel_load.specs.declared.faults.LoadFault.TheVariants.{Workers};
+
+use crate::faults::LoadFault;
+use crate::loaded::{Loaded, NameLoad};
+use crate::loader::{UnitLoader, add_names};
+use crate::mains::Aliases;
+use crate::sources::sources;
+use name_closure::close_loaded;
+use replica_store::Store;
+use section_reader::Items;
+use std::alloc::{AllocError, Global};
+use std::collections::BTreeMap;
+use std::thread::Threads;
+use unit_name::UnitName;
+use worker_rounds::{Gate, close_loaded_by_workers};
+
+/// So many names are loaded at most, aliases counted.
+pub const MOST_NAMES: usize = 4096;
+
+/// All units that a manager must load from a store, with these names asked for beside all at which something is visible:
+/// the load of the least set of names that is closed under main names and under what units name (systemd.unit(5)).
+///
+/// `TooManyUnits` exactly where these names are more than 4,096, aliases counted; or `Memory` for want of memory, and
+/// `Workers` never. Linear in the bytes of the units' files, beside the logarithm of the number of names and of paths.
+pub fn load_here(alloc: Global, store: &Store, extra: &[UnitName]) -> Result<Loaded, LoadFault>
+    ensures load { IfOk result (IsLoad store.now extra.now) }
+    ensures over { IfErr result (λ fault. OnTooMany fault (IsTooLarge store.now extra.now)) }
+    ensures not_over { IfOk result (λ _. ¬ IsTooLarge store.now extra.now) }
+    ensures no_workers { IfErr result (λ fault. OnWorkers fault ⊥) }
+{
+    let sources = sources(alloc, store, extra)?;
+    let loader = UnitLoader::of(alloc, store)?;
+    let found = close_loaded(alloc, &loader, sources.as_slice(), MOST_NAMES)?;
+    Ok(settled(alloc, extra, found)?)
+}
+
+/// The same load by 1 to 64 workers, whatever their number and whatever the gate answers; refusals too.
+///
+/// `Workers` exactly where they aren't 1 to 64, before anything else. The new names of a round are cut in byte order into
+/// pieces, none empty, as many as the lesser of the workers and the names, numbered from 0 in that round. Each piece has a
+/// worker of its own, which asks the gate before it loads, at most 1,000,000 times. It may wait for threads.
+pub fn load_fleet<R: Threads + Sync, G: Gate + Sync>(
+    rt: &R,
+    alloc: Global,
+    store: &Store,
+    extra: &[UnitName],
+    workers: usize,
+    gate: &G,
+) -> Result<Loaded, LoadFault>
+    ensures workers { (result ≡ Err Workers) ↔ ((workers ≡ 0) ⊎ (64 < workers)) }
+    ensures load { IfOk result (IsLoad store.now extra.now) }
+    ensures over { IfErr result (λ fault. OnTooMany fault (IsTooLarge store.now extra.now)) }
+    ensures not_over { IfOk result (λ _. ¬ IsTooLarge store.now extra.now) }
+{
+    if workers == 0 || workers > worker_rounds::MOST_WORKERS {
+        return Err(LoadFault::Workers);
+    }
+    let sources = sources(alloc, store, extra)?;
+    let loader = UnitLoader::of(alloc, store)?;
+    let names = sources.as_slice();
+    let found = close_loaded_by_workers(rt, alloc, &loader, names, MOST_NAMES, workers, gate)?;
+    Ok(settled(alloc, extra, found)?)
+}
+
+// The load of what was found, with dependencies by main names.
+fn settled(
+    alloc: Global,
+    extra: &[UnitName],
+    found: BTreeMap<UnitName, NameLoad>,
+) -> Result<Loaded, AllocError>
+    requires rising { IsStrictlySortedBy name_cmp (keys found) }
+    ensures extra { IfOk result (λ load. load.extra ≡ extra.now) }
+    ensures names { IfOk result (λ load. load.names ≡ settled_names found.entries) }
+{
+    let mut asked = Vec::new(alloc);
+    add_names(&mut asked, extra)?;
+    let pairs = pairs_of(alloc, found)?;
+    let aliases = Aliases::of(alloc, pairs.as_slice())?;
+    let names = aliases.settle_all(alloc, pairs)?;
+    Ok(Loaded::new(Items::from_vec(asked), names))
+}
+
+// The entries of a map in the order of their keys.
+fn pairs_of(
+    alloc: Global,
+    found: BTreeMap<UnitName, NameLoad>,
+) -> Result<Vec<(UnitName, NameLoad)>, AllocError>
+    ensures pairs { IfOk result (λ pairs. pairs.items ≡ found.entries) }
+{
+    let mut pairs = Vec::new(alloc);
+    for pair in found {
+        pairs.push(pair)?;
+    }
+    Ok(pairs)
+}

@@ -1,0 +1,64 @@
+//! The names from which a load begins.
+ghost use Rattle.std.specs.Prelude.{◌≡◌, ◌↔◌, ◌++◌, [], IfOk, OnOk, filter};
+ghost use Rattle.std.specs.List.{filter_map};
+ghost use Rattle.std.specs.FinMap as finmap;
+ghost use Rattle.std.specs.Option.{option_to_list};
+ghost use Rattle.list_laws.specs.Members.{IsAmong};
+ghost use Rattle.parallel_load.specs.Sources.{visible_name, visible_names};
+ghost use Rattle.parallel_load.specs.Universe.{IsSource};
+
+use crate::loader::add_names;
+use load_levels::LEVELS;
+use replica_store::{Placed, Store};
+use std::alloc::{AllocError, Global};
+use unit_name::{NameFault, UnitName};
+
+/// The names that are asked for, and all at which something is visible; some more than once. One pass over the store's
+/// paths of one component. It fails for want of memory alone.
+pub(crate) fn sources(
+    alloc: Global,
+    store: &Store,
+    extra: &[UnitName],
+) -> Result<Vec<UnitName>, AllocError>
+    ensures sources { IfOk result (λ names. (n : _) → IsAmong n names.items ↔ IsSource store.now extra.now n) }
+{
+    let mut names = Vec::new(alloc);
+    add_names(&mut names, extra)?;
+    for rank in 0..LEVELS {
+        add_visible(alloc, &mut names, store, rank)?;
+    }
+    Ok(names)
+}
+
+// Adds the names at which something is visible at this rank.
+fn add_visible(
+    alloc: Global,
+    names: &mut Vec<UnitName>,
+    store: &Store,
+    rank: u8,
+) -> Result<(), AllocError>
+    ensures added { OnOk result (names.new.items ≡ names.old.items ++ visible_names store.now rank) }
+{
+    let mut entries = store.entries_in(rank, b"");
+    while let Some(placed) = entries.next_entry() {
+        if let Some(name) = visible_name(alloc, &placed)? {
+            names.push(name)?;
+        }
+    }
+    Ok(())
+}
+
+// The name of an entry that is visible, if it is a unit name and no template.
+fn visible_name(alloc: Global, placed: &Placed) -> Result<Option<UnitName>, AllocError>
+    ensures name { IfOk result (λ name. name ≡ visible_name placed.now) }
+{
+    if placed.visible().is_none() {
+        return Ok(None);
+    }
+    match UnitName::parse(alloc, placed.name().as_slice()) {
+        Ok(name) if name.is_template() => Ok(None),
+        Ok(name) => Ok(Some(name)),
+        Err(NameFault::Memory) => Err(AllocError),
+        Err(_) => Ok(None),
+    }
+}

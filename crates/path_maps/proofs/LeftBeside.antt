@@ -1,0 +1,109 @@
+-- What is left of two stores that are read side by side, behind the first name, folder or rank.
+use Rattle.std.proofs.Common.{◌≡◌, ◌≢◌, ℕ, List, [], ◌∷◌, ◌++◌, Option, Some, IsTrue, refl, sym, ap, subst, ◌∙◌}
+use Rattle.std.proofs.lemmas.List.{map-append}
+use Rattle.std.proofs.lemmas.Bool.{and_parts}
+use Rattle.std.specs.Ordering.{nat_cmp}
+use Rattle.std.specs.declared.cmp.Ordering.TheVariants.{Less}
+use Rattle.std.specs.FinMap.Entries.{find, is_sorted, below_all}
+use Rattle.list_laws.specs.Orderings.{is_less}
+use Rattle.join_law.specs.declared.versions.Versioned.{Versioned}
+use Rattle.join_law.specs.declared.versions.Versioned.TheVariants.{Never, At}
+use Rattle.join_law.specs.VersionOrder.{written, written_at}
+use Rattle.join_law.specs.Maps.{or_empty}
+use Rattle.load_path.specs.Paths.{PathParts, IsPath}
+use Rattle.edit_sums.specs.declared.contents.Content.{Content}
+use Rattle.edit_sums.specs.Entries.{Entry}
+use Rattle.path_maps.specs.Spread.{AllKeys}
+use Rattle.path_maps.specs.SpreadLaws.{all_keys-append, all_keys_weaker}
+use Rattle.path_maps.specs.Folders.{path_at}
+use Rattle.path_maps.specs.PathMaps.{NameMap, FolderMap, RankMap, bytes_cmp, at_name, in_folder, in_rank, listed, look_up}
+use Rattle.path_maps.specs.PathMapLaws.{IsInFolder, IsInRank, of_folder, of_rank}
+use Rattle.path_maps.specs.Beside.{beside, held_in_names, held_in_folders, names_beside, folders_beside, ranks_beside}
+use Rattle.path_maps.specs.Cursors.{AreNamesLeft}
+use Rattle.path_maps.proofs.Cursors.{back_keys}
+
+-- two that hold the same at the paths of some entries
+same_beside : (f g : PathParts → Option Entry) (P : PathParts → Type 0) → ((q : PathParts) → P q → f q ≡ g q) → (es : List (PathParts × Entry)) → AllKeys P es → beside f es ≡ beside g es
+same_beside f g P alike [] h = refl
+same_beside f g P alike (x ∷ xs) h = λ i. (x, alike x.0 h.0 i) ∷ same_beside f g P alike xs h.1 i
+
+pub some_beside : (f : PathParts → Option Entry) (es : List (PathParts × Entry)) → es ≢ [] → beside f es ≢ []
+some_beside f [] h = absurd (h refl)
+some_beside f (x ∷ xs) h = λ e. cc (e)
+
+-- what was written is held so
+pub at_of : (v : Versioned Content) (x : Entry) → Some x ≡ written v → v ≡ At x
+at_of Never x h = cc (h)
+at_of (At y) x h = cc (h)
+
+-- what is found of greater keys is the same
+abbrev IsSameBehind : {V : Type 0} → List ℕ → List (List ℕ × V) → List (List ℕ × V) → Type 0
+IsSameBehind k left others = (q : List ℕ) → bytes_cmp k q ≡ Less → find bytes_cmp q left ≡ find bytes_cmp q others
+
+-- ---- the first name of a folder, and the rest
+
+module _ (rank : ℕ) (folder : List ℕ) where
+  above_names : (k : List ℕ) (names : NameMap) → IsTrue (below_all bytes_cmp k names) → AllKeys (λ q. bytes_cmp k q.name ≡ Less) (in_folder rank folder names)
+  above_names k [] b = tt
+  above_names k (e ∷ es) b =
+      let p = and_parts _ _ b in
+      all_keys-append (λ q. bytes_cmp k q.name ≡ Less) (at_name rank folder e.0 e.1) (in_folder rank folder es) (one (is_less _ p.0) e.1) (above_names k es p.1)
+    where
+      one : bytes_cmp k e.0 ≡ Less → (v : Versioned Content) → AllKeys (λ q. bytes_cmp k q.name ≡ Less) (at_name rank folder e.0 v)
+      one less Never = tt
+      one less (At x) = (less, tt)
+
+  module _ (names rest : NameMap) (e : List ℕ × Versioned Content) (is : names ≡ e ∷ rest) where
+    pub more_names : AreNamesLeft rank folder names → AreNamesLeft rank folder rest
+    more_names l =
+        let here = subst (AreNamesLeft rank folder) is l in
+        record { held = here.held.1; paths = back_keys IsPath (at_name rank folder e.0 e.1) (in_folder rank folder rest) here.paths }
+
+    pub more_sorted : IsTrue (is_sorted bytes_cmp names) → IsTrue (is_sorted bytes_cmp rest)
+    more_sorted s = (and_parts (below_all bytes_cmp e.0 rest) _ (subst (λ (x : NameMap). IsTrue (is_sorted bytes_cmp x)) is s)).1
+
+    pub next_names : (others left : NameMap) (x : Entry) (held : Option (Versioned Content)) → e.1 ≡ At x → IsTrue (is_sorted bytes_cmp names) → held ≡ find bytes_cmp e.0 others → IsSameBehind e.0 left others →
+        names_beside rank folder names others ≡ ((path_at rank folder e.0, x), written_at held) ∷ names_beside rank folder rest left
+    next_names others left x held value s found same =
+        let below = (and_parts _ _ (subst (λ (ns : NameMap). IsTrue (is_sorted bytes_cmp ns)) is s)).0 in
+        let more = same_beside (held_in_names others) (held_in_names left) (λ q. bytes_cmp e.0 q.name ≡ Less) (λ q less. ap written_at (sym (same q.name less))) (in_folder rank folder rest) (above_names e.0 rest below) in
+        ap (λ (ns : NameMap). names_beside rank folder ns others) is
+        ∙ ap (λ (v : Versioned Content). beside (held_in_names others) (at_name rank folder e.0 v ++ in_folder rank folder rest)) value
+        ∙ (λ i. ((path_at rank folder e.0, x), written_at (sym found i)) ∷ more i)
+
+-- ---- the first folder of a rank, and the rest
+
+module _ (rank : ℕ) where
+  above_folders : (k : List ℕ) (folders : FolderMap) → IsTrue (below_all bytes_cmp k folders) → AllKeys (λ q. bytes_cmp k q.folder ≡ Less) (in_rank rank folders)
+  above_folders k [] b = tt
+  above_folders k (f ∷ fs) b =
+      let p = and_parts _ _ b in
+      all_keys-append (λ q. bytes_cmp k q.folder ≡ Less) (in_folder rank f.0 f.1) (in_rank rank fs)
+      (all_keys_weaker (IsInFolder rank f.0) (λ q. bytes_cmp k q.folder ≡ Less) (λ q at. ap (bytes_cmp k) at.1 ∙ is_less _ p.0) (in_folder rank f.0 f.1) (of_folder rank f.0 f.1))
+      (above_folders k fs p.1)
+
+  module _ (folders rest : FolderMap) (f : List ℕ × NameMap) (is : folders ≡ f ∷ rest) where
+    pub more_folders_sorted : IsTrue (is_sorted bytes_cmp folders) → IsTrue (is_sorted bytes_cmp rest)
+    more_folders_sorted s = (and_parts (below_all bytes_cmp f.0 rest) _ (subst (λ (x : FolderMap). IsTrue (is_sorted bytes_cmp x)) is s)).1
+
+    pub next_folders : (others left : FolderMap) (names held_names : NameMap) (held : Option NameMap) → names ≡ f.1 → IsTrue (is_sorted bytes_cmp folders) → held ≡ find bytes_cmp f.0 others → held_names ≡ or_empty held →
+        IsSameBehind f.0 left others → folders_beside rank folders others ≡ names_beside rank f.0 names held_names ++ folders_beside rank rest left
+    next_folders others left names held_names held of_first s found is_held same =
+        let below = (and_parts _ _ (subst (λ (fs : FolderMap). IsTrue (is_sorted bytes_cmp fs)) is s)).0 in
+        let here : or_empty (find bytes_cmp f.0 others) ≡ held_names = ap or_empty (sym found) ∙ sym is_held in
+        let first = same_beside (held_in_folders others) (held_in_names (or_empty (find bytes_cmp f.0 others))) (IsInFolder rank f.0) (λ q at. ap (λ (x : List ℕ). held_in_names (or_empty (find bytes_cmp x others)) q) at.1) (in_folder rank f.0 f.1) (of_folder rank f.0 f.1) in
+        let more = same_beside (held_in_folders others) (held_in_folders left) (λ q. bytes_cmp f.0 q.folder ≡ Less) (λ q less. ap (λ (x : Option NameMap). held_in_names (or_empty x) q) (sym (same q.folder less))) (in_rank rank rest) (above_folders f.0 rest below) in
+        ap (λ (fs : FolderMap). folders_beside rank fs others) is
+        ∙ map-append _ (in_folder rank f.0 f.1) (in_rank rank rest)
+        ∙ (λ i. (first ∙ (λ j. names_beside rank f.0 (sym of_first j) (here j))) i ++ more i)
+
+-- ---- the first rank, and the rest
+
+pub next_ranks : (ranks rest others : RankMap) (r : ℕ × FolderMap) (folders held_folders : FolderMap) (held : Option FolderMap) → ranks ≡ r ∷ rest → folders ≡ r.1 → held ≡ find nat_cmp r.0 others → held_folders ≡ or_empty held →
+    ranks_beside ranks others ≡ folders_beside r.0 folders held_folders ++ ranks_beside rest others
+next_ranks ranks rest others r folders held_folders held is of_first found is_held =
+    let here : or_empty (find nat_cmp r.0 others) ≡ held_folders = ap or_empty (sym found) ∙ sym is_held in
+    let first = same_beside (look_up others) (held_in_folders (or_empty (find nat_cmp r.0 others))) (IsInRank r.0) (λ q at. ap (λ (x : ℕ). held_in_folders (or_empty (find nat_cmp x others)) q) at) (in_rank r.0 r.1) (of_rank r.0 r.1) in
+    ap (λ (rs : RankMap). ranks_beside rs others) is
+    ∙ map-append _ (in_rank r.0 r.1) (listed rest)
+    ∙ (λ i. (first ∙ (λ j. folders_beside r.0 (sym of_first j) (here j))) i ++ ranks_beside rest others)

@@ -1,0 +1,11 @@
+use Rattle.std.proofs.Common.{◌≡◌, ◌≢◌, List, ℕ, IsTrue}
+use Rattle.std.specs.declared.cmp.Ordering.TheVariants.{Less}
+use Rattle.std.specs.FinMap.Entries.{find, is_sorted}
+use Rattle.path_maps.specs.PathMaps.{bytes_cmp}
+use Rattle.path_maps.proofs.meets.meet.Given as goal
+
+abbrev pub invariant-loop : goal.invariant-loop
+invariant-loop g l = record {
+  sorted : IsTrue (is_sorted bytes_cmp l.left);
+  held : (q : List ℕ) → bytes_cmp q l.key ≢ Less → find bytes_cmp q l.left ≡ find bytes_cmp q l.pairs;
+}

@@ -1,0 +1,45 @@
+-- The entries of one store, each with what another holds at its path.
+-- Source: this project's own.
+use Rattle.std.specs.Prelude.{ℕ, List, Option, IsTrue, map}
+use Rattle.std.specs.FinMap.{find, is_sorted}
+use Rattle.join_law.specs.VersionOrder.{written_at}
+use Rattle.join_law.specs.Maps.{or_empty}
+use Rattle.load_path.specs.Paths.{PathParts}
+use Rattle.edit_sums.specs.Entries.{Entry}
+use Rattle.path_maps.specs.PathMaps.{NameMap, FolderMap, RankMap, bytes_cmp, in_folder, in_rank, listed, look_up}
+use Rattle.path_maps.specs.Cursors.{AreNamesLeft, AreFoldersLeft}
+
+-- an entry with its path, and what the other holds there
+abbrev pub Compared : Type 0
+Compared = (PathParts × Entry) × Option Entry
+
+abbrev pub beside : (PathParts → Option Entry) → List (PathParts × Entry) → List Compared
+beside held = map (λ p. (p, held p.0))
+
+-- what the names of a folder have at a path, and the folders of a rank
+abbrev pub held_in_names : NameMap → PathParts → Option Entry
+held_in_names others q = written_at (find bytes_cmp q.name others)
+
+abbrev pub held_in_folders : FolderMap → PathParts → Option Entry
+held_in_folders others q = held_in_names (or_empty (find bytes_cmp q.folder others)) q
+
+-- the entries of a folder, of a rank and of all ranks, beside those of another
+abbrev pub names_beside : ℕ → List ℕ → NameMap → NameMap → List Compared
+names_beside rank folder names others = beside (held_in_names others) (in_folder rank folder names)
+
+abbrev pub folders_beside : ℕ → FolderMap → FolderMap → List Compared
+folders_beside rank folders others = beside (held_in_folders others) (in_rank rank folders)
+
+abbrev pub ranks_beside : RankMap → RankMap → List Compared
+ranks_beside ranks others = beside (look_up others) (listed ranks)
+
+-- where a reader of two stands: what is left of each is in order
+pub record AreNamesBeside (rank : ℕ) (folder : List ℕ) (names others : NameMap) : Type 0 where
+  pub left : AreNamesLeft rank folder names
+  pub sorted : IsTrue (is_sorted bytes_cmp names)
+  pub others_sorted : IsTrue (is_sorted bytes_cmp others)
+
+pub record AreFoldersBeside (rank : ℕ) (folders others : FolderMap) : Type 0 where
+  pub left : AreFoldersLeft rank folders
+  pub sorted : IsTrue (is_sorted bytes_cmp folders)
+  pub others_sorted : IsTrue (is_sorted bytes_cmp others)

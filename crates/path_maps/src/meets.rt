@@ -1,0 +1,51 @@
+//! Look-ups of keys that rise, among pairs that are left.
+ghost use Rattle.std.specs.Prelude.{◌≡◌, List, ℕ, IsTrue};
+ghost use Rattle.std.specs.Option.{option_copied};
+ghost use Rattle.std.specs.declared.cmp.Ordering.TheVariants.{Less};
+ghost use Rattle.std.specs.FinMap.{find, is_sorted};
+ghost use Rattle.path_maps.specs.PathMaps.{bytes_cmp};
+
+use byte_strings::Bytes;
+use sorted_pairs::seek;
+use std::cmp::Ordering;
+
+// How many pairs are passed one by one before the others are searched.
+const NEAR: usize = 8;
+
+// The value at a key, and what is left for greater keys: the pairs behind it. A comparison for each of a few pairs that
+// are passed, and a search where there are more; without memory.
+#[inline(always)]
+pub fn meet<'a, V>(pairs: &'a [(Bytes, V)], key: &Bytes) -> (Option<&'a V>, &'a [(Bytes, V)])
+    requires sorted { IsTrue (is_sorted bytes_cmp pairs.now) }
+    ensures found { option_copied result.0 ≡ find bytes_cmp key.now pairs.now }
+    ensures sorted { IsTrue (is_sorted bytes_cmp result.1.now) }
+    ensures behind { (k : List ℕ) → bytes_cmp key.now k ≡ Less →
+        find bytes_cmp k result.1.now ≡ find bytes_cmp k pairs.now }
+{
+    let mut left = pairs;
+    for _ in 0..NEAR {
+        let Some((pair, rest)) = left.split_first() else {
+            return (None, left);
+        };
+        match pair.0.cmp(key) {
+            Ordering::Less => left = rest,
+            Ordering::Equal => return (Some(&pair.1), rest),
+            Ordering::Greater => return (None, left),
+        }
+    }
+    search(left, key)
+}
+
+// The same by a search.
+fn search<'a, V>(pairs: &'a [(Bytes, V)], key: &Bytes) -> (Option<&'a V>, &'a [(Bytes, V)])
+    requires sorted { IsTrue (is_sorted bytes_cmp pairs.now) }
+    ensures found { option_copied result.0 ≡ find bytes_cmp key.now pairs.now }
+    ensures sorted { IsTrue (is_sorted bytes_cmp result.1.now) }
+    ensures behind { (k : List ℕ) → bytes_cmp key.now k ≡ Less →
+        find bytes_cmp k result.1.now ≡ find bytes_cmp k pairs.now }
+{
+    match seek(pairs, key) {
+        Ok(at) => (Some(&pairs[at].1), &pairs[at + 1..]),
+        Err(at) => (None, &pairs[at..]),
+    }
+}

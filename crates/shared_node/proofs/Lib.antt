@@ -1,0 +1,4 @@
+pub mod Seeing
+pub mod Latest
+pub mod Counting
+pub mod Auditing

@@ -1,0 +1,12 @@
+use Rattle.std.proofs.Common.{List, sym, ◌∙◌, ap, subst}
+use mathlib.Core.List.{IsPrefix}
+use Rattle.node_histories.specs.declared.events.Event.{Event}
+use Rattle.shared_node.proofs.Seeing.{shows_on}
+use Rattle.shared_node.proofs.post.publish.Goals as goal
+
+pub publish_as-requires : goal.publish_as-requires
+publish_as-requires g c next is =
+    let w = c.args.writer in
+    shows_on w.desk.place.id _ w.desk.shown.value next
+    (ap (λ s. s.book) is ∙ c.requires.book)
+    (subst (λ (l : List Event). IsPrefix w.desk.shown.value.seen.log l) (sym (ap (λ s. s.log) is)) c.requires.goes_on)

@@ -1,0 +1,107 @@
+-- What a refusal of a node leaves.
+-- Source: this project's own.
+use Rattle.std.specs.Prelude.{◌≡◌, ◌≢◌, ℕ, ◌+◌, ◌<◌, ◌≤◌, ◌⊎◌, None, Some, List, [], ◌∷◌, ◌++◌}
+use Rattle.load_path.specs.Paths.{PathParts}
+use Rattle.edit_sums.specs.declared.contents.Content.{Content}
+use Rattle.edit_sums.specs.Sums.{EntryMap}
+use Rattle.replica_store.specs.Replicas.{Replicated}
+use Rattle.node_histories.specs.declared.events.Event.{Event}
+use Rattle.node_histories.specs.declared.events.Event.TheVariants.{Edited, Absorbed}
+use Rattle.node_histories.specs.Histories.{IsLegal, takes_in}
+use Rattle.shared_node.specs.declared.faults.NodeFault.{NodeFault}
+use Rattle.shared_node.specs.declared.faults.NodeFault.TheVariants.{NoSeat, Pending, TakesSpent, Disagree, VersionsSpent, Memory}
+use Rattle.shared_node.specs.declared.faults.CloseCause.{CloseCause}
+use Rattle.shared_node.specs.declared.faults.CloseCause.TheVariants as causes
+use Rattle.shared_node.specs.Seats.{SeatNow}
+
+abbrev pub max : ℕ
+max = 18446744073709551615
+
+-- a pending take is counted and not seen; else nothing of the seat changed, and no more takes can be counted, or the
+-- seat has seen more takes than the node holds
+abbrev pub AtFault : {N : Type 0} → Replicated → NodeFault N → SeatNow → SeatNow → Type 0
+AtFault start NoSeat s t = ⊥
+AtFault start (Pending version) s t = (t.seen ≡ s.seen) × (t.calls ≡ s.calls + 1) × (t.number ≡ s.number)
+AtFault start (TakesSpent told) s t = (t ≡ s) × IsLegal start told × ((s.calls ≡ max) ⊎ (max ≤ takes_in told + 1))
+AtFault start (Disagree seen held) s t = (t ≡ s) × (seen ≡ takes_in s.seen) × (held < seen)
+AtFault start VersionsSpent s t = t ≡ s
+AtFault start Memory s t = t ≡ s
+
+-- what is refused before anything is done: no more takes can be counted, or the seat has seen more than the node holds
+abbrev pub AtCheck : {N : Type 0} → Replicated → NodeFault N → SeatNow → Type 0
+AtCheck start NoSeat s = ⊥
+AtCheck start (Pending version) s = ⊥
+AtCheck start (TakesSpent told) s = IsLegal start told × ((s.calls ≡ max) ⊎ (max ≤ takes_in told + 1))
+AtCheck start (Disagree seen held) s = (seen ≡ takes_in s.seen) × (held < seen)
+AtCheck start VersionsSpent s = ⊥
+AtCheck start Memory s = ⊥
+
+-- a refusal that comes before anything is done
+abbrev pub IsEarly : {N : Type 0} → NodeFault N → Type 0
+IsEarly NoSeat = ⊥
+IsEarly (Pending version) = ⊥
+IsEarly (TakesSpent told) = Unit {0}
+IsEarly (Disagree seen held) = Unit {0}
+IsEarly VersionsSpent = Unit {0}
+IsEarly Memory = ⊥
+
+-- a refusal of an edit: one that is pending has its version
+abbrev pub IsEditFault : {N : Type 0} → NodeFault N → Type 0
+IsEditFault NoSeat = ⊥
+IsEditFault (Pending None) = ⊥
+IsEditFault (Pending (Some version)) = Unit {0}
+IsEditFault (TakesSpent told) = Unit {0}
+IsEditFault (Disagree seen held) = Unit {0}
+IsEditFault VersionsSpent = Unit {0}
+IsEditFault Memory = Unit {0}
+
+-- a refusal of a piece, which has no version
+abbrev pub IsPieceFault : {N : Type 0} → NodeFault N → Type 0
+IsPieceFault NoSeat = ⊥
+IsPieceFault (Pending None) = Unit {0}
+IsPieceFault (Pending (Some version)) = ⊥
+IsPieceFault (TakesSpent told) = Unit {0}
+IsPieceFault (Disagree seen held) = Unit {0}
+IsPieceFault VersionsSpent = ⊥
+IsPieceFault Memory = Unit {0}
+
+-- a refusal of a seat
+abbrev pub IsSeatFault : {N : Type 0} → NodeFault N → Type 0
+IsSeatFault NoSeat = Unit {0}
+IsSeatFault (Pending version) = ⊥
+IsSeatFault (TakesSpent told) = ⊥
+IsSeatFault (Disagree seen held) = ⊥
+IsSeatFault VersionsSpent = ⊥
+IsSeatFault Memory = ⊥
+
+-- what is accepted after a refused edit: the edit, where its publish was refused, and else nothing more
+abbrev pub AcceptsEdit : {N : Type 0} → NodeFault N → ℕ → PathParts → Content → List Event → List Event → Type 0
+AcceptsEdit NoSeat seat path content old new = ⊥
+AcceptsEdit (Pending None) seat path content old new = ⊥
+AcceptsEdit (Pending (Some version)) seat path content old new = new ≡ old ++ Edited seat (record { path = path; version = version; content = content }) ∷ []
+AcceptsEdit (TakesSpent told) seat path content old new = new ≡ old
+AcceptsEdit (Disagree seen held) seat path content old new = new ≡ old
+AcceptsEdit VersionsSpent seat path content old new = new ≡ old
+AcceptsEdit Memory seat path content old new = new ≡ old
+
+-- and after a refused piece
+abbrev pub AcceptsPiece : {N : Type 0} → NodeFault N → ℕ → EntryMap → List Event → List Event → Type 0
+AcceptsPiece NoSeat seat piece old new = ⊥
+AcceptsPiece (Pending None) seat piece old new = new ≡ old ++ Absorbed seat piece ∷ []
+AcceptsPiece (Pending (Some version)) seat piece old new = ⊥
+AcceptsPiece (TakesSpent told) seat piece old new = new ≡ old
+AcceptsPiece (Disagree seen held) seat piece old new = new ≡ old
+AcceptsPiece VersionsSpent seat piece old new = ⊥
+AcceptsPiece Memory seat piece old new = new ≡ old
+
+-- two numbers differ
+abbrev pub IsDisagreement : CloseCause → Type 0
+IsDisagreement (causes.SeatsOut absent) = ⊥
+IsDisagreement (causes.Disagree seat node) = seat ≢ node
+IsDisagreement causes.Memory = ⊥
+
+-- the cause that a node isn't closed: so many seats more were given than these, or two numbers differ
+abbrev pub AtCause : ℕ → ℕ → CloseCause → Type 0
+AtCause given here (causes.SeatsOut absent) = (0 < absent) × (given ≡ here + absent)
+AtCause given here (causes.Disagree seat node) = seat ≢ node
+AtCause given here causes.Memory = Unit {0}

@@ -1,0 +1,10 @@
+pub mod Sights
+pub mod Posts
+pub mod Accounts
+pub mod Seats
+pub mod Keepers
+pub mod Blanks
+pub mod Codes
+pub mod Faults
+pub mod BlankFaults
+pub mod Steps

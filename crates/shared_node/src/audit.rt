@@ -1,0 +1,59 @@
+//! How a keeper compares its counts with those of seats.
+ghost use Rattle.std.specs.Prelude.{◌≡◌, ◌+◌, length, IfOk, IfErr};
+ghost use Rattle.std.specs.List.{sum_by};
+ghost use Rattle.node_histories.specs.Histories.{takes_in};
+ghost use Rattle.shared_node.specs.Seats.{AllAgree};
+ghost use Rattle.shared_node.specs.Faults.{AtCause, IsDisagreement};
+
+use crate::account::Account;
+use crate::faults::CloseCause;
+use crate::keeper::Keeper;
+use crate::seat::Seat;
+use node_histories::NodeName;
+
+impl<N: NodeName> Keeper<N> {
+    // How many takes there are, where these seats are all that were given, and made them.
+    pub(crate) fn audit(&self, seats: &Vec<Seat<N>>) -> Result<u64, CloseCause>
+        ensures takes { IfOk result (λ n. n ≡ takes_in self.now.accepted) }
+        ensures sum { IfOk result (λ n. n ≡ sum_by (λ s. s.calls) seats.now.items) }
+        ensures agree { IfOk result (λ _. AllAgree self.now.accepted seats.now.items) }
+        ensures cause { IfErr result (λ cause. AtCause self.now.given (length seats.now.items) cause) }
+    {
+        let here = seats.len();
+        if here < self.given {
+            return Err(CloseCause::SeatsOut(self.given - here));
+        }
+        let others = match takes_of_others(&self.account, seats) {
+            Ok(others) => others,
+            Err(cause) => return Err(cause),
+        };
+        let takes = self.account.front().takes();
+        if others == 0 {
+            Ok(takes)
+        } else {
+            Err(CloseCause::Disagree(takes - others, takes))
+        }
+    }
+}
+
+// How many takes none of these seats made, where each of them agrees with the account.
+fn takes_of_others<N: NodeName>(
+    account: &Account<N>,
+    seats: &Vec<Seat<N>>,
+) -> Result<u64, CloseCause>
+    requires seats { account.now.seats ≡ N.seats }
+    ensures sum { IfOk result (λ n. n + sum_by (λ s. s.calls) seats.now.items ≡ takes_in account.now.takes) }
+    ensures agree { IfOk result (λ _. AllAgree account.now.takes seats.now.items) }
+    ensures cause { IfErr result IsDisagreement }
+{
+    let mut others = account.front().takes();
+    for seat in seats {
+        account.compare(seat)?;
+        let calls = seat.calls();
+        let Some(fewer) = others.checked_sub(calls) else {
+            return Err(CloseCause::Disagree(calls, others));
+        };
+        others = fewer;
+    }
+    Ok(others)
+}

@@ -1,0 +1,30 @@
+//! Running nodes: a replica that threads share, and whose readers take no lock.
+//!
+//! A `Node` keeps a replica behind a lock, and publishes each version of it as one of two copies, which readers
+//! enter without a lock, a wait or memory. Threads hold `Seat`s: a seat edits and absorbs under the lock, and views
+//! what is published. What each seat sees, what it was answered, and the counts at the end are said of the node's
+//! history (`node_histories`): all takes, one after another, each a seat's edit or a piece that it absorbed.
+#![tactic(auto)]
+
+mod account;
+mod audit;
+mod blank;
+mod fault_names;
+mod faults;
+mod keeper;
+mod laws;
+mod node;
+mod post;
+mod seat;
+mod serving;
+mod sight;
+mod takes;
+
+pub use blank::{Blank, BlankFault, MOST_SEATS};
+pub use faults::{CloseCause, NodeFault};
+pub use laws::views_of_same_edits;
+pub use node::{CloseFault, Closed, Node};
+pub use node_histories::{Event, NodeName};
+pub use post::Told;
+pub use seat::{NoEntry, Seat, View};
+pub use serving::{Message, Served, serve};

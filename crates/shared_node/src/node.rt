@@ -1,0 +1,264 @@
+//! A node that threads share.
+ghost use Rattle.std.specs.Prelude.{◌≡◌, ◌+◌, ◌<◌, true, length, is_some, None, Some, IfOk, IfErr, IfSome};
+ghost use Rattle.std.specs.List.{sum_by};
+ghost use Rattle.node_histories.specs.declared.events.Event.TheVariants.{Edited, Absorbed};
+ghost use Rattle.node_histories.specs.Histories.{IsLegal, EndsWith, EndsChanging, opening_of, replica_of, takes_in};
+ghost use Rattle.node_histories.specs.Codes.{replica-prop, IsLegal-prop};
+ghost use Rattle.shared_node.specs.Seats.{AllAgree};
+ghost use Rattle.shared_node.specs.Faults.{AtFault, IsEditFault, IsPieceFault, IsSeatFault, AcceptsEdit, AcceptsPiece};
+
+use crate::account::Account;
+use crate::blank::Blank;
+use crate::faults::{CloseCause, NodeFault};
+use crate::keeper::Keeper;
+use crate::post::{Post, Told};
+use crate::seat::Seat;
+use delta_pieces::Piece;
+use edit_sums::Content;
+use join_law::Version;
+use load_path::Path;
+use node_histories::{Front, History, NodeName};
+use replica_store::Replica;
+use std::sync::{Mutex, MutexGuard, Wait};
+
+// What lies under the lock. It is without a keeper only while the lock's holder changes it.
+struct Desk<N: NodeName> {
+    keeper: Option<Keeper<N>>,
+    ghost there: { is_some keeper ≡ true },
+}
+
+// Puts the keeper back.
+fn put<N: NodeName, R: Wait>(slot: &mut Option<Keeper<N>>, rt: &R, keeper: Keeper<N>)
+    requires empty { slot.old ≡ None }
+    ensures there { slot.new ≡ Some keeper }
+{
+    match slot.replace(keeper) {
+        Some(old) => drop(old.close(rt)),
+        None => {}
+    }
+}
+
+impl<N: NodeName> Desk<N> {
+    fn edit<R: Wait>(
+        &mut self,
+        rt: &R,
+        seat: &mut Seat<N>,
+        path: Path,
+        content: Content,
+    ) -> Result<(Version, Told<N>), NodeFault<N>>
+        ensures taken { IfOk result (λ r.
+            EndsWith seat.old.seen r.1 (Edited seat.old.number
+            (record { path = path; version = r.0; content = content }))) }
+        ensures told { IfOk result (λ r. IsLegal N.opening r.1 × (seat.new.seen ≡ r.1)) }
+        ensures counted { IfOk result (λ _. (seat.new.calls ≡ seat.old.calls + 1)
+            × (seat.new.number ≡ seat.old.number)) }
+        ensures fault { IfErr result (λ f. AtFault N.opening f seat.old seat.new) }
+        ensures kind { IfErr result (λ f. IsEditFault f) }
+    {
+        let keeper = self.keeper.take().unwrap();
+        let (keeper, result) = keeper.edit(rt, seat, path, content);
+        put(&mut self.keeper, rt, keeper);
+        result
+    }
+
+    fn absorb<R: Wait>(
+        &mut self,
+        rt: &R,
+        seat: &mut Seat<N>,
+        piece: Piece,
+    ) -> Result<(u64, Told<N>), NodeFault<N>>
+        ensures taken { IfOk result (λ r. EndsChanging seat.old.seen r.1 (Absorbed seat.old.number piece) r.0) }
+        ensures told { IfOk result (λ r. IsLegal N.opening r.1 × (seat.new.seen ≡ r.1)) }
+        ensures counted { IfOk result (λ _. (seat.new.calls ≡ seat.old.calls + 1)
+            × (seat.new.number ≡ seat.old.number)) }
+        ensures fault { IfErr result (λ f. AtFault N.opening f seat.old seat.new) }
+        ensures kind { IfErr result (λ f. IsPieceFault f) }
+    {
+        let keeper = self.keeper.take().unwrap();
+        let (keeper, result) = keeper.absorb(rt, seat, piece);
+        put(&mut self.keeper, rt, keeper);
+        result
+    }
+
+    fn seat<R: Wait>(&mut self, rt: &R) -> Option<Seat<N>>
+        ensures calls { IfSome result (λ s. s.calls ≡ 0) }
+        ensures within { IfSome result (λ s. s.number < N.seats) }
+        ensures legal { IfSome result (λ s. IsLegal N.opening s.seen) }
+    {
+        let keeper = self.keeper.take().unwrap();
+        let (keeper, seat) = keeper.seat();
+        put(&mut self.keeper, rt, keeper);
+        seat
+    }
+}
+
+/// A node: a replica that threads share by its seats. It isn't `Drop`: `close` ends it, or `end` where seats are lost.
+pub struct Node<N: NodeName> {
+    desk: Mutex<Desk<N>>,
+}
+
+/// What is left of a node: its replica, how many takes it had, and a token of its history.
+#[derive(Drop)]
+pub struct Closed {
+    pub replica: Replica,
+    pub takes: u64,
+    pub seen: History,
+}
+
+/// Why a node wasn't closed. The node and the seats come back.
+pub struct CloseFault<N: NodeName> {
+    pub node: Node<N>,
+    pub seats: Vec<Seat<N>>,
+    pub cause: CloseCause,
+}
+
+// The node of a keeper.
+fn node_of<N: NodeName>(keeper: Keeper<N>) -> Node<N> {
+    Node {
+        desk: Mutex::new(Desk {
+            keeper: Some(keeper),
+        }),
+    }
+}
+
+impl<N: NodeName> Node<N> {
+    /// Opens the node that N names, whose blank it has to be. It takes no memory. Its history has no takes.
+    pub fn open(blank: Blank) -> Node<N>
+        requires book { blank.book ≡ N.book }
+        requires opening { blank.opening ≡ N.opening }
+        requires seats { blank.seats ≡ N.seats }
+    {
+        let Blank {
+            alloc,
+            head,
+            seen,
+            writer,
+            counts,
+        } = blank;
+        let counter = writer.published().counter();
+        let account = Account::new(alloc, Front::of(0, &seen), counter, counts);
+        node_of(Keeper::open(head, account, Post::new(writer)))
+    }
+
+    /// A seat that has made no take, and has seen at least what the node opened over. It may wait.
+    ///
+    /// It is refused as `NoSeat` where all seats are out, or there is no place for a reader.
+    pub fn seat<R: Wait>(&self, rt: &R) -> Result<Seat<N>, NodeFault<N>>
+        ensures calls { IfOk result (λ s. s.calls ≡ 0) }
+        ensures within { IfOk result (λ s. s.number < N.seats) }
+        ensures legal { IfOk result (λ s. IsLegal N.opening s.seen) }
+        ensures kind { IfErr result (λ f. IsSeatFault f) }
+    {
+        let mut desk = self.desk.lock(rt);
+        let seat = desk.seat(rt);
+        MutexGuard::unlock(desk);
+        match seat {
+            Some(seat) => Ok(seat),
+            None => Err(NodeFault::NoSeat),
+        }
+    }
+
+    /// Takes an edit for this seat, under the next version, and publishes it. It may wait: for the lock, and for views
+    /// that are held. It costs what is written and one copy of the replica, which copies no contents.
+    ///
+    /// This take is the last of the answer's history, which goes on from what the seat had seen. A refusal is `TakesSpent`,
+    /// `Disagree` or `VersionsSpent`, in this order, before anything is published; `Memory`, where nothing was
+    /// accepted;
+    /// or `Pending`, where the edit was accepted and isn't published yet.
+    pub fn edit<R: Wait>(
+        &self,
+        rt: &R,
+        seat: &mut Seat<N>,
+        path: Path,
+        content: Content,
+    ) -> Result<(Version, Told<N>), NodeFault<N>>
+        ensures taken { IfOk result (λ r.
+            EndsWith seat.old.seen r.1 (Edited seat.old.number
+            (record { path = path; version = r.0; content = content }))) }
+        ensures told { IfOk result (λ r. IsLegal N.opening r.1 × (seat.new.seen ≡ r.1)) }
+        ensures counted { IfOk result (λ _. (seat.new.calls ≡ seat.old.calls + 1)
+            × (seat.new.number ≡ seat.old.number)) }
+        ensures fault { IfErr result (λ f. AtFault N.opening f seat.old seat.new) }
+        ensures kind { IfErr result (λ f. IsEditFault f) }
+    {
+        let mut desk = self.desk.lock(rt);
+        let result = desk.edit(rt, seat, path, content);
+        MutexGuard::unlock(desk);
+        result
+    }
+
+    /// Takes a piece for this seat, publishes it, and answers how many paths changed. It may wait, as `edit` does. It
+    /// costs what the piece changes and one copy of the replica, which copies no contents.
+    ///
+    /// This take is the last of the answer's history, which goes on from what the seat had seen. It is refused as `edit` is,
+    /// but never as `VersionsSpent`.
+    pub fn absorb<R: Wait>(
+        &self,
+        rt: &R,
+        seat: &mut Seat<N>,
+        piece: Piece,
+    ) -> Result<(u64, Told<N>), NodeFault<N>>
+        ensures taken { IfOk result (λ r. EndsChanging seat.old.seen r.1 (Absorbed seat.old.number piece) r.0) }
+        ensures told { IfOk result (λ r. IsLegal N.opening r.1 × (seat.new.seen ≡ r.1)) }
+        ensures counted { IfOk result (λ _. (seat.new.calls ≡ seat.old.calls + 1)
+            × (seat.new.number ≡ seat.old.number)) }
+        ensures fault { IfErr result (λ f. AtFault N.opening f seat.old seat.new) }
+        ensures kind { IfErr result (λ f. IsPieceFault f) }
+    {
+        let mut desk = self.desk.lock(rt);
+        let result = desk.absorb(rt, seat, piece);
+        MutexGuard::unlock(desk);
+        result
+    }
+
+    /// Ends the node, and gives its replica and how many takes it had. It may wait. One copy of the replica, which
+    /// copies
+    /// no contents. The history that is left begins with what each of these seats has seen, and has just as many takes
+    /// of each as it made, and no others.
+    ///
+    /// It is refused as `SeatsOut` where seats that were given are absent, then as `Disagree` where the counts of these
+    /// seats aren't the node's, then as `Memory` for want of it, a pending take among it. Node and seats come back.
+    pub fn close<R: Wait>(self, rt: &R, seats: Vec<Seat<N>>) -> Result<Closed, CloseFault<N>>
+        ensures legal { IfOk result (λ d. IsLegal N.opening d.seen.log) }
+        ensures book { IfOk result (λ d. d.seen.book ≡ N.book) }
+        ensures agree { IfOk result (λ d. AllAgree d.seen.log seats.items) }
+        ensures takes { IfOk result (λ d. d.takes ≡ takes_in d.seen.log) }
+        ensures sum { IfOk result (λ d. d.takes ≡ sum_by (λ s. s.calls) seats.items) }
+        ensures replica { IfOk result (λ d. d.replica ≡ replica_of d.seen.log) }
+        ensures seats { IfErr result (λ f. f.seats ≡ seats) }
+    {
+        let Node { desk } = self;
+        let Desk { keeper } = desk.into_inner();
+        let keeper = keeper.unwrap();
+        if let Err(cause) = keeper.audit(&seats) {
+            let node = node_of(keeper);
+            return Err(CloseFault { node, seats, cause });
+        }
+        let (keeper, sent) = keeper.flush(rt);
+        if sent.is_err() {
+            let node = node_of(keeper);
+            let cause = CloseCause::Memory;
+            return Err(CloseFault { node, seats, cause });
+        }
+        let Ok(replica) = keeper.replica() else {
+            let node = node_of(keeper);
+            let cause = CloseCause::Memory;
+            return Err(CloseFault { node, seats, cause });
+        };
+        let page = keeper.close(rt);
+        Ok(Closed {
+            replica,
+            takes: page.takes(),
+            seen: page.seen.again(),
+        })
+    }
+
+    /// Ends the node, whatever seats it gave: the way out where a seat is lost, so that `close` can't be answered. A
+    /// take
+    /// that is pending is lost. It may wait.
+    pub fn end<R: Wait>(self, rt: &R) {
+        let Node { desk } = self;
+        let Desk { keeper } = desk.into_inner();
+        drop(keeper.unwrap().close(rt));
+    }
+}

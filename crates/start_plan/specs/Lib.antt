@@ -1,0 +1,5 @@
+pub mod Marks
+pub mod Outcomes
+pub mod PlanLaws
+pub mod Requests
+pub mod Tellings

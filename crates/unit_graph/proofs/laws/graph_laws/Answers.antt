@@ -1,0 +1,6 @@
+use Rattle.unit_graph.specs.GraphLaws.{known_names}
+use Rattle.unit_graph.specs.MemberLaws.{members_are_units}
+use Rattle.unit_graph.proofs.laws.graph_laws.Goals as goal
+
+pub returns : goal.returns
+returns c = record { known = known_names; members = members_are_units }

@@ -1,0 +1,5 @@
+pub mod DistanceNames
+pub mod GraphLaws
+pub mod Graphs
+pub mod MemberLaws
+pub mod Tables

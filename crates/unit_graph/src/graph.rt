@@ -1,0 +1,116 @@
+//! The graph of a load.
+ghost use Rattle.std.specs.Prelude.{◌≡◌, ◌↔◌, IfOk, IsTrue, MatchOption};
+ghost use Rattle.std.specs.Option.{option_copied};
+ghost use Rattle.parallel_load.specs.Loads.{main_in};
+ghost use Rattle.inverse_deps.specs.Edges.{AreEdges, names_in};
+ghost use Rattle.unit_graph.specs.Graphs.{IsKnown, IsNumberFor, LeadToUnits, manual_in, status_in};
+
+use crate::tables::tables;
+use inverse_deps::{Edges, number_of};
+use parallel_load::{Loaded, Status};
+use setting_rules::DepKind;
+use std::alloc::{AllocError, Global};
+use std::marker::Model;
+use unit_name::UnitName;
+
+/// The graph of a load: its names numbered in byte order, and from each unit the steps of each kind.
+#[derive(Drop)]
+pub struct Graph<'a> {
+    pub(crate) loaded: &'a Loaded,
+    pub(crate) edges: &'a Edges,
+    pub(crate) tables: Vec<Vec<Vec<usize>>>,
+}
+
+impl<'a> Model for Graph<'a> {
+    ghost use Rattle.unit_graph.specs.Graphs.{GraphMap, coded_graph};
+    ghost use Rattle.unit_graph.specs.Tables.{AreTables};
+
+    ghost Value = { GraphMap };
+
+    ghost coded = { coded_graph };
+
+    ghost view = { λ g. record { load = g.loaded.now; edges = g.edges.now } };
+
+    ghost invariant = { λ g. AreTables g.loaded.now g.edges.now g.tables.items };
+}
+
+impl<'a> Graph<'a> {
+    /// The graph of a load and its edges. It fails for want of memory alone. O(n) and the edges, beside the logarithm of n,
+    /// for n names.
+    pub fn build(
+        alloc: Global,
+        loaded: &'a Loaded,
+        edges: &'a Edges,
+    ) -> Result<Graph<'a>, AllocError>
+        requires edges { AreEdges loaded.now edges.now }
+        ensures load { IfOk result (λ graph. graph.load ≡ loaded.now) }
+        ensures edges { IfOk result (λ graph. graph.edges ≡ edges.now) }
+    {
+        let tables = tables(alloc, loaded, edges)?;
+        Ok(Graph {
+            loaded,
+            edges,
+            tables,
+        })
+    }
+
+    /// The load.
+    pub fn loaded(&self) -> &'a Loaded
+        ensures load { result.now ≡ self.now.load }
+        ensures units { LeadToUnits self.now }
+    {
+        self.loaded
+    }
+
+    /// Whether a name stands for a unit: true for each name of the universe, aliases too. O(log n), without memory.
+    pub fn has(&self, name: &UnitName) -> bool
+        ensures has { IsTrue result ↔ IsKnown self.now.load name.now }
+    {
+        self.number(name).is_some()
+    }
+
+    /// The main name of a name, as the load has it. O(log n), without memory.
+    pub fn main(&self, name: &UnitName) -> Option<&UnitName>
+        ensures main { option_copied result ≡ main_in self.now.load name.now }
+    {
+        self.loaded.main(name)
+    }
+
+    /// What stands for a unit, by its main name. None for another name. O(log n), without memory.
+    pub fn status(&self, name: &UnitName) -> Option<&Status>
+        ensures status { option_copied result ≡ status_in self.now.load name.now }
+    {
+        match self.loaded.unit(name) {
+            Some(unit) => Some(&unit.status),
+            None => None,
+        }
+    }
+
+    /// Whether a unit refuses that a person starts it, by its main name. None for another name. O(log n), without memory.
+    pub fn manual(&self, name: &UnitName) -> Option<bool>
+        ensures manual { result ≡ manual_in self.now.load name.now }
+    {
+        match self.loaded.unit(name) {
+            Some(unit) => Some(unit.manual),
+            None => None,
+        }
+    }
+
+    /// The units to which edges of a kind lead from a unit, by its main name, in byte order. O(log n), without memory.
+    pub fn of(&self, kind: DepKind, name: &UnitName) -> &[UnitName]
+        ensures names { result.now ≡ names_in self.now.edges kind name.now }
+    {
+        self.edges.of(kind, name)
+    }
+
+    /// The number of the unit for which a name stands: its place among all names. None where the name stands for no unit.
+    /// O(log n), without memory.
+    pub fn number(&self, name: &UnitName) -> Option<usize>
+        ensures number { MatchOption result (¬ IsKnown self.now.load name.now) (IsNumberFor self.now.load name.now) }
+    {
+        match self.loaded.main(name) {
+            Some(main) => number_of(self.loaded, main),
+            None => None,
+        }
+    }
+}

@@ -1,0 +1,14 @@
+//! The graph of a load: its names numbered in byte order, and from each unit the steps of each kind.
+//!
+//! What is reached from a unit and how far it is are told by names. A planner takes the steps by numbers.
+#![tactic(auto)]
+
+mod graph;
+mod laws;
+mod members;
+mod reaches;
+mod rows;
+mod tables;
+
+pub use graph::Graph;
+pub use laws::graph_laws;

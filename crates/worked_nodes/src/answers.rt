@@ -1,0 +1,136 @@
+//! The answers of lines.
+ghost use Rattle.std.specs.Prelude.{◌≡◌};
+
+use crate::bench::Bench;
+use crate::endings::{close, close_short};
+use crate::steps::step;
+use crate::threads::{plan_of, work_threads};
+use crate::words::{LineFault, Words};
+use node_histories::NodeName;
+use replica_store::Replica;
+use script_words::{cut_line, is_passed_over};
+use shared_node::{Blank, BlankFault, Node};
+use std::alloc::{AllocError, Global};
+use std::marker::Brand;
+use std::sync::Wait;
+use std::thread::Threads;
+
+// Does the steps at an open node, up to a word that is none; whether that word is `short`.
+fn work_steps<N: NodeName, R: Wait>(
+    rt: &R,
+    node: &Node<N>,
+    bench: &mut Bench<N>,
+    words: &mut Words,
+) -> Result<bool, LineFault> {
+    for _ in 0..words.bound() {
+        let Some(word) = words.next_word() else {
+            return Ok(false);
+        };
+        if !step(rt, node, bench, word, words)? {
+            return Ok(word == b"short".as_slice());
+        }
+    }
+    Ok(false)
+}
+
+// Does what a line says at the node of this blank, and closes it. What was answered comes back.
+fn work_node<N: NodeName, R: Wait>(
+    rt: &R,
+    alloc: Global,
+    blank: Blank,
+    words: &mut Words,
+) -> Result<Vec<u8>, LineFault>
+    requires book { blank.book ≡ N.book }
+    requires opening { blank.opening ≡ N.opening }
+    requires seats { blank.seats ≡ N.seats }
+{
+    let node = Node::<N>::open(blank);
+    let mut bench = Bench::new(alloc);
+    let closed = match work_steps(rt, &node, &mut bench, words) {
+        Ok(true) => close_short(rt, node, &mut bench),
+        Ok(false) => close(rt, node, &mut bench),
+        Err(fault) => {
+            node.end(rt);
+            Err(fault)
+        }
+    };
+    closed?;
+    Ok(bench.out)
+}
+
+// What a line of a node answers.
+fn answer_node<R: Wait>(rt: &R, alloc: Global, words: &mut Words) -> Result<Vec<u8>, LineFault> {
+    let replica = Replica::new(alloc, words.writer()?);
+    let seats = words.place()?;
+    match Blank::new(rt, replica, seats) {
+        Ok(blank) => work_node::<Brand, R>(rt, alloc, blank, words),
+        Err(BlankFault::Seats) => Ok(Vec::from_slice(alloc, b"\n  A1 Seats")?),
+        Err(BlankFault::Memory(_)) => Err(LineFault::Memory),
+    }
+}
+
+// What a line of threads answers.
+fn answer_threads<R: Threads + Wait + Sync>(
+    rt: &R,
+    alloc: Global,
+    words: &mut Words,
+) -> Result<Vec<u8>, LineFault> {
+    let replica = Replica::new(alloc, words.writer()?);
+    let plan = plan_of(words)?;
+    let Some(seats) = plan.writers.checked_add(plan.readers) else {
+        return Err(LineFault::Words);
+    };
+    match Blank::new(rt, replica, seats) {
+        Ok(blank) => work_threads::<Brand, R>(rt, alloc, blank, plan),
+        Err(BlankFault::Seats) => Ok(Vec::from_slice(alloc, b"\n  A1 Seats")?),
+        Err(BlankFault::Memory(_)) => Err(LineFault::Memory),
+    }
+}
+
+// What a line answers.
+fn answer<R: Threads + Wait + Sync>(
+    rt: &R,
+    alloc: Global,
+    line: &[u8],
+) -> Result<Vec<u8>, LineFault> {
+    let mut words = Words::new(alloc, line);
+    match words.word()? {
+        b"node" => answer_node(rt, alloc, &mut words),
+        b"threads" => answer_threads(rt, alloc, &mut words),
+        _ => Err(LineFault::Words),
+    }
+}
+
+// Writes a line, and below it its answers if it is a node.
+fn append_line<R: Threads + Wait + Sync>(
+    rt: &R,
+    alloc: Global,
+    out: &mut Vec<u8>,
+    line: &[u8],
+) -> Result<(), AllocError> {
+    out.extend_from_slice(line)?;
+    if !is_passed_over(line) {
+        match answer(rt, alloc, line) {
+            Ok(text) => out.extend_from_slice(&text)?,
+            Err(LineFault::Words) => out.extend_from_slice(b"\n  no such line")?,
+            Err(LineFault::Memory) => return Err(AllocError),
+        }
+    }
+    Ok(out.push(b'\n')?)
+}
+
+/// All lines, each with its answers.
+pub fn work_lines<R: Threads + Wait + Sync>(
+    rt: &R,
+    alloc: Global,
+    lines: &[u8],
+) -> Result<Vec<u8>, AllocError> {
+    let mut out = Vec::new(alloc);
+    let mut rest = lines;
+    while !rest.is_empty() {
+        let (line, later) = cut_line(rest);
+        append_line(rt, alloc, &mut out, line)?;
+        rest = later;
+    }
+    Ok(out)
+}

@@ -1,0 +1,110 @@
+//! How a node is closed.
+use crate::bench::{Bench, store_text};
+use crate::words::LineFault;
+use node_histories::NodeName;
+use shared_node::{CloseFault, Closed, Node, Seat};
+use std::alloc::Global;
+use std::sync::Wait;
+
+// The seats of a bench.
+fn seats_of<N: NodeName>(bench: &mut Bench<N>) -> Result<Vec<Seat<N>>, LineFault> {
+    let mut seats = Vec::new(bench.alloc);
+    for slot in bench.seats.iter_mut() {
+        if let Some(seat) = slot.take() {
+            seats.push(seat)?;
+        }
+    }
+    Ok(seats)
+}
+
+// Writes what is left of a node.
+fn tell_closed<N: NodeName>(bench: &mut Bench<N>, closed: &Closed) -> Result<(), LineFault> {
+    let text = store_text(bench.alloc, closed.takes, closed.replica.store())?;
+    bench.out.extend_from_slice(b"\n  closed ")?;
+    Ok(bench.out.extend_from_slice(&text)?)
+}
+
+// Writes why a node wasn't closed.
+fn tell_refused<N: NodeName>(bench: &mut Bench<N>, fault: &CloseFault<N>) -> Result<(), LineFault> {
+    let cause = fault.cause;
+    let text = format!(in bench.alloc; "{cause}")?;
+    bench.tell(text.as_str())
+}
+
+// Closes a node with these seats.
+fn close_with<N: NodeName, R: Wait>(
+    rt: &R,
+    node: Node<N>,
+    bench: &mut Bench<N>,
+    seats: Vec<Seat<N>>,
+) -> Result<(), LineFault> {
+    match node.close(rt, seats) {
+        Ok(closed) => tell_closed(bench, &closed),
+        Err(fault) => {
+            let told = tell_refused(bench, &fault);
+            let CloseFault {
+                node,
+                seats: _seats,
+                cause: _,
+            } = fault;
+            node.end(rt);
+            told
+        }
+    }
+}
+
+/// Closes a node with all seats of the bench.
+pub fn close<N: NodeName, R: Wait>(
+    rt: &R,
+    node: Node<N>,
+    bench: &mut Bench<N>,
+) -> Result<(), LineFault> {
+    match seats_of(bench) {
+        Ok(seats) => close_with(rt, node, bench, seats),
+        Err(fault) => {
+            node.end(rt);
+            Err(fault)
+        }
+    }
+}
+
+// Closes a node with these seats; then, where that was refused, with one seat more.
+fn close_again<N: NodeName, R: Wait>(
+    rt: &R,
+    node: Node<N>,
+    bench: &mut Bench<N>,
+    seats: Vec<Seat<N>>,
+    last: Seat<N>,
+) -> Result<(), LineFault> {
+    let fault = match node.close(rt, seats) {
+        Ok(closed) => return tell_closed(bench, &closed),
+        Err(fault) => fault,
+    };
+    let told = tell_refused(bench, &fault);
+    let CloseFault {
+        node,
+        mut seats,
+        cause: _,
+    } = fault;
+    if told.is_err() || seats.push(last).is_err() {
+        node.end(rt);
+        return Err(LineFault::Memory);
+    }
+    close_with(rt, node, bench, seats)
+}
+
+/// Closes a node without its last seat, which is refused, and then with it.
+pub fn close_short<N: NodeName, R: Wait>(
+    rt: &R,
+    node: Node<N>,
+    bench: &mut Bench<N>,
+) -> Result<(), LineFault> {
+    let Ok(mut seats) = seats_of(bench) else {
+        node.end(rt);
+        return Err(LineFault::Memory);
+    };
+    match seats.pop() {
+        Some(last) => close_again(rt, node, bench, seats, last),
+        None => close_with(rt, node, bench, seats),
+    }
+}

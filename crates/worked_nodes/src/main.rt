@@ -1,0 +1,40 @@
+//! Works calls of running nodes: reads a node a line from standard input, with what is done at it, and writes each line
+//! with its answers below it.
+//!
+//! A line is `node WRITER SEATS`, and behind it steps: `seat`, `edit SEAT PATH TEXT`,
+//! `absorb SEAT PATH COUNTER WRITER TEXT`, `learn SEAT`, `view SEAT`, `serve SEAT PATH TEXT`, `short`. At the end the
+//! node
+//! is closed with all its seats; behind `short` first without the last.
+//!
+//! Or it is `threads WRITER WRITERS EDITS READERS VIEWS`: so many seats edit, each at its own path, beside others that
+//! view, each in a thread of its own; each view is compared with the number of takes that it shows. Lines that are
+//! empty
+//! or begin with `#` are repeated as they are. `stdin` has the lines, and `stdout` what each must answer; the gate
+//! compares the two.
+#![tactic(auto)]
+
+mod answers;
+mod bench;
+mod endings;
+mod steps;
+mod threads;
+mod words;
+
+use script_pipes::{Watched, read_all, write_all};
+use std::io;
+use std::process::ExitCode;
+
+fn main(rt: HostRuntime) -> ExitCode {
+    let mut reader = Watched::new(rt.reader());
+    let Ok(lines) = read_all(rt.alloc(), &mut reader) else {
+        return ExitCode::from(1);
+    };
+    let Ok(out) = answers::work_lines(&rt, rt.alloc(), &lines) else {
+        return ExitCode::from(2);
+    };
+    let mut writer = Watched::new(io::writer(&rt));
+    if write_all(&mut writer, &out).is_err() {
+        return ExitCode::from(1);
+    }
+    ExitCode::from(0)
+}

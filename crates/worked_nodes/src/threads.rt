@@ -1,0 +1,225 @@
+//! Nodes at which threads work side by side.
+ghost use Rattle.std.specs.Prelude.{◌≡◌};
+
+use crate::words::{LineFault, Words};
+use edit_sums::Content;
+use load_path::Path;
+use node_histories::NodeName;
+use shared_node::{Blank, CloseFault, Node, Seat};
+use std::alloc::{AllocError, Global};
+use std::sync::Wait;
+use std::thread;
+use std::thread::Threads;
+
+/// How many seats write and read, how many edits each writer makes, and how often each reader views.
+#[derive(Clone, Copy)]
+pub struct Plan {
+    pub writers: usize,
+    pub edits: u64,
+    pub readers: usize,
+    pub views: u64,
+}
+
+/// The plan that words write.
+pub fn plan_of(words: &mut Words) -> Result<Plan, LineFault> {
+    Ok(Plan {
+        writers: words.place()?,
+        edits: words.number()?,
+        readers: words.place()?,
+        views: words.number()?,
+    })
+}
+
+// A seat, with what a thread does from it.
+#[derive(Drop)]
+struct Job<N: NodeName> {
+    seat: Seat<N>,
+    edits: u64,
+    views: u64,
+}
+
+// The path of a seat's own file.
+fn path_of(alloc: Global, seat: usize) -> Result<Path, LineFault> {
+    let text = format!(in alloc; "/etc/systemd/system/crowd-{seat}.service")?;
+    Path::parse(alloc, text.as_bytes()).map_err(|_| LineFault::Memory)
+}
+
+// What a seat writes at its edit of this number.
+fn file_of(alloc: Global, seat: usize, number: u64) -> Result<Content, LineFault> {
+    let text = format!(in alloc; "[Unit]\nDescription={seat} {number}\n")?;
+    let bytes = Vec::from_slice(alloc, text.as_bytes())?;
+    Content::file(bytes).map_err(|_| LineFault::Memory)
+}
+
+// Makes so many edits from a seat.
+fn make_edits<N: NodeName, R: Wait>(
+    rt: &R,
+    alloc: Global,
+    node: &Node<N>,
+    seat: &mut Seat<N>,
+    edits: u64,
+) -> Result<(), LineFault> {
+    for number in 0..edits {
+        let path = path_of(alloc, seat.number())?;
+        let content = file_of(alloc, seat.number(), number)?;
+        if node.edit(rt, seat, path, content).is_err() {
+            return Err(LineFault::Memory);
+        }
+    }
+    Ok(())
+}
+
+// Views once. All takes are edits, so as many as the view shows is the greatest counter that its store holds.
+fn look<N: NodeName>(seat: Seat<N>) -> (Seat<N>, bool) {
+    match seat.view() {
+        Ok(view) => {
+            let is_fine = view.takes() == view.store().high();
+            (view.leave(), is_fine)
+        }
+        Err(fault) => (fault.seat, false),
+    }
+}
+
+// Views so often; whether each view was fine.
+fn look_often<N: NodeName>(seat: Seat<N>, views: u64) -> (Seat<N>, bool) {
+    let mut seat = seat;
+    let mut are_fine = true;
+    for _ in 0..views {
+        let (next, is_fine) = look(seat);
+        seat = next;
+        are_fine = are_fine && is_fine;
+    }
+    (seat, are_fine)
+}
+
+// Does what a thread has to do; whether all went well.
+fn do_job<N: NodeName, R: Wait>(
+    rt: &R,
+    alloc: Global,
+    node: &Node<N>,
+    job: Job<N>,
+) -> (Seat<N>, bool) {
+    let Job {
+        mut seat,
+        edits,
+        views,
+    } = job;
+    let edited = make_edits(rt, alloc, node, &mut seat, edits);
+    let (seat, are_fine) = look_often(seat, views);
+    (seat, edited.is_ok() && are_fine)
+}
+
+// A job for each seat of a plan.
+fn jobs_of<N: NodeName, R: Wait>(
+    rt: &R,
+    alloc: Global,
+    node: &Node<N>,
+    plan: Plan,
+) -> Result<Vec<Job<N>>, LineFault> {
+    let mut jobs = Vec::new(alloc);
+    for _ in 0..plan.writers {
+        let seat = node.seat(rt).map_err(|_| LineFault::Words)?;
+        let edits = plan.edits;
+        jobs.push(Job {
+            seat,
+            edits,
+            views: 0,
+        })?;
+    }
+    for _ in 0..plan.readers {
+        let seat = node.seat(rt).map_err(|_| LineFault::Words)?;
+        let views = plan.views;
+        jobs.push(Job {
+            seat,
+            edits: 0,
+            views,
+        })?;
+    }
+    Ok(jobs)
+}
+
+// Does each job in a thread of its own.
+fn do_jobs<N: NodeName + Send + Sync, R: Threads + Wait + Sync>(
+    rt: &R,
+    alloc: Global,
+    node: &Node<N>,
+    jobs: Vec<Job<N>>,
+) -> Result<Vec<(Seat<N>, bool)>, AllocError> {
+    let work = |job: Job<N>| -> (Seat<N>, bool) { do_job(rt, alloc, node, job) };
+    thread::map_vec(rt, jobs, &work)
+}
+
+// The seats that come back from threads, and whether all went well.
+fn seats_of<N: NodeName>(
+    alloc: Global,
+    done: Vec<(Seat<N>, bool)>,
+) -> Result<(Vec<Seat<N>>, bool), AllocError> {
+    let mut seats = Vec::new(alloc);
+    let mut are_fine = true;
+    for (seat, is_fine) in done {
+        seats.push(seat)?;
+        are_fine = are_fine && is_fine;
+    }
+    Ok((seats, are_fine))
+}
+
+// Does what a plan says; the seats come back.
+fn work_plan<N: NodeName + Send + Sync, R: Threads + Wait + Sync>(
+    rt: &R,
+    alloc: Global,
+    node: &Node<N>,
+    plan: Plan,
+) -> Result<(Vec<Seat<N>>, bool), LineFault> {
+    let jobs = jobs_of(rt, alloc, node, plan)?;
+    let done = do_jobs(rt, alloc, node, jobs)?;
+    Ok(seats_of(alloc, done)?)
+}
+
+// Closes a node with its seats, and tells how many takes it had and how many paths it holds.
+fn close_with<N: NodeName, R: Wait>(
+    rt: &R,
+    alloc: Global,
+    node: Node<N>,
+    seats: Vec<Seat<N>>,
+    are_fine: bool,
+) -> Result<Vec<u8>, LineFault> {
+    match node.close(rt, seats) {
+        Ok(closed) => {
+            let takes = closed.takes;
+            let paths = closed.replica.store().len();
+            let word = if are_fine { "fine" } else { "not fine" };
+            let text = format!(in alloc; "\n  {word}\n  closed takes {takes} paths {paths}")?;
+            Ok(text.into_bytes())
+        }
+        Err(fault) => {
+            let CloseFault {
+                node,
+                seats: _seats,
+                cause: _,
+            } = fault;
+            node.end(rt);
+            Err(LineFault::Memory)
+        }
+    }
+}
+
+/// Does what a plan says at the node of this blank, each seat in a thread of its own, and closes it.
+pub fn work_threads<N: NodeName + Send + Sync, R: Threads + Wait + Sync>(
+    rt: &R,
+    alloc: Global,
+    blank: Blank,
+    plan: Plan,
+) -> Result<Vec<u8>, LineFault>
+    requires book { blank.book ≡ N.book }
+    requires opening { blank.opening ≡ N.opening }
+    requires seats { blank.seats ≡ N.seats }
+{
+    let node = Node::<N>::open(blank);
+    match work_plan(rt, alloc, &node, plan) {
+        Ok((seats, are_fine)) => close_with(rt, alloc, node, seats, are_fine),
+        Err(fault) => {
+            node.end(rt);
+            Err(fault)
+        }
+    }
+}
