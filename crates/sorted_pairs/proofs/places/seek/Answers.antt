@@ -1,14 +1,20 @@
-use Rattle.std.proofs.Common.{rules}
+use Rattle.std.proofs.Common.{rules, sym, ◌∙◌}
 use Rattle.std.proofs.lemmas.Fn.{always_returns_same}
-use Rattle.sorted_pairs.specs.SearchLaws.{search_finds}
+use Rattle.sorted_pairs.specs.SearchLaws.{behind_last, last_has, search_finds}
 use Rattle.sorted_pairs.proofs.places.seek.Goals as goal
 
-pub returns-clause-found : goal.returns-clause-found
-returns-clause-found g c =
+pub returns-in-Less-clause-absent : goal.returns-in-Less-clause-absent
+returns-in-Less-clause-absent g c = behind_last g.K.Ord.cmp g.met.K.Ord.total c.args.key.now _ _ _ c.in-Some.ensures.cases.0 c.requires.sorted (sym c.cmp.ensures ∙ c.in-Less.is)
+
+pub returns-in-Equal-clause-found : goal.returns-in-Equal-clause-found
+returns-in-Equal-clause-found g c = last_has g.K.Ord.cmp g.met.K.Ord.total c.args.key.now _ _ _ c.in-Some.ensures.cases.0 c.requires.sorted (sym c.cmp.ensures ∙ c.in-Equal.is)
+
+pub returns-in-Greater-clause-found : goal.returns-in-Greater-clause-found
+returns-in-Greater-clause-found g c =
     let by_key = c.binary_search_by.ensures.position (λ pair. g.K.Ord.cmp pair.0 c.args.key.now) (always_returns_same _ _ _ (λ a r f called. (search rules, search rules))) in
     (search_finds g.K.Ord.cmp g.met.K.Ord.total c.args.key.now _ _ c.requires.sorted c.binary_search_by.ensures.bound by_key).0
 
-pub returns-clause-absent : goal.returns-clause-absent
-returns-clause-absent g c =
+pub returns-in-Greater-clause-absent : goal.returns-in-Greater-clause-absent
+returns-in-Greater-clause-absent g c =
     let by_key = c.binary_search_by.ensures.position (λ pair. g.K.Ord.cmp pair.0 c.args.key.now) (always_returns_same _ _ _ (λ a r f called. (search rules, search rules))) in
     (search_finds g.K.Ord.cmp g.met.K.Ord.total c.args.key.now _ _ c.requires.sorted c.binary_search_by.ensures.bound by_key).1
