@@ -219,7 +219,8 @@ fn dirs_of(alloc: Global, folders: &[UnitName], ending: &[u8]) -> Result<Vec<Byt
 fn dir_with(alloc: Global, folder: &UnitName, ending: &[u8]) -> Result<Bytes, AllocError>
     ensures dir { IfOk result (λ dir. dir ≡ folder.now ++ ending.now) }
 {
-    let mut bytes = Vec::from_slice(alloc, folder.bytes())?;
+    let mut bytes = Vec::with_capacity(alloc, folder.bytes().len() + ending.len())?;
+    bytes.extend_from_slice(folder.bytes())?;
     bytes.extend_from_slice(ending)?;
     Bytes::from_vec(bytes)
 }

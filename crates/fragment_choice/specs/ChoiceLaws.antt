@@ -43,6 +43,10 @@ MasksHide = (s : EntryMap) (n : Name) (r : ℕ) (x : Content) → IsLevel r → 
 abbrev pub OnlyVisibleCounts : Type 0
 OnlyVisibleCounts = (s t : EntryMap) → ((p : PathParts) → visible_at s p ≡ visible_at t p) → (n : Name) → choice s n ≡ choice t n
 
+-- stores that show the same at paths of one component choose the same, whatever their folders show
+abbrev pub OwnPathsCount : Type 0
+OwnPathsCount = (s t : EntryMap) → ((p : PathParts) → p.folder ≡ [] → visible_at s p ≡ visible_at t p) → (n : Name) → choice s n ≡ choice t n
+
 -- a removal gives back what was there: the choice is that of a store that never had anything at the path
 abbrev pub RemovalsGiveBack : Type 0
 RemovalsGiveBack = (s t : EntryMap) (p : PathParts) → visible_at s p ≡ None → visible_at t p ≡ None → ((q : PathParts) → q ≢ p → visible_at s q ≡ visible_at t q) → (n : Name) → choice s n ≡ choice t n
@@ -74,17 +78,20 @@ pub masks_hide : MasksHide
 masks_hide s n r x h e m none =
     least_rank_chooses s n r Masked h (ap (option_and_then (content_says n n (own_path n r))) e ∙ mask_says n n (own_path n r) x m) none
 
-own_same : (s t : EntryMap) → ((p : PathParts) → visible_at s p ≡ visible_at t p) → (n o : Name) → own_choice s n o ≡ own_choice t n o
-own_same s t same n o = first_same (says s n o) (says t n o) (λ k. ap (option_and_then (content_says n o (own_path o k))) (same (own_path o k))) levels
+own_same : (s t : EntryMap) → ((p : PathParts) → p.folder ≡ [] → visible_at s p ≡ visible_at t p) → (n o : Name) → own_choice s n o ≡ own_choice t n o
+own_same s t same n o = first_same (says s n o) (says t n o) (λ k. ap (option_and_then (content_says n o (own_path o k))) (same (own_path o k) refl)) levels
 
-pub only_visible_counts : OnlyVisibleCounts
-only_visible_counts s t same n =
+pub own_paths_count : OwnPathsCount
+own_paths_count s t same n =
     ap (λ o. unwrap_or (option_or o (option_and_then (own_choice s n) (template_of n))) NotFound) (own_same s t same n n)
     ∙ ap (λ o. unwrap_or (option_or (own_choice t n n) o) NotFound) (by (template_of n))
   where
     by : (o : Option Name) → option_and_then (own_choice s n) o ≡ option_and_then (own_choice t n) o
     by None = refl
     by (Some o) = own_same s t same n o
+
+pub only_visible_counts : OnlyVisibleCounts
+only_visible_counts s t same n = own_paths_count s t (λ p _. same p) n
 
 pub removals_give_back : RemovalsGiveBack
 removals_give_back s t p removed absent same = only_visible_counts s t (agree_everywhere path_cmp path_cmp_total path_cmp-IsAntisymmetric (visible_at s) (visible_at t) p (removed ∙ sym absent) same)

@@ -1,4 +1,4 @@
--- A law of fragments: each is a file that is visible and isn't empty.
+-- Laws of fragments: each is a file that is visible and isn't empty, at a path of one component.
 use Rattle.std.proofs.Common.{◌≡◌, ℕ, Bool, true, false, cond, Option, Some, None, List, [], ◌∷◌, refl, sym, ap, ◌∙◌}
 use Rattle.std.specs.Prelude.{unwrap_or}
 use Rattle.std.specs.Option.{option_and_then, option_or}
@@ -28,6 +28,14 @@ IsFileAt s p = (b : ℕ) × (bs : List ℕ) × (visible_at s p ≡ Some (content
 -- the fragment that stands for a name is such a file
 abbrev pub FragmentsAreFiles : Type 0
 FragmentsAreFiles = (s : EntryMap) (n : Name) (p : PathParts) → (resolution s n).choice ≡ Fragment p → IsFileAt s p
+
+-- and its path has one component
+abbrev pub FragmentsHaveNoFolder : Type 0
+FragmentsHaveNoFolder = (s : EntryMap) (n : Name) (p : PathParts) → (resolution s n).choice ≡ Fragment p → p.folder ≡ []
+
+-- both at once
+abbrev IsOwnFile : EntryMap → PathParts → Type 0
+IsOwnFile s p = IsFileAt s p × (p.folder ≡ [])
 
 -- an answer that is no fragment
 abbrev IsOther : Option Choice → PathParts → Type 0
@@ -65,38 +73,41 @@ content_file n o q p (content.Link target) e = absurd (by (is_null target) e)
     by true e = cc (e)
     by false e = link_other n o (last_component target) p e
 
-said_file : (s : EntryMap) (n o : Name) (rank : ℕ) (p : PathParts) → says s n o rank ≡ Some (Fragment p) → IsFileAt s p
+said_file : (s : EntryMap) (n o : Name) (rank : ℕ) (p : PathParts) → says s n o rank ≡ Some (Fragment p) → IsOwnFile s p
 said_file s n o rank p e = by (visible_at s (own_path o rank)) refl e
   where
-    by : (y : Option Content) → visible_at s (own_path o rank) ≡ y → option_and_then (content_says n o (own_path o rank)) y ≡ Some (Fragment p) → IsFileAt s p
+    by : (y : Option Content) → visible_at s (own_path o rank) ≡ y → option_and_then (content_says n o (own_path o rank)) y ≡ Some (Fragment p) → IsOwnFile s p
     by None at e = cc (e)
     by (Some c) at e =
         let file = content_file n o (own_path o rank) p c e in
-        (file.0, file.1, ap (visible_at s) (sym file.3) ∙ at ∙ ap Some file.2)
+        ((file.0, file.1, ap (visible_at s) (sym file.3) ∙ at ∙ ap Some file.2), ap (λ (q : PathParts). q.folder) (sym file.3))
 
-first_file : (s : EntryMap) (n o : Name) (rs : List ℕ) (p : PathParts) → first_said (says s n o) rs ≡ Some (Fragment p) → IsFileAt s p
+first_file : (s : EntryMap) (n o : Name) (rs : List ℕ) (p : PathParts) → first_said (says s n o) rs ≡ Some (Fragment p) → IsOwnFile s p
 first_file s n o [] p e = cc (e)
 first_file s n o (r ∷ rs) p e = by (says s n o r) refl (first_file s n o rs p) e
   where
-    by : (y : Option Choice) → says s n o r ≡ y → (first_said (says s n o) rs ≡ Some (Fragment p) → IsFileAt s p) → option_or y (first_said (says s n o) rs) ≡ Some (Fragment p) → IsFileAt s p
+    by : (y : Option Choice) → says s n o r ≡ y → (first_said (says s n o) rs ≡ Some (Fragment p) → IsOwnFile s p) → option_or y (first_said (says s n o) rs) ≡ Some (Fragment p) → IsOwnFile s p
     by None at later e = later e
     by (Some c) at later e = said_file s n o r p (at ∙ e)
 
-chosen_file : (s : EntryMap) (n : Name) (p : PathParts) → choice s n ≡ Fragment p → IsFileAt s p
+chosen_file : (s : EntryMap) (n : Name) (p : PathParts) → choice s n ≡ Fragment p → IsOwnFile s p
 chosen_file s n p e = by (own_choice s n n) refl (template_of n) e
   where
-    by : (y : Option Choice) → own_choice s n n ≡ y → (t : Option Name) → unwrap_or (option_or y (option_and_then (own_choice s n) t)) NotFound ≡ Fragment p → IsFileAt s p
+    by : (y : Option Choice) → own_choice s n n ≡ y → (t : Option Name) → unwrap_or (option_or y (option_and_then (own_choice s n) t)) NotFound ≡ Fragment p → IsOwnFile s p
     by (Some c) at t e = first_file s n n levels p (at ∙ ap Some e)
     by None at None e = cc (e)
     by None at (Some o) e = of_template (own_choice s n o) refl e
       where
-        of_template : (z : Option Choice) → own_choice s n o ≡ z → unwrap_or z NotFound ≡ Fragment p → IsFileAt s p
+        of_template : (z : Option Choice) → own_choice s n o ≡ z → unwrap_or z NotFound ≡ Fragment p → IsOwnFile s p
         of_template None there e = cc (e)
         of_template (Some c) there e = first_file s n o levels p (there ∙ ap Some e)
 
-resolved_file : (s : EntryMap) (n : Name) (r : Resolution) (p : PathParts) → Resolves s n r → r.choice ≡ Fragment p → IsFileAt s p
+resolved_file : (s : EntryMap) (n : Name) (r : Resolution) (p : PathParts) → Resolves s n r → r.choice ≡ Fragment p → IsOwnFile s p
 resolved_file s n r p (ends_at k u short chain ends) e = chosen_file s u p e
 resolved_file s n r p (goes_on u chain) e = cc (e)
 
 pub fragments_are_files : FragmentsAreFiles
-fragments_are_files s n p e = resolved_file s n (resolution s n) p (resolution_resolves s n) e
+fragments_are_files s n p e = (resolved_file s n (resolution s n) p (resolution_resolves s n) e).0
+
+pub fragments_have_no_folder : FragmentsHaveNoFolder
+fragments_have_no_folder s n p e = (resolved_file s n (resolution s n) p (resolution_resolves s n) e).1

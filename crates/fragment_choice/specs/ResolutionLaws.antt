@@ -23,6 +23,10 @@ MainsAreTheirOwn = (s : EntryMap) (n : Name) → (main s (main s n) ≡ main s n
 abbrev pub NoAliasStands : Type 0
 NoAliasStands = (s : EntryMap) (n : Name) → IsEnd (resolution s n).choice
 
+-- stores that choose the same for each name resolve each name alike
+abbrev pub ChoicesDecide : Type 0
+ChoicesDecide = (s t : EntryMap) → ((n : Name) → choice s n ≡ choice t n) → (n : Name) → resolution s n ≡ resolution t n
+
 longer : (s : EntryMap) {n m : Name} {k : ℕ} (u : Name) → Chain s k n m → Leads s m u → Chain s (suc k) n u
 longer s u (here m) l = step m u u 0 l (here u)
 longer s u (step n x m j h rest) l = step n x u (suc j) h (longer s u rest l)
@@ -83,3 +87,18 @@ pub mains_are_their_own : MainsAreTheirOwn
 mains_are_their_own s n =
     let e = again s n (resolution s n) refl (resolution_resolves s n) in
     (ap (λ r. r.main) e, e)
+
+ended_same : (more same : Name → Resolution) (n : Name) (c : Choice) → ((m : Name) → more m ≡ same m) → ended_or more n c ≡ ended_or same n c
+ended_same more same n NotFound h = refl
+ended_same more same n Masked h = refl
+ended_same more same n (Fragment p) h = refl
+ended_same more same n (Alias m) h = h m
+ended_same more same n (Bad x) h = refl
+
+follow_same : (s t : EntryMap) → ((n : Name) → choice s n ≡ choice t n) → (k : ℕ) (n m : Name) → follow s k n m ≡ follow t k n m
+unfolding follow
+follow_same s t same zero n m = refl
+follow_same s t same (suc k) n m = ap (ended_or (follow s k n) m) (same m) ∙ ended_same (follow s k n) (follow t k n) m (choice t m) (follow_same s t same k n)
+
+pub choices_decide : ChoicesDecide
+choices_decide s t same n = follow_same s t same 9 n n

@@ -20,6 +20,10 @@ NamesDontMeet = (s : EntryMap) (u v n : Name) (names others : List Name) → mai
 abbrev pub OneListOfNames : Type 0
 OneListOfNames = (s : EntryMap) (u : Name) (names others : List Name) → AreNames s u names → AreNames s u others → names ≡ others
 
+-- where each name has the same main in two stores, a unit has the same names in both
+abbrev pub MainsDecide : Type 0
+MainsDecide = (s t : EntryMap) → ((n : Name) → main s n ≡ main t n) → (u : Name) (names : List Name) → AreNames s u names → AreNames t u names
+
 pub names_have_the_main : NamesHaveTheMain
 names_have_the_main s u n names own are h = by (subst (IsAmong n) are.first h)
   where
@@ -34,3 +38,14 @@ names_dont_meet s u v n names others own other a b h k =
 pub one_list_of_names : OneListOfNames
 one_list_of_names s u names others a b =
     a.first ∙ ap (λ ns. u ∷ ns) (one_rising_list name_cmp nat_list_cmp_total a.others b.others a.rising b.rising (λ n. (λ h. (b.exact n).1 ((a.exact n).0 h), λ h. (a.exact n).1 ((b.exact n).0 h)))) ∙ sym b.first
+
+pub mains_decide : MainsDecide
+mains_decide s t same u names are = record {
+  others = are.others;
+  first = are.first;
+  rising = are.rising;
+  exact = λ n. (
+    λ h. (let o = (are.exact n).0 h in record { other = o.other; name = o.name; main_is = sym (same n) ∙ o.main_is }),
+    λ o. (are.exact n).1 (record { other = o.other; name = o.name; main_is = same n ∙ o.main_is }),
+  );
+}

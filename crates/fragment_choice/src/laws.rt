@@ -1,23 +1,25 @@
 //! What is true of all choices and resolutions: laws, each the contract of a function that does
 //! nothing.
-ghost use Rattle.fragment_choice.specs.ChoiceLaws.{LeastRankChooses, TemplatesComeLast, GreaterRanksDontCount, MasksHide, OnlyVisibleCounts, RemovalsGiveBack};
+ghost use Rattle.fragment_choice.specs.ChoiceLaws.{LeastRankChooses, TemplatesComeLast, GreaterRanksDontCount, MasksHide, OnlyVisibleCounts, OwnPathsCount, RemovalsGiveBack};
 ghost use Rattle.fragment_choice.specs.SilenceLaws.{SilenceIsNotFound};
 ghost use Rattle.fragment_choice.specs.LinkLaws.{AliasesHaveLinks, InstancesKeepTheirPart};
 ghost use Rattle.fragment_choice.specs.LinkCaseLaws.{KindsMakeBad, ShapesMakeBad, TargetsMakeBad, NoLinkIsALoop, GoodLinksMakeAliases};
 ghost use Rattle.fragment_choice.specs.LikenessLaws.{AliasesAreAlike, ChainsAreAlike, MainsAreAlike};
-ghost use Rattle.fragment_choice.specs.ResolutionLaws.{FollowingFindsTheEnd, MainsAreTheirOwn, NoAliasStands};
-ghost use Rattle.fragment_choice.specs.FragmentLaws.{FragmentsAreFiles};
-ghost use Rattle.fragment_choice.specs.UnitNameLaws.{NamesHaveTheMain, NamesDontMeet, OneListOfNames};
+ghost use Rattle.fragment_choice.specs.ResolutionLaws.{ChoicesDecide, FollowingFindsTheEnd, MainsAreTheirOwn, NoAliasStands};
+ghost use Rattle.fragment_choice.specs.FragmentLaws.{FragmentsAreFiles, FragmentsHaveNoFolder};
+ghost use Rattle.fragment_choice.specs.UnitNameLaws.{MainsDecide, NamesHaveTheMain, NamesDontMeet, OneListOfNames};
 
 /// The least rank that says anything chooses, whatever greater ranks hold; a mask hides these, and
-/// a removal gives back what was there. A name is not found just where all that is visible of it
-/// and of its template is passed over.
+/// a removal gives back what was there. Only what is visible counts, and of it only paths of one
+/// component. A name is not found just where all that is visible of it and of its template is passed
+/// over.
 pub fn choice_laws()
     ensures least { LeastRankChooses }
     ensures templates { TemplatesComeLast }
     ensures greater { GreaterRanksDontCount }
     ensures masks { MasksHide }
     ensures visible { OnlyVisibleCounts }
+    ensures own { OwnPathsCount }
     ensures removals { RemovalsGiveBack }
     ensures silence { SilenceIsNotFound }
 {}
@@ -49,19 +51,23 @@ pub fn link_case_laws()
     ensures aliases { GoodLinksMakeAliases }
 {}
 
-/// Following a name's aliases finds the end of their chain, which is its own main and no alias. A
-/// fragment that stands there is a file that is visible and isn't empty.
+/// Following a name's aliases finds the end of their chain, which is its own main and no alias. Where
+/// the choices are the same, so is this end. A fragment that stands there is a file that is visible
+/// and isn't empty, at a path of one component.
 pub fn resolution_laws()
     ensures ends { FollowingFindsTheEnd }
     ensures mains { MainsAreTheirOwn }
     ensures no_alias { NoAliasStands }
+    ensures choices { ChoicesDecide }
     ensures files { FragmentsAreFiles }
+    ensures own { FragmentsHaveNoFolder }
 {}
 
 /// Each name of a unit has the unit as its main, so the names of two units don't meet. A unit has
-/// one list of names.
+/// one list of names, and the same in two stores in which all names have the same mains.
 pub fn unit_laws()
     ensures mains { NamesHaveTheMain }
     ensures apart { NamesDontMeet }
     ensures one { OneListOfNames }
+    ensures same { MainsDecide }
 {}

@@ -12,9 +12,12 @@ use Rattle.std.proofs.lemmas.Option.{none-some}
 use Rattle.list_laws.specs.Members.{IsAmong, among_from_contains, contains_from_among}
 use Rattle.name_closure.specs.ListedLaws.{Listed}
 use Rattle.index_rows.specs.Numbering.{AreNames}
+use Rattle.index_rows.specs.Rows.{AreRowsOf}
 use Rattle.index_rows.specs.NumberingLaws.{among_mapped, mapped_from}
 use Rattle.unit_name.specs.Names.{Name, name_cmp}
 use Rattle.unit_name.specs.NameLaws.{name_cmp-IsAntisymmetric}
+use denote.Enum.Declared.{tag_of}
+use Rattle.setting_rules.specs.contracts.kinds.DepKind as kinds_of
 use Rattle.setting_rules.specs.declared.kinds.DepKind.{DepKind}
 use Rattle.setting_rules.specs.declared.kinds.DepKind.TheVariants.{Before, After, Wants, WantedBy, Requires, RequiredBy, Requisite, RequisiteOf, BindsTo, BoundBy, PartOf, ConsistsOf, Conflicts, ConflictedBy, OnFailure, OnFailureOf, PropagatesReloadTo, ReloadPropagatedFrom}
 use Rattle.setting_rules.specs.Dependencies.{in_byte_order}
@@ -25,7 +28,7 @@ use Rattle.inverse_deps.specs.EdgeLaws.{edges_join_units}
 use Rattle.inverse_deps.specs.Edges.{IsEdge, AreEdgesFrom, AreEdges, EdgeMap, list_at, place}
 use Rattle.inverse_deps.specs.Numbers.{count_of, name_at}
 use Rattle.inverse_deps.specs.NumberLaws.{find_place, keys_length, place_of_found, unit_number}
-use Rattle.inverse_deps.specs.Tables.{AreEdgeRows, AreListsFrom, AreTables}
+use Rattle.inverse_deps.specs.Tables.{AreEdgeRows, AreListsFrom, AreNamingRows, AreNamingTables, AreTables}
 
 -- ---- kinds
 
@@ -53,6 +56,41 @@ stands_at OnFailure = record { there = refl; below = omega arith }
 stands_at OnFailureOf = record { there = refl; below = omega arith }
 stands_at PropagatesReloadTo = record { there = refl; below = omega arith }
 stands_at ReloadPropagatedFrom = record { there = refl; below = omega arith }
+
+-- a kind as a number is its place
+tag_is : (dep : DepKind) → tag_of kinds_of.the_type dep ≡ place dep
+tag_is Before = refl
+tag_is After = refl
+tag_is Wants = refl
+tag_is WantedBy = refl
+tag_is Requires = refl
+tag_is RequiredBy = refl
+tag_is Requisite = refl
+tag_is RequisiteOf = refl
+tag_is BindsTo = refl
+tag_is BoundBy = refl
+tag_is PartOf = refl
+tag_is ConsistsOf = refl
+tag_is Conflicts = refl
+tag_is ConflictedBy = refl
+tag_is OnFailure = refl
+tag_is OnFailureOf = refl
+tag_is PropagatesReloadTo = refl
+tag_is ReloadPropagatedFrom = refl
+
+-- the rows of a kind's dependencies, as indexing reads them
+pub naming_rows : (load : LoadMap) (tables : List (Vec (Vec ℕ Global) Global)) (dep : DepKind) (t : Vec (Vec ℕ Global) Global) (rows : List (Vec ℕ Global)) → AreNamingTables load tables
+    → t ≡ get_or tables (tag_of kinds_of.the_type dep) t → rows ≡ t.items → AreNamingRows load dep rows
+naming_rows load tables dep t rows a g f =
+    let at = stands_at dep in
+    let P : DepKind → Type 0 = λ d. AreNamingRows load d (get_or tables (place dep) t).items in
+    let Q : Vec (Vec ℕ Global) Global → Type 0 = λ v. AreNamingRows load dep v.items in
+    let R : List (Vec ℕ Global) → Type 0 = λ rs. AreNamingRows load dep rs in
+    subst R (sym f) (subst Q (ap (λ i. get_or tables i t) (sym (tag_is dep)) ∙ sym g) (subst P at.there (a.each (place dep) t at.below)))
+
+-- rows lead to as many nodes as there are rows
+pub own_rows : (load : LoadMap) (dep : DepKind) (rows : List (Vec ℕ Global)) → AreNamingRows load dep rows → AreRowsOf (length rows) rows
+own_rows load dep rows a = let P : ℕ → Type 0 = λ n. AreRowsOf n rows in subst P (sym a.within.one_each) a.within
 
 -- the rows of a kind
 pub rows_of_kind : (load : LoadMap) (tables : List (Vec (Vec ℕ Global) Global)) (k : ℕ) (t : Vec (Vec ℕ Global) Global) (rows : List (Vec ℕ Global)) → AreTables load tables

@@ -1,19 +1,31 @@
 -- Edges by numbers, kind by kind: words for private clauses.
 -- Source: this project's own.
-use Rattle.std.specs.Prelude.{◌≡◌, ◌<◌, ℕ, List, [], length}
+use Rattle.std.specs.Prelude.{◌≡◌, ◌<◌, ℕ, List, [], length, IsTrue}
+use Rattle.std.specs.FinMap.{is_sorted}
 use Rattle.std.specs.List.{slice_index_or}
 use Rattle.std.specs.declared.vec.Vec.{Vec}
 use Rattle.std.specs.declared.alloc.Global.{Global}
 use Rattle.name_closure.specs.ListedLaws.{Named}
 use Rattle.index_rows.specs.Numbering.{AreNamedSteps}
 use Rattle.index_rows.specs.Rows.{row, AreRowsOf}
-use Rattle.unit_name.specs.Names.{Name}
+use Rattle.unit_name.specs.Names.{Name, name_cmp}
 use Rattle.setting_rules.specs.declared.kinds.DepKind.{DepKind}
 use Rattle.setting_rules.specs.declared.kinds.DepKind.TheVariants.{Before}
 use Rattle.setting_rules.specs.Kinds.{kinds}
 use Rattle.parallel_load.specs.Loads.{LoadMap}
-use Rattle.inverse_deps.specs.Edges.{IsEdge, AreEdgesFrom, place}
+use Rattle.inverse_deps.specs.Edges.{DependsOn, IsEdge, AreEdgesFrom, place}
 use Rattle.inverse_deps.specs.Numbers.{count_of, name_at}
+
+-- rows of the dependencies of a kind, in a load whose names are in order
+pub record AreNamingRows (load : LoadMap) (dep : DepKind) (rows : List (Vec ℕ Global)) : Type 0 where
+  pub sorted : IsTrue (is_sorted name_cmp load.names)
+  pub steps : AreNamedSteps (count_of load) (name_at load) (Named (row rows)) (DependsOn load dep)
+  pub within : AreRowsOf (count_of load) rows
+
+-- such rows for each kind, in the order of the kinds
+pub record AreNamingTables (load : LoadMap) (tables : List (Vec (Vec ℕ Global) Global)) : Type 0 where
+  pub all : length tables ≡ length kinds
+  pub each : (k : ℕ) (d : Vec (Vec ℕ Global) Global) → k < length kinds → AreNamingRows load (slice_index_or kinds k Before) (slice_index_or tables k d).items
 
 -- rows of the edges of a kind
 pub record AreEdgeRows (load : LoadMap) (dep : DepKind) (rows : List (Vec ℕ Global)) : Type 0 where

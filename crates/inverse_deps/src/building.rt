@@ -6,8 +6,8 @@ ghost use Rattle.inverse_deps.specs.Tables.{AreListsFrom, AreTables};
 
 use crate::lists::Edges;
 use crate::numbers::names_of;
-use crate::steps::edge_rows;
-use index_rows::row;
+use crate::steps::dependency_tables;
+use index_rows::{joined, row, turned};
 use parallel_load::Loaded;
 use section_reader::Items;
 use setting_rules::{DepKind, in_byte_order};
@@ -28,13 +28,15 @@ pub fn edges(alloc: Global, loaded: &Loaded) -> Result<Edges, AllocError>
     Ok(Edges::new(units))
 }
 
-// For each kind, in order, the rows of its edges.
+// For each kind, in order, the rows of its edges: what units name by it, and what names them by its inverse.
 fn tables(alloc: Global, loaded: &Loaded) -> Result<Vec<Vec<Vec<usize>>>, AllocError>
     ensures tables { IfOk result (λ tables. AreTables loaded.now tables.items) }
 {
+    let named = dependency_tables(alloc, loaded)?;
     let mut tables = Vec::new(alloc);
     'kinds: for kind in DepKind::all() {
-        tables.push(edge_rows(alloc, loaded, *kind)?)?;
+        let naming = turned(alloc, &named[kind.inverse() as usize])?;
+        tables.push(joined(alloc, &named[*kind as usize], &naming)?)?;
     }
     Ok(tables)
 }

@@ -48,6 +48,17 @@ impl Edges {
             Err(_) => &[],
         }
     }
+
+    /// The same as by `of`, for a caller that walks over the names of the load in order: where the name stands at this
+    /// place it is found at once, and else it is sought. It takes no memory.
+    pub fn of_at(&self, place: usize, kind: DepKind, name: &UnitName) -> &[UnitName]
+        ensures names { result.now ≡ names_in self.now kind name.now }
+    {
+        if place < self.units.len() && self.units[place].0 == *name {
+            return list_of(self.units[place].1.as_slice(), kind);
+        }
+        self.of(kind, name)
+    }
 }
 
 // The list of a kind.

@@ -7,11 +7,11 @@ ghost use Rattle.index_rows.specs.Numbering.{AreNames, AreNamedSteps};
 ghost use Rattle.index_rows.specs.Rows.{AreRowsOf, row as row_of};
 ghost use Rattle.unit_name.specs.Names.{name_cmp};
 ghost use Rattle.unit_loads.specs.NamedUnits.{IsListed};
-ghost use Rattle.inverse_deps.specs.Edges.{DependsOn, IsEdge, IsUnitIn};
+ghost use Rattle.inverse_deps.specs.Edges.{DependsOn, IsUnitIn};
 ghost use Rattle.inverse_deps.specs.Numbers.{count_of, name_at};
+ghost use Rattle.inverse_deps.specs.Tables.{AreNamingTables};
 
 use crate::numbers::numbers_of;
-use index_rows::{joined, turned};
 use parallel_load::{Loaded, NameLoad};
 use setting_rules::{DepKind, DependencyList};
 use std::alloc::{AllocError, Global};
@@ -58,18 +58,17 @@ fn dependency_rows(
     Ok(rows)
 }
 
-/// From each unit to those to which edges of a kind lead. O(n) and the dependencies, beside the logarithm of n.
-pub(crate) fn edge_rows(
+/// For each kind, in order, from each unit to those that it has as dependencies of the kind. O(n) and the dependencies,
+/// beside the logarithm of n: each dependency is sought once among the names.
+pub(crate) fn dependency_tables(
     alloc: Global,
     loaded: &Loaded,
-    kind: DepKind,
-) -> Result<Vec<Vec<usize>>, AllocError>
-    ensures steps { IfOk result (λ rows. AreNamedSteps (count_of loaded.now) (name_at loaded.now)
-        (Named (row_of rows.items)) (IsEdge loaded.now kind)) }
-    ensures rows { IfOk result (λ rows. AreRowsOf (count_of loaded.now) rows.items) }
+) -> Result<Vec<Vec<Vec<usize>>>, AllocError>
+    ensures tables { IfOk result (λ tables. AreNamingTables loaded.now tables.items) }
 {
-    let named = dependency_rows(alloc, loaded, kind)?;
-    let naming = dependency_rows(alloc, loaded, kind.inverse())?;
-    let naming = turned(alloc, &naming)?;
-    Ok(joined(alloc, &named, &naming)?)
+    let mut tables = Vec::new(alloc);
+    'kinds: for kind in DepKind::all() {
+        tables.push(dependency_rows(alloc, loaded, *kind)?)?;
+    }
+    Ok(tables)
 }

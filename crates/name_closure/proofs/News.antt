@@ -1,4 +1,4 @@
--- Nodes that are sorted, freed of repeats and of those that are found.
+-- Nodes that are freed of those that are found, sorted, and freed of repeats.
 use Rattle.std.specs.Prelude.{◌≡◌, ◌⊎◌, Bool, true, false, not, ◌||◌, List, [], ◌∷◌, IsPermutation, IsSorted}
 use Rattle.std.specs.BTreeMap.{is_at}
 use Rattle.std.specs.Cmp.{IsTotalOrder, IsEquivalence}
@@ -10,7 +10,7 @@ use Rattle.std.specs.declared.cmp.Ordering.TheVariants.{Equal}
 use Rattle.std.proofs.Common.{cond, inl, inr, refl, sym, ap, ◌∙◌, subst}
 use Rattle.std.proofs.lemmas.Bool.{true≢false}
 use Rattle.std.proofs.lemmas.Cmp.{tied_itself}
-use Rattle.std.proofs.lemmas.List.Kept.{IsStrictlySortedBy-dedup, IsStrictlySortedBy-filter, Contains-dedup, Contains-from_dedup}
+use Rattle.std.proofs.lemmas.List.Kept.{IsStrictlySortedBy-dedup, Contains-dedup, Contains-from_dedup}
 use Rattle.std.proofs.lemmas.List.Sorted.{Contains-permutation, IsPermutation-sym}
 use Rattle.list_laws.specs.Members.{IsAmong, among_from_contains, contains_from_among}
 use Rattle.list_laws.specs.Orderings.{is_equal}
@@ -76,24 +76,25 @@ module _ {N : Type 0} (order : N → N → Ordering) (total : IsTotalOrder order
       by false e (inl is) more = inr (inl is)
       by b e (inr o) more = behind b (more o)
 
-  -- nodes that were sorted, freed of repeats, and of those that are found
-  pub news_are : (E : N → N → Bool) → IsEquivalence E → ((x y : N) → E x y ≡ is_eq (order x y)) → (found nodes sorted fresh : List N) → IsPermutation nodes sorted → IsSorted order sorted
-      → fresh ≡ unknown found (dedup E sorted) → AreNew order found nodes fresh
-  news_are E same ties found nodes sorted fresh permutation rising is = record {
-    rising = subst (IsStrictlySortedBy order) (sym is) (IsStrictlySortedBy-filter order (λ n. not (list_any (is_at (order n)) found)) single (IsStrictlySortedBy-dedup total ties sorted rising));
-    apart = λ n h. unknown_apart found single n (subst (IsAmong n) is h);
-    origin = λ n h. moved sorted nodes n (IsPermutation-sym nodes sorted permutation) (once n (unknown_origin found single n (subst (IsAmong n) is h)));
-    took = λ n h. elim (unknown_took found single n (kept n (moved nodes sorted n permutation h))) [ inl a ↦ inl a | inr b ↦ inr (subst (IsAmong n) (sym is) b) ];
+  -- nodes that were freed of those that are found, sorted, and freed of repeats
+  pub news_are : (E : N → N → Bool) → IsEquivalence E → ((x y : N) → E x y ≡ is_eq (order x y)) → (found nodes left sorted fresh : List N) → left ≡ unknown found nodes → IsPermutation left sorted → IsSorted order sorted
+      → fresh ≡ dedup E sorted → AreNew order found nodes fresh
+  news_are E same ties found nodes left sorted fresh unfound permutation rising is = record {
+    rising = subst (IsStrictlySortedBy order) (sym is) (IsStrictlySortedBy-dedup total ties sorted rising);
+    apart = λ n h. unknown_apart found nodes n (back n h);
+    origin = λ n h. unknown_origin found nodes n (back n h);
+    took = λ n h. elim (unknown_took found nodes n h) [ inl a ↦ inl a | inr b ↦ inr (there n b) ];
   }
     where
-      single : List N
-      single = dedup E sorted
-
       moved : (xs ys : List N) (n : N) → IsPermutation xs ys → IsAmong n xs → IsAmong n ys
       moved xs ys n p h = among_from_contains n ys (Contains-permutation xs ys n p (contains_from_among n xs h))
 
-      once : (n : N) → IsAmong n single → IsAmong n sorted
-      once n h = among_from_contains n sorted (Contains-from_dedup E sorted n (contains_from_among n single h))
+      back : (n : N) → IsAmong n fresh → IsAmong n (unknown found nodes)
+      back n h =
+          let once = among_from_contains n sorted (Contains-from_dedup E sorted n (contains_from_among n (dedup E sorted) (subst (IsAmong n) is h))) in
+          subst (IsAmong n) unfound (moved sorted left n (IsPermutation-sym left sorted permutation) once)
 
-      kept : (n : N) → IsAmong n sorted → IsAmong n single
-      kept n h = among_from_contains n single (Contains-dedup same (λ x y e. exact x y (is_equal _ (sym (ties x y) ∙ e))) sorted n (contains_from_among n sorted h))
+      there : (n : N) → IsAmong n (unknown found nodes) → IsAmong n fresh
+      there n h =
+          let kept = moved left sorted n permutation (subst (IsAmong n) (sym unfound) h) in
+          subst (IsAmong n) (sym is) (among_from_contains n (dedup E sorted) (Contains-dedup same (λ x y e. exact x y (is_equal _ (sym (ties x y) ∙ e))) sorted n (contains_from_among n sorted kept)))

@@ -24,15 +24,15 @@ pub fn copy_of<K: Key>(alloc: Global, nodes: &[K]) -> Result<Vec<K>, AllocError>
     Ok(copy)
 }
 
-// The nodes that aren't found yet, each once, in order. In place, without memory; O(m log m) for
-// m nodes, and as many searches.
+// The nodes that aren't found yet, each once, in order. In place, without memory; a search for each
+// node, and O(m log m) for m that aren't found.
 pub fn new_of<K: Key, U>(found: &BTreeMap<K, U>, nodes: Vec<K>) -> Vec<K>
     ensures fresh { AreNew K.cmp (keys found.now) nodes.items result.items }
 {
     let mut fresh = nodes;
+    fresh.retain(|node| !found.contains_key(node));
     fresh.sort_unstable();
     fresh.dedup();
-    fresh.retain(|node| !found.contains_key(node));
     fresh
 }
 

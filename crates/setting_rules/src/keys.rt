@@ -41,7 +41,7 @@ impl SettingKey {
     pub(crate) fn is(&self, section: &[u8], key: &[u8]) -> bool
         ensures test { result ≡ same_key (record { section = section.now; key = key.now }) self.now }
     {
-        section == self.section.as_slice() && key == self.key.as_slice()
+        key == self.key.as_slice() && section == self.section.as_slice()
     }
 
     /// The same key again, with the same bytes. It fails for want of memory alone.

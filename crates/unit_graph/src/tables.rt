@@ -37,7 +37,7 @@ fn table(
     let names = loaded.names();
     let mut rows = Vec::new(alloc);
     'names: for number in 0..names.len() {
-        let others = edges.of(kind, &names[number].0);
+        let others = edges.of_at(number, kind, &names[number].0);
         rows.push(numbers_of(alloc, loaded, others)?)?;
     }
     Ok(rows)

@@ -1,3 +1,4 @@
 pub mod ComesTo
+pub mod Lent
 pub mod Linked
 pub mod Steps

@@ -1,7 +1,8 @@
 -- Links added to the lists of words.
-use Rattle.std.proofs.Common.{◌≡◌, refl, ap, ◌∙◌, List, [], ◌∷◌, ◌++◌, map, inl, inr}
+use Rattle.std.proofs.Common.{◌≡◌, refl, ap, sym, ◌∙◌, List, [], ◌∷◌, ◌++◌, map, inl, inr}
 use Rattle.std.specs.Prelude.{◌⊎◌}
 use Rattle.std.specs.Cmp.Lexicographic.{nat_list_cmp_total}
+use Rattle.std.proofs.lemmas.List.{append-nil}
 use Rattle.list_laws.specs.Members.{IsAmong, IsAmong-append_cases, IsAmong-append_left, IsAmong-append_right, among_from_contains, contains_from_among}
 use Rattle.list_laws.specs.Rising.{one_rising_list}
 use Rattle.unit_name.specs.Names.{Name, name_cmp}
@@ -65,3 +66,28 @@ module _ (entries : SettingMap) (unit : Name) (links : LinkNames) where
       ap (λ (l : List Name). map (with_linked (record { wanted = l; required = linked.required })) lists) wanted
       ∙ ap (λ (l : List Name). map (with_linked (record { wanted = linked_by unit links.wanted; required = l })) lists) required
       ∙ ap (map (with_linked (meant unit links))) e ∙ each_list settable
+
+  -- where nothing is linked the lists are those of words
+  none_for : (dep : DepKind) → links_for (record { wanted = []; required = [] }) dep ≡ []
+  none_for Wants = refl
+  none_for Requires = refl
+  none_for other = refl
+
+  one_unlinked : (dep : DepKind) → list_for entries unit dep ≡ with_linked (record { wanted = []; required = [] }) (list_for entries unit dep)
+  one_unlinked dep = ap (λ (ns : List Name). let r : DependencyList = record { kind = dep; names = ns } in r)
+      (sym (ap (λ ns. in_byte_order (in_byte_order (names_by unit (words_for entries dep)) ++ ns)) (none_for dep)
+      ∙ ordered_again (names_by unit (words_for entries dep)) []
+      ∙ ap in_byte_order (append-nil (names_by unit (words_for entries dep)))))
+
+  each_unlinked : (deps : List DepKind) → map (list_for entries unit) deps ≡ map (with_linked (record { wanted = []; required = [] })) (map (list_for entries unit) deps)
+  each_unlinked [] = refl
+  each_unlinked (dep ∷ deps) =
+      ap (λ l. l ∷ map (list_for entries unit) deps) (one_unlinked dep)
+      ∙ ap (λ ls. with_linked (record { wanted = []; required = [] }) (list_for entries unit dep) ∷ ls) (each_unlinked deps)
+
+  pub lists_unlinked : (linked : LinkNames) (lists : List DependencyList) → linked.wanted ≡ [] → linked.required ≡ [] → lists ≡ lists_of entries unit → lists ≡ map (with_linked linked) lists
+  unfolding lists_of
+  lists_unlinked linked lists wanted required e =
+      e ∙ each_unlinked settable ∙ ap (map (with_linked (record { wanted = []; required = [] }))) (sym e)
+      ∙ ap (λ (l : List Name). map (with_linked (record { wanted = l; required = [] })) lists) (sym wanted)
+      ∙ ap (λ (l : List Name). map (with_linked (record { wanted = linked.wanted; required = l })) lists) (sym required)

@@ -1,4 +1,6 @@
 pub mod AssignedLaws
+pub mod Elsewhere
+pub mod ElsewhereLaws
 pub mod MemberLaws
 pub mod NameLaws
 pub mod NamedUnits

@@ -38,7 +38,11 @@ pub(crate) fn named_units(
         wanted: wants.names,
         required: needs.names,
     };
-    let lists = with_links(alloc, lists, &linked)?;
+    let lists = if linked.is_empty() {
+        lists
+    } else {
+        with_links(alloc, lists, &linked)?
+    };
     Ok(Dependencies { lists, notes })
 }
 

@@ -1,10 +1,13 @@
 //! The files of a unit.
 ghost use Rattle.std.specs.Prelude.{◌≡◌, ◌++◌, ◌∷◌, [], IfOk, OnOk, map};
-ghost use Rattle.section_reader.specs.Sections.{assignments_of};
-ghost use Rattle.unit_loads.specs.Units.{bytes_at, file_notes, items_of, notes_at};
+ghost use Rattle.std.specs.Option.{option_copied};
+ghost use Rattle.section_reader.specs.Sections.{assignments_of, notes_of};
+ghost use Rattle.dropins.specs.Taken.{entry_path};
+ghost use Rattle.unit_loads.specs.Steps.{lent_items, lent_notes};
+ghost use Rattle.unit_loads.specs.Units.{bytes_at, file_bytes, notes_at};
 
 use crate::units::UnitNote;
-use replica_store::{Content, Path, Store};
+use replica_store::{Content, Path, Placed, Store};
 use section_reader::{Assignment, Items, Note, Sections, read};
 use std::alloc::{AllocError, Global};
 
@@ -29,30 +32,39 @@ impl UnitText {
     }
 
     /// What a unit's files say: its fragment, and then its drop-ins. Linear in their bytes, and a search in the store for
-    /// each of them. It fails for want of memory alone.
+    /// the fragment. It fails for want of memory alone.
     pub fn of(
         alloc: Global,
         store: &Store,
         fragment: &Path,
-        dropins: &[Path],
+        dropins: &[Placed],
     ) -> Result<UnitText, AllocError>
-        ensures items { IfOk result (λ text. text.items ≡ items_of store.now (fragment.now ∷ dropins.now)) }
-        ensures notes { IfOk result (λ text. text.notes ≡ file_notes store.now (fragment.now ∷ dropins.now)) }
+        ensures items { IfOk result (λ text. text.items
+            ≡ assignments_of (bytes_at store.now fragment.now) ++ lent_items dropins.now) }
+        ensures notes { IfOk result (λ text. text.notes ≡ notes_at store.now fragment.now ++ lent_notes dropins.now) }
     {
         let mut text = UnitText::new(alloc);
-        text.add_file(alloc, store, fragment)?;
-        for path in dropins {
-            text.add_file(alloc, store, path)?;
+        text.add_file(alloc, fragment, bytes_of(store.visible(fragment)))?;
+        for placed in dropins {
+            text.add_drop_in(alloc, placed)?;
         }
         Ok(text)
     }
 
-    // Adds what the file at a path says.
-    fn add_file(&mut self, alloc: Global, store: &Store, path: &Path) -> Result<(), AllocError>
-        ensures items { OnOk result (self.new.items ≡ self.old.items ++ assignments_of (bytes_at store.now path.now)) }
-        ensures notes { OnOk result (self.new.notes ≡ self.old.notes ++ notes_at store.now path.now) }
+    // Adds what a drop-in says.
+    fn add_drop_in(&mut self, alloc: Global, placed: &Placed) -> Result<(), AllocError>
+        ensures items { OnOk result (self.new.items ≡ self.old.items ++ lent_items (placed.now ∷ [])) }
+        ensures notes { OnOk result (self.new.notes ≡ self.old.notes ++ lent_notes (placed.now ∷ [])) }
     {
-        let Sections { items, notes } = read(alloc, bytes_at(store, path))?;
+        self.add_file(alloc, &placed.path()?, bytes_of(placed.visible()))
+    }
+
+    // Adds what the file at a path says, which has these bytes.
+    fn add_file(&mut self, alloc: Global, path: &Path, bytes: &[u8]) -> Result<(), AllocError>
+        ensures items { OnOk result (self.new.items ≡ self.old.items ++ assignments_of bytes.now) }
+        ensures notes { OnOk result (self.new.notes ≡ self.old.notes ++ map (UnitNote.File path.now) (notes_of bytes.now)) }
+    {
+        let Sections { items, notes } = read(alloc, bytes)?;
         self.items.append(items)?;
         add_line_notes(&mut self.notes, path, notes.as_slice())
     }
@@ -72,12 +84,23 @@ fn add_line_notes(
     Ok(())
 }
 
-// The bytes of the file that is visible at a path: none where no file is.
-fn bytes_at<'a>(store: &'a Store, path: &Path) -> &'a [u8]
-    ensures bytes { result.now ≡ bytes_at store.now path.now }
+// The bytes of a content that is a file: none where no file is.
+fn bytes_of<'a>(content: Option<&'a Content>) -> &'a [u8]
+    ensures bytes { result.now ≡ file_bytes (option_copied content.entry) }
 {
-    match store.visible(path) {
+    match content {
         Some(Content::File(file)) => file.bytes(),
         _ => &[],
     }
+}
+
+/// The paths of drop-ins, in their order. It fails for want of memory alone, and copies no bytes.
+pub(crate) fn paths_of(alloc: Global, dropins: &[Placed]) -> Result<Vec<Path>, AllocError>
+    ensures paths { IfOk result (λ paths. paths.items ≡ map entry_path dropins.now) }
+{
+    let mut paths = Vec::new(alloc);
+    for placed in dropins {
+        paths.push(placed.path()?)?;
+    }
+    Ok(paths)
 }

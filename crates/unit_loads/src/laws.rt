@@ -1,4 +1,5 @@
 //! What is true of all units: laws, each the contract of a function that does nothing.
+ghost use Rattle.unit_loads.specs.ElsewhereLaws.{ElsewhereChangesNothing, NearPathsDecide};
 ghost use Rattle.unit_loads.specs.NameLaws.{ListsHaveWhatIsNamed, ListsRise, OthersNameNone, UnitsListAllKinds};
 ghost use Rattle.unit_loads.specs.UnitLaws.{OneUnit};
 
@@ -14,4 +15,11 @@ pub fn named_unit_laws()
     ensures rise { ListsRise }
     ensures exact { ListsHaveWhatIsNamed }
     ensures loaded { OthersNameNone }
+{}
+
+/// A unit is decided by what is visible at paths of one component and in its own folders. So an edit in another folder,
+/// as of another name's drop-in, leaves it as it was, removals too.
+pub fn elsewhere_laws()
+    ensures near { NearPathsDecide }
+    ensures elsewhere { ElsewhereChangesNothing }
 {}

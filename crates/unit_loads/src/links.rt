@@ -1,8 +1,9 @@
 //! The names that a unit's link folders give.
-ghost use Rattle.std.specs.Prelude.{◌≡◌, IfOk};
-ghost use Rattle.unit_loads.specs.Units.{AreLinkNames, links_for};
+ghost use Rattle.std.specs.Prelude.{◌≡◌, ◌↔◌, [], IfOk, IsTrue};
+ghost use Rattle.unit_loads.specs.Steps.{AreLinkNamesFrom};
+ghost use Rattle.unit_loads.specs.Units.{links_for};
 
-use dropins::{Folder, links};
+use dropins::{Folder, UnitFolders};
 use replica_store::Store;
 use section_reader::Items;
 use setting_rules::DepKind;
@@ -19,16 +20,23 @@ pub(crate) struct LinkNames {
 }
 
 impl LinkNames {
-    /// What the link folders of a unit of these names give. It fails for want of memory alone.
-    pub fn of(alloc: Global, store: &Store, names: &[UnitName]) -> Result<LinkNames, AllocError>
-        ensures links { IfOk result (AreLinkNames store.now names.now) }
+    /// What the link folders of a unit with these folders give. It fails for want of memory alone.
+    pub fn of(alloc: Global, store: &Store, folders: &UnitFolders) -> Result<LinkNames, AllocError>
+        ensures links { IfOk result (AreLinkNamesFrom store.now folders.now) }
     {
-        let wanted = links(alloc, store, names, Folder::Wants)?;
-        let required = links(alloc, store, names, Folder::Requires)?;
+        let wanted = folders.links(alloc, store, Folder::Wants)?;
+        let required = folders.links(alloc, store, Folder::Requires)?;
         Ok(LinkNames {
             wanted: Items::from_vec(wanted),
             required: Items::from_vec(required),
         })
+    }
+
+    /// Whether there are none. It takes no memory.
+    pub fn is_empty(&self) -> bool
+        ensures test { IsTrue result ↔ ((self.now.wanted ≡ []) × (self.now.required ≡ [])) }
+    {
+        self.wanted.as_slice().is_empty() && self.required.as_slice().is_empty()
     }
 
     /// Those that add to the dependencies of a kind. It takes no memory.

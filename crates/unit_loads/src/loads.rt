@@ -3,11 +3,11 @@ ghost use Rattle.std.specs.Prelude.{◌≡◌, IfOk};
 ghost use Rattle.fragment_choice.specs.Resolutions.{main, resolution};
 ghost use Rattle.unit_loads.specs.Units.{HasNothing, HasSettings, IsUnit, no_names};
 
-use crate::files::UnitText;
+use crate::files::{UnitText, paths_of};
 use crate::links::LinkNames;
 use crate::settled::Settled;
 use crate::units::{Status, Unit};
-use dropins::order;
+use dropins::UnitFolders;
 use fragment_choice::{AliasIndex, Choice, Resolution, resolve};
 use replica_store::{Path, Store};
 use section_reader::Items;
@@ -18,7 +18,8 @@ use unit_name::UnitName;
 /// The unit of a main name in the store of an index; its dependencies are the names that its words and links give, not yet
 /// the mains of these (systemd.unit(5)). A template gives a unit too, as if it had no instance, but no load asks for one.
 ///
-/// Beside the look-ups for its names, its drop-ins and its links: linear in the bytes of its files and in what they expand
+/// Its folders are listed once, for drop-ins and for links, and what is taken in them is read where it stands. Beside the
+/// look-ups for its names and in these folders: linear in the bytes of its files and in what they expand
 /// to, and O(n log n) in the names of a kind. It fails for want of memory alone.
 pub fn load_unit(alloc: Global, index: &AliasIndex, name: &UnitName) -> Result<Unit, AllocError>
     requires main { main index.now name.now ≡ name.now }
@@ -73,10 +74,12 @@ fn loaded(
     ensures status { IfOk result (λ unit. unit.status ≡ Status.Loaded fragment) }
     ensures settings { IfOk result (HasSettings store.now fragment) }
 {
-    let dropins = order(alloc, store, &names)?;
-    let links = LinkNames::of(alloc, store, &names)?;
+    let folders = UnitFolders::of(alloc, &names)?;
+    let dropins = folders.drop_ins(alloc, store)?;
+    let links = LinkNames::of(alloc, store, &folders)?;
     let text = UnitText::of(alloc, store, &fragment, &dropins)?;
     let settled = Settled::of(alloc, &name, text, &links)?;
+    let dropins = paths_of(alloc, &dropins)?;
     Ok(Unit {
         name,
         names: Items::from_vec(names),

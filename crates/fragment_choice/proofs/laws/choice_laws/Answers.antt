@@ -1,4 +1,4 @@
-use Rattle.fragment_choice.specs.ChoiceLaws.{least_rank_chooses, templates_come_last, greater_ranks_dont_count, masks_hide, only_visible_counts, removals_give_back}
+use Rattle.fragment_choice.specs.ChoiceLaws.{least_rank_chooses, templates_come_last, greater_ranks_dont_count, masks_hide, only_visible_counts, own_paths_count, removals_give_back}
 use Rattle.fragment_choice.specs.SilenceLaws.{silence_is_not_found}
 use Rattle.fragment_choice.proofs.laws.choice_laws.Goals as goal
 
@@ -9,6 +9,7 @@ returns c = record {
   greater = greater_ranks_dont_count;
   masks = masks_hide;
   visible = only_visible_counts;
+  own = own_paths_count;
   removals = removals_give_back;
   silence = silence_is_not_found;
 }

@@ -1,5 +1,5 @@
-use Rattle.fragment_choice.specs.UnitNameLaws.{names_have_the_main, names_dont_meet, one_list_of_names}
+use Rattle.fragment_choice.specs.UnitNameLaws.{mains_decide, names_have_the_main, names_dont_meet, one_list_of_names}
 use Rattle.fragment_choice.proofs.laws.unit_laws.Goals as goal
 
 pub returns : goal.returns
-returns c = record { mains = names_have_the_main; apart = names_dont_meet; one = one_list_of_names }
+returns c = record { mains = names_have_the_main; apart = names_dont_meet; one = one_list_of_names; same = mains_decide }

@@ -21,7 +21,7 @@ names-preserved c =
     let P : ℕ → Vec ℕ Global → Type 0 = λ k r. AreNames (count_of load) (name_at load) (Listed r.items) (λ v. IsAmong v (names_in edges c.args.kind (name_at load k)) × IsUnitIn load v) in
     let name : (get_or c.names-names.result.now i c.index-names-number.result).0 ≡ name_at load i =
     key_at_place c.names-names.result.now i c.index-names-number.result [] c.names-test.true ∙ ap (λ ns. get_or (keys_of ns) i []) c.names-names.ensures.names in
-    let names : c.of-others.result.now ≡ names_in edges c.args.kind (name_at load i) = c.of-others.ensures.names ∙ ap (names_in edges c.args.kind) name in
+    let names : c.of_at-others.result.now ≡ names_in edges c.args.kind (name_at load i) = c.of_at-others.ensures.names ∙ ap (names_in edges c.args.kind) name in
     let Q : List Name → Type 0 = λ ns. AreNames (count_of load) (name_at load) (Listed c.in_ok-numbers_of.field-0.items) (λ v. IsAmong v ns × IsUnitIn load v) in
     made_more P i _ _ c.in_ok-numbers_of.field-0 c.names.invariant c.in_ok-push.ensures.items (subst Q names c.in_ok-numbers_of.ensures.numbers)
 

@@ -1,7 +1,10 @@
-use Rattle.std.proofs.Common.{◌≡◌, ◌∷◌, take}
-use Rattle.unit_loads.specs.Units.{file_notes, items_of}
+use Rattle.std.proofs.Common.{◌≡◌, ◌++◌, take}
+use Rattle.section_reader.specs.Sections.{assignments_of}
+use Rattle.unit_loads.specs.Steps.{lent_items, lent_notes}
+use Rattle.unit_loads.specs.Units.{bytes_at, notes_at}
 use Rattle.unit_loads.proofs.files.UnitText.of.Given as goal
 
-abbrev pub invariant-loop-path : goal.invariant-loop-path
-invariant-loop-path l =
-    (l.text.items ≡ items_of l.store (l.fragment ∷ take l.path-index l.dropins)) × (l.text.notes ≡ file_notes l.store (l.fragment ∷ take l.path-index l.dropins))
+abbrev pub invariant-loop-placed : goal.invariant-loop-placed
+invariant-loop-placed l =
+    (l.text.items ≡ assignments_of (bytes_at l.store l.fragment) ++ lent_items (take l.placed-index l.dropins))
+    × (l.text.notes ≡ notes_at l.store l.fragment ++ lent_notes (take l.placed-index l.dropins))

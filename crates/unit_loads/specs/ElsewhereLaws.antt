@@ -1,0 +1,160 @@
+-- What is shown elsewhere changes no unit.
+use Rattle.std.proofs.Common.{◌≡◌, ◌≢◌, ℕ, zero, suc, List, [], ◌∷◌, ◌++◌, map, refl, ap, sym, ◌∙◌, subst, inl, inr, codes}
+use Rattle.std.specs.Prelude.{◌↔◌, ◌⊎◌, Some, slice_get}
+use Rattle.std.specs.List.{Contains}
+use Rattle.std.proofs.lemmas.Option.{same_Some}
+use Rattle.list_laws.specs.Members.{IsAmong, IsAmong-append_left, IsAmong-append_right, first_or_later, first_there, later_there}
+use Rattle.load_path.specs.Paths.{PathParts}
+use Rattle.edit_sums.specs.Sums.{EntryMap, visible_at}
+use Rattle.unit_name.specs.Names.{Name}
+use Rattle.section_reader.specs.Sections.{assignments_of, notes_of}
+use Rattle.setting_rules.specs.Rows.{rows_of}
+use Rattle.setting_rules.specs.Settings.{settings_of}
+use Rattle.setting_rules.specs.Switches.{refuses}
+use Rattle.fragment_choice.specs.declared.choices.Choice.{Choice}
+use Rattle.fragment_choice.specs.declared.choices.Choice.TheVariants as choice
+use Rattle.fragment_choice.specs.declared.resolutions.Resolution.{Resolution}
+use Rattle.fragment_choice.specs.ChoiceLaws.{own_paths_count}
+use Rattle.fragment_choice.specs.FragmentLaws.{fragments_have_no_folder}
+use Rattle.fragment_choice.specs.ResolutionLaws.{choices_decide}
+use Rattle.fragment_choice.specs.Resolutions.{main, resolution}
+use Rattle.fragment_choice.specs.UnitNameLaws.{mains_decide}
+use Rattle.dropins.specs.declared.link_names.Folder.{Folder}
+use Rattle.dropins.specs.declared.link_names.Folder.TheVariants.{Wants, Requires}
+use Rattle.dropins.specs.declared.precedence.Search.{Search}
+use Rattle.dropins.specs.declared.precedence.Search.TheVariants.{DropIns, Links}
+use Rattle.dropins.specs.FolderLists.{folders}
+use Rattle.dropins.specs.PrecedenceLaws.{folders_decide}
+use Rattle.dropins.specs.Taken.Candidate.{At}
+use Rattle.dropins.specs.Taken.{Candidate, IsDropIn, IsLinked, IsTaken, dirs_with, ending}
+use Rattle.unit_loads.specs.declared.units.Status.{Status}
+use Rattle.unit_loads.specs.declared.units.Status.TheVariants.{Loaded, NotFound, Masked, Bad}
+use Rattle.unit_loads.specs.declared.units.Unit.{Unit as LoadedUnit}
+use Rattle.unit_loads.specs.declared.units.UnitNote.TheVariants as note
+use Rattle.unit_loads.specs.Elsewhere.{AgreeButAt, IsElsewhere, IsNear, unit_folders}
+use Rattle.unit_loads.specs.Units.{AreDropIns, AreLinks, HasAllOf, HasSettings, IsStatus, IsUnit, file_bytes, file_notes, items_of, lists_with, setting_notes}
+
+-- Stores that show the same at paths of one component and in a unit's folders have the same unit.
+abbrev pub NearPathsDecide : Type 0
+NearPathsDecide = (s t : EntryMap) (name : Name) (unit : LoadedUnit) → ((p : PathParts) → IsNear unit.names p → visible_at s p ≡ visible_at t p) → IsUnit s name unit → IsUnit t name unit
+
+-- A visible edit elsewhere leaves a unit as it was.
+abbrev pub ElsewhereChangesNothing : Type 0
+ElsewhereChangesNothing = (s t : EntryMap) (name : Name) (unit : LoadedUnit) (m : PathParts) → IsElsewhere unit.names m → AgreeButAt s t m → IsUnit s name unit → IsUnit t name unit
+
+-- what stands at a place of a list is among it
+placed_among : (ds : List (List ℕ)) (i : ℕ) (d : List ℕ) → slice_get ds i ≡ Some d → IsAmong d ds
+placed_among [] i d h = cc (h)
+placed_among (x ∷ xs) zero d h = inl (same_Some _ _ h)
+placed_among (x ∷ xs) (suc i) d h = inr (placed_among xs i d h)
+
+-- the same files have the same bytes, and the same assignments and notes
+module _ (s t : EntryMap) where
+  items_same : (files : List PathParts) → ((p : PathParts) → Contains files p → visible_at s p ≡ visible_at t p) → items_of s files ≡ items_of t files
+  items_same [] same = refl
+  items_same (p ∷ ps) same =
+      ap (λ o. assignments_of (file_bytes o) ++ items_of s ps) (same p (first_there p ps))
+      ∙ ap (λ xs. assignments_of (file_bytes (visible_at t p)) ++ xs) (items_same ps (λ q c. same q (later_there p q ps c)))
+
+  notes_same : (files : List PathParts) → ((p : PathParts) → Contains files p → visible_at s p ≡ visible_at t p) → file_notes s files ≡ file_notes t files
+  notes_same [] same = refl
+  notes_same (p ∷ ps) same =
+      ap (λ o. map (note.File p) (notes_of (file_bytes o)) ++ file_notes s ps) (same p (first_there p ps))
+      ∙ ap (λ xs. map (note.File p) (notes_of (file_bytes (visible_at t p))) ++ xs) (notes_same ps (λ q c. same q (later_there p q ps c)))
+
+module _ (s t : EntryMap) (names : List Name) (near : (p : PathParts) → IsNear names p → visible_at s p ≡ visible_at t p) where
+  -- a path in a folder of the unit shows the same
+  shown_in : (ds : List (List ℕ)) → ((d : List ℕ) → IsAmong d ds → IsAmong d (unit_folders names)) → (p : PathParts) (i : ℕ) → slice_get ds i ≡ Some p.folder → visible_at s p ≡ visible_at t p
+  shown_in ds own p i f = near p (inr (own p.folder (placed_among ds i p.folder f)))
+
+  -- and the same is taken there
+  same_taken : (x : Search) (ds : List (List ℕ)) → ((d : List ℕ) → IsAmong d ds → IsAmong d (unit_folders names)) → (c : Candidate) (p : PathParts) → IsTaken s x ds c p ↔ IsTaken t x ds c p
+  same_taken x ds own c p = (folders_decide s t x ds (λ q i l f. shown_in ds own q i f) c p, folders_decide t s x ds (λ q i l f. sym (shown_in ds own q i f)) c p)
+
+  drop_in_folder : (d : List ℕ) → IsAmong d (dirs_with (codes ".d") (folders names)) → IsAmong d (unit_folders names)
+  drop_in_folder d h = IsAmong-append_left d (dirs_with (codes ".d") (folders names)) _ h
+
+  link_folder : (folder : Folder) (d : List ℕ) → IsAmong d (dirs_with (ending folder) (folders names)) → IsAmong d (unit_folders names)
+  link_folder Wants d h = IsAmong-append_right d (dirs_with (codes ".d") (folders names)) _ (IsAmong-append_left d (dirs_with (ending Wants) (folders names)) _ h)
+  link_folder Requires d h = IsAmong-append_right d (dirs_with (codes ".d") (folders names)) _ (IsAmong-append_right d (dirs_with (ending Wants) (folders names)) _ h)
+
+  same_drop_in : (p : PathParts) → IsDropIn s names p ↔ IsDropIn t names p
+  same_drop_in p = same_taken DropIns (dirs_with (codes ".d") (folders names)) drop_in_folder (At p) p
+
+  same_linked : (folder : Folder) (n : Name) → IsLinked s names folder n ↔ IsLinked t names folder n
+  same_linked folder n = (
+    λ h. record { name = h.name; path = h.path; name_is = h.name_is; taken = (same_taken Links (dirs_with (ending folder) (folders names)) (link_folder folder) (At h.path) h.path).0 h.taken },
+    λ h. record { name = h.name; path = h.path; name_is = h.name_is; taken = (same_taken Links (dirs_with (ending folder) (folders names)) (link_folder folder) (At h.path) h.path).1 h.taken },
+  )
+
+  same_links : (folder : Folder) (links : List Name) → AreLinks s names folder links → AreLinks t names folder links
+  same_links folder links are = record {
+    rising = are.rising;
+    exact = λ n. (λ c. (same_linked folder n).0 ((are.exact n).0 c), λ h. (are.exact n).1 ((same_linked folder n).1 h));
+  }
+
+  drop_in_shown : (p : PathParts) → IsDropIn s names p → visible_at s p ≡ visible_at t p
+  drop_in_shown p d = shown_in (dirs_with (codes ".d") (folders names)) drop_in_folder p d.place d.stands.folder_is
+
+  -- the files of the unit show the same
+  files_shown : (fragment : PathParts) (dropins : List PathParts) → fragment.folder ≡ [] → AreDropIns s names dropins → (p : PathParts) → Contains (fragment ∷ dropins) p → visible_at s p ≡ visible_at t p
+  files_shown fragment dropins own are p c = by (first_or_later fragment p dropins c)
+    where
+      by : (fragment ≡ p) ⊎ Contains dropins p → visible_at s p ≡ visible_at t p
+      by (inl e) = near p (inl (ap (λ (q : PathParts). q.folder) (sym e) ∙ own))
+      by (inr d) = drop_in_shown p ((are.exact p).0 d)
+
+module _ (s t : EntryMap) (unit : LoadedUnit) (near : (p : PathParts) → IsNear unit.names p → visible_at s p ≡ visible_at t p) where
+  settings_same : (fragment : PathParts) → fragment.folder ≡ [] → HasSettings s fragment unit → HasSettings t fragment unit
+  settings_same fragment own h =
+      let files = files_shown s t unit.names near fragment unit.dropins own h.dropins_are in
+      let items : items_of s (fragment ∷ unit.dropins) ≡ items_of t (fragment ∷ unit.dropins) = items_same s t (fragment ∷ unit.dropins) files in
+      record {
+        dropins_are = record {
+          rising = h.dropins_are.rising;
+          exact = λ p. (λ c. (same_drop_in s t unit.names near p).0 ((h.dropins_are.exact p).0 c), λ d. (h.dropins_are.exact p).1 ((same_drop_in s t unit.names near p).1 d));
+        };
+        links = h.links;
+        links_are = record { wanted_are = same_links s t unit.names near Wants h.links.wanted h.links_are.wanted_are; required_are = same_links s t unit.names near Requires h.links.required h.links_are.required_are };
+        values_are = h.values_are ∙ ap (λ xs. rows_of (settings_of xs) unit.name) items;
+        deps_are = h.deps_are ∙ ap (λ xs. lists_with (settings_of xs) unit.name h.links) items;
+        notes_are =
+            h.notes_are
+            ∙ ap (λ ns. ns ++ map note.Setting (setting_notes (items_of s (fragment ∷ unit.dropins)) unit.name h.links)) (notes_same s t (fragment ∷ unit.dropins) files)
+            ∙ ap (λ xs. file_notes t (fragment ∷ unit.dropins) ++ map note.Setting (setting_notes xs unit.name h.links)) items;
+        manual_is = h.manual_is ∙ ap (λ xs. refuses (settings_of xs)) items;
+      }
+
+  all_same : (status : Status) → ((fragment : PathParts) → status ≡ Loaded fragment → fragment.folder ≡ []) → HasAllOf s unit status → HasAllOf t unit status
+  all_same (Loaded fragment) own h = settings_same fragment (own fragment refl) h
+  all_same NotFound own h = h
+  all_same Masked own h = h
+  all_same (Bad cause) own h = h
+
+-- the status of a unit whose fragment is at a path came from the choice of that path
+chosen : (c : Choice) (status : Status) (fragment : PathParts) → IsStatus c status → status ≡ Loaded fragment → c ≡ choice.Fragment fragment
+chosen choice.NotFound status fragment h e = cc (h, e)
+chosen choice.Masked status fragment h e = cc (h, e)
+chosen (choice.Fragment path) status fragment h e = cc (h, e)
+chosen (choice.Alias other) status fragment h e = absurd h
+chosen (choice.Bad cause) status fragment h e = cc (h, e)
+
+pub near_paths_decide : NearPathsDecide
+near_paths_decide s t name unit near u =
+    let resolved : (n : Name) → resolution s n ≡ resolution t n = choices_decide s t (own_paths_count s t (λ p f. near p (inl f))) in
+    let mains : (n : Name) → main s n ≡ main t n = λ n. ap (λ (r : Resolution). r.main) (resolved n) in
+    record {
+      main_is = sym (mains name) ∙ u.main_is;
+      name_is = u.name_is;
+      names_are = mains_decide s t mains name unit.names u.names_are;
+      status_is = subst (λ (r : Resolution). IsStatus r.choice unit.status) (resolved name) u.status_is;
+      has = all_same s t unit near unit.status (λ fragment e. fragments_have_no_folder s name fragment (chosen (resolution s name).choice unit.status fragment u.status_is e)) u.has;
+    }
+
+-- what is near is not elsewhere
+near_differs : (names : List Name) (m p : PathParts) → IsElsewhere names m → IsNear names p → p ≢ m
+near_differs names m p e (inl own) same = e.in_folder (ap (λ (q : PathParts). q.folder) (sym same) ∙ own)
+near_differs names m p e (inr among) same = e.of_others (subst (λ (q : PathParts). IsAmong q.folder (unit_folders names)) same among)
+
+pub elsewhere_changes_nothing : ElsewhereChangesNothing
+elsewhere_changes_nothing s t name unit m e agree u = near_paths_decide s t name unit (λ p n. agree p (near_differs unit.names m p e n)) u
