@@ -23,6 +23,7 @@ use Rattle.unit_answers.specs.Units.{TellsFiles}
 use Rattle.load_answers.specs.Lists.{TellsList}
 use Rattle.load_answers.specs.Loads.{IsCrew}
 use Rattle.load_answers.specs.Shows.{TellsUnit}
+use Rattle.crowd_answers.specs.Tells.{TellsCrowd}
 use Rattle.script_worlds.specs.Worlds.{ScriptWorld, held, happened, with_node, node_named, has_writer, next_edit, parted, piece_named, merged, swept}
 
 -- the answer is these words, and the new world is that one
@@ -169,3 +170,4 @@ Does old (command.Show node unit) outcome new = Reads old outcome new node (Tell
 Does old (command.List node unit) outcome new = Reads old outcome new node (TellsList unit)
 Does old (command.Workers count) outcome new = Crews old outcome new count
 Does old (command.Same left right) outcome new = Compares old outcome new left right
+Does old (command.Crowd node seats edits) outcome new = Reads old outcome new node (TellsCrowd seats edits)

@@ -12,7 +12,7 @@ use Rattle.edit_sums.specs.Entries.{Entry}
 use Rattle.edit_sums.specs.Sums.{EntryMap}
 use Rattle.script_commands.specs.declared.commands.Refusal.{Refusal}
 use Rattle.script_commands.specs.Outcomes.{Outcome}
-use Rattle.script_commands.specs.declared.commands.Refusal.TheVariants.{UnknownCommand, Arguments, UnknownNode, BadText, UnknownPiece, NodeTaken, WriterTaken, LineTooLong, Directory, Depth, Component, FileTooLarge, BadLink, VersionsSpent, Nothing, Length, Kind, EmptyPrefix, BadByte, NotFound, Masked, Bad, Template, Workers, TooManyUnits}
+use Rattle.script_commands.specs.declared.commands.Refusal.TheVariants.{UnknownCommand, Arguments, UnknownNode, BadText, UnknownPiece, NodeTaken, WriterTaken, LineTooLong, Directory, Depth, Component, FileTooLarge, BadLink, VersionsSpent, Nothing, Length, Kind, EmptyPrefix, BadByte, NotFound, Masked, Bad, Template, Workers, TooManyUnits, Seats}
 
 -- the counter, a dot, the writer
 abbrev pub version_text : Version → List ℕ
@@ -26,6 +26,9 @@ changed_line n = codes "changed " ++ decimal n ++ codes "\n"
 
 abbrev pub entries_line : ℕ → List ℕ
 entries_line n = codes "entries " ++ decimal n ++ codes "\n"
+
+abbrev pub crowd_line : ℕ → ℕ → List ℕ
+crowd_line takes paths = codes "takes " ++ decimal takes ++ codes " paths " ++ decimal paths ++ codes "\n"
 
 abbrev pub content_text : Content → List ℕ
 content_text Gone = codes "gone"
@@ -67,6 +70,7 @@ refusal_name (Bad unit) = codes "P4 Bad"
 refusal_name Template = codes "P1 Template"
 refusal_name Workers = codes "L1 Workers"
 refusal_name TooManyUnits = codes "L2 TooManyUnits"
+refusal_name Seats = codes "A1 Seats"
 
 -- the values of a refusal, each behind a space
 abbrev pub refusal_values : Refusal → List ℕ

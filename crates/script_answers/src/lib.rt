@@ -3,4 +3,4 @@
 
 mod answers;
 
-pub use answers::{list_files, merge_done, part_done, put_done, refused};
+pub use answers::{crowd_done, list_files, merge_done, part_done, put_done, refused};

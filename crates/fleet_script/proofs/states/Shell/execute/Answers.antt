@@ -1,7 +1,7 @@
-use Rattle.std.proofs.Common.{Ok, sym, ap, ◌∙◌}
+use Rattle.std.proofs.Common.{rules, Ok, sym, ap, ◌∙◌}
 use Rattle.fleet_script.specs.Holds.{kept_in}
 use Rattle.fleet_script.proofs.Lines.{executed}
-use Rattle.script_commands.specs.declared.commands.Command.TheVariants.{Node, Put, Link, Remove, Merge, Part, Send, Sweep, Files, Cat, Show, List as ListUnits, Workers, Same}
+use Rattle.script_commands.specs.declared.commands.Command.TheVariants.{Node, Put, Link, Remove, Merge, Part, Send, Sweep, Files, Cat, Show, List as ListUnits, Workers, Same, Crowd}
 use Rattle.fleet_script.proofs.states.Shell.execute.Goals as goal
 
 pub returns-in-Node : goal.returns-in-Node
@@ -45,3 +45,9 @@ returns-in-Workers g c = record { done = executed (kept_in c.args.self.now) (kep
 
 pub returns-in-List : goal.returns-in-List
 returns-in-List g c = record { done = executed (kept_in c.args.self.now) (kept_in c.list.new.self) c.args.line.now (ListUnits c.in-List.node c.in-List.unit) c.list.result (ap Ok (sym c.in-List.is) ∙ c.in_ok-name.ensures.command) (rw c.as_slice-in-List-2.ensures.bytes at (rw c.as_slice-in-List.ensures.bytes at c.list.ensures.done)) }
+
+pub returns-in-Crowd : goal.returns-in-Crowd
+returns-in-Crowd g c = record { done = executed (kept_in c.args.self.now) (kept_in c.crowd.new.self) c.args.line.now (Crowd c.in-Crowd.node c.in-Crowd.seats c.in-Crowd.edits) c.crowd.result (ap Ok (sym c.in-Crowd.is) ∙ c.in_ok-name.ensures.command) (rw c.as_slice-in-Crowd.ensures.bytes at c.crowd.ensures.done) }
+
+pub crowd-requires-clause-room : goal.crowd-requires-clause-room
+crowd-requires-clause-room g c = (let room = c.requires.room in search rules)
