@@ -16,7 +16,7 @@ use Rattle.world_law.specs.declared.events.Event.TheVariants as event
 use Rattle.world_law.specs.Cuts.{cut, digest_of}
 use Rattle.script_words.specs.TextLaws.{spells_one}
 use Rattle.script_commands.specs.declared.commands.Command.{Command}
-use Rattle.script_commands.specs.declared.commands.Command.TheVariants.{Node, Put, Link, Remove, Merge, Part, Send, Sweep, Files, Cat, Show, List as ListUnits, Workers, Same, Crowd}
+use Rattle.script_commands.specs.declared.commands.Command.TheVariants.{Node, Put, Link, Remove, Merge, Part, Send, Sweep, Files, Cat, Show, List as ListUnits, Plan, Workers, Same, Crowd}
 use Rattle.script_commands.specs.declared.commands.Refusal.{Refusal}
 use Rattle.script_commands.specs.declared.commands.Refusal.TheVariants.{BadLink, BadText, Component, Depth, Directory, FileTooLarge, NodeTaken, Nothing, UnknownNode, UnknownPiece, VersionsSpent, Workers as NoCrew, WriterTaken}
 use Rattle.script_commands.specs.Outcomes.{Outcome, is_spent}
@@ -35,6 +35,8 @@ use Rattle.load_answers.specs.ListLaws.{lists_are_told_once, lists_spend_nothing
 use Rattle.load_answers.specs.Loads.{IsCrew}
 use Rattle.load_answers.specs.Shows.{TellsUnit}
 use Rattle.load_answers.specs.ShowLaws.{units_are_told_once, units_spend_nothing}
+use Rattle.plan_answers.specs.Plans.{TellsPlan}
+use Rattle.plan_answers.specs.PlanLaws.{plans_are_told_once, plans_spend_nothing}
 use Rattle.crowd_answers.specs.Tells.{TellsCrowd}
 use Rattle.crowd_answers.specs.TellsLaws.{crowds_are_told_once, crowds_spend_nothing}
 use Rattle.fleet_script.specs.Does.{AtNode, AtPath, AtPaths, AtPiece, Does, Gives, IsRead, Reads, Refuses, RefusesPath, TellsPaths, WithFile, WithTarget, WithText, Writes, if_any}
@@ -284,6 +286,7 @@ module _ (old : ScriptWorld) where
   does (Cat node unit) = reads node (TellsFiles unit) (files_are_told_once unit) (files_spend_nothing unit)
   does (Show node unit) = reads node (TellsUnit unit) (units_are_told_once unit) (units_spend_nothing unit)
   does (ListUnits node unit) = reads node (TellsList unit) (lists_are_told_once unit) (lists_spend_nothing unit)
+  does (Plan node unit running) = reads node (TellsPlan unit running) (plans_are_told_once unit running) (plans_spend_nothing unit running)
   does (Workers count) = gives_or_refuses (IsCrew count) (codes "ok\n") NoCrew refl
   does (Same left right) =
       let C : ℕ → ℕ → Outcome → ScriptWorld → Type 0 = λ j k outcome new. ((held old j ≡ held old k) × Gives (codes "same\n") old outcome new) ⊎ ((held old j ≡ held old k → ⊥) × Gives (codes "differ\n") old outcome new) in

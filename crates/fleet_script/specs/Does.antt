@@ -23,6 +23,7 @@ use Rattle.unit_answers.specs.Units.{TellsFiles}
 use Rattle.load_answers.specs.Lists.{TellsList}
 use Rattle.load_answers.specs.Loads.{IsCrew}
 use Rattle.load_answers.specs.Shows.{TellsUnit}
+use Rattle.plan_answers.specs.Plans.{TellsPlan}
 use Rattle.crowd_answers.specs.Tells.{TellsCrowd}
 use Rattle.script_worlds.specs.Worlds.{ScriptWorld, held, happened, with_node, node_named, has_writer, next_edit, parted, piece_named, merged, swept}
 
@@ -168,6 +169,7 @@ Does old (command.Files node) outcome new = Reads old outcome new node TellsPath
 Does old (command.Cat node unit) outcome new = Reads old outcome new node (TellsFiles unit)
 Does old (command.Show node unit) outcome new = Reads old outcome new node (TellsUnit unit)
 Does old (command.List node unit) outcome new = Reads old outcome new node (TellsList unit)
+Does old (command.Plan node unit running) outcome new = Reads old outcome new node (TellsPlan unit running)
 Does old (command.Workers count) outcome new = Crews old outcome new count
 Does old (command.Same left right) outcome new = Compares old outcome new left right
 Does old (command.Crowd node seats edits) outcome new = Reads old outcome new node (TellsCrowd seats edits)

@@ -1,6 +1,6 @@
 //! Commands are done here.
 ghost use Rattle.std.specs.Prelude.{◌≡◌, ◌<◌, Some, length, vec_len, IfOk, MatchResult};
-ghost use Rattle.script_commands.specs.declared.commands.Command.TheVariants.{Node, Put, Link, Remove, Files, Cat, Show, List, Workers, Same, Crowd};
+ghost use Rattle.script_commands.specs.declared.commands.Command.TheVariants.{Node, Put, Link, Remove, Files, Cat, Show, List, Plan, Workers, Same, Crowd};
 ghost use Rattle.script_commands.specs.Commands.{command_of};
 ghost use Rattle.fleet_script.specs.Does.{Does, Refuses, Writes};
 ghost use Rattle.fleet_script.specs.Holds.{Continues, Executes, Goes, HasNoNode, HasRoom, IsBlank, kept_in};
@@ -12,9 +12,12 @@ use crowd_answers::tell_crowd;
 use edit_sums::Content;
 use load_answers::{Crew, tell_list, tell_unit};
 use load_path::Path;
+use plan_answers::tell_plan;
 use replica_store::Replica;
 use script_answers::{list_files, put_done, refused};
-use script_commands::{Command, EditCount, Fault, Refusal, parse, read_file, read_link, read_path};
+use script_commands::{
+    Command, EditCount, Fault, Refusal, Words, parse, read_file, read_link, read_path,
+};
 use script_words::is_passed_over;
 use std::alloc::{AllocError, Global};
 use std::collections::{BTreeMap, BTreeSet};
@@ -154,6 +157,28 @@ impl Shell {
         tell_list(rt, alloc, self.nodes[at].store(), unit, &self.workers)
     }
 
+    // Tells what starts and what stops where a unit is to start while others run.
+    fn plan<R: Threads + Sync>(
+        &mut self,
+        rt: &R,
+        alloc: Global,
+        node: &[u8],
+        unit: &[u8],
+        running: Words<'_>,
+    ) -> Result<Vec<u8>, Fault>
+        ensures done { Executes self.old self.new (Plan node.now unit.now running.entry) result }
+    {
+        let at = self.node_at(alloc, node)?;
+        tell_plan(
+            rt,
+            alloc,
+            self.nodes[at].store(),
+            unit,
+            running,
+            &self.workers,
+        )
+    }
+
     fn workers(&mut self, alloc: Global, count: u32) -> Result<Vec<u8>, Fault>
         ensures done { Executes self.old self.new (Workers count) result }
     {
@@ -260,6 +285,11 @@ impl Shell {
             Command::Cat { node, unit } => self.cat(alloc, node.as_slice(), unit.as_slice()),
             Command::Show { node, unit } => self.show(rt, alloc, node.as_slice(), unit.as_slice()),
             Command::List { node, unit } => self.list(rt, alloc, node.as_slice(), unit.as_slice()),
+            Command::Plan {
+                node,
+                unit,
+                running,
+            } => self.plan(rt, alloc, node.as_slice(), unit.as_slice(), running),
             Command::Workers { count } => self.workers(alloc, count),
             Command::Same { left, right } => self.same(alloc, left.as_slice(), right.as_slice()),
             Command::Crowd { node, seats, edits } => {

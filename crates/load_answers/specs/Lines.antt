@@ -18,6 +18,7 @@ use Rattle.unit_loads.specs.declared.units.Unit.{Unit as LoadedUnit}
 use Rattle.unit_loads.specs.declared.units.UnitNote.{UnitNote}
 use Rattle.unit_loads.specs.declared.units.UnitNote.TheVariants.{File, Setting}
 use Rattle.inverse_deps.specs.Edges.{EdgeMap, names_in}
+use Rattle.script_answers.specs.Texts.{spaced_names}
 
 -- the code and the name of a cause
 abbrev pub cause_text : Cause → List ℕ
@@ -32,14 +33,6 @@ status_text (Loaded path) = codes "loaded " ++ text_of path
 status_text NotFound = codes "not-found"
 status_text Masked = codes "masked"
 status_text (Bad cause) = codes "bad " ++ cause_text cause
-
--- a name behind a space
-abbrev pub spaced_name : Name → List ℕ
-spaced_name name = codes " " ++ name
-
--- names, each behind a space
-abbrev pub spaced_names : List Name → List ℕ
-spaced_names names = flat_map spaced_name names
 
 abbrev pub dropin_line : PathParts → List ℕ
 dropin_line path = codes "dropin " ++ text_of path ++ codes "\n"

@@ -13,4 +13,5 @@ mod shows;
 pub use crews::Crew;
 pub use laws::one_answer_of_loads;
 pub use lists::tell_list;
+pub use loads::load_for;
 pub use shows::tell_unit;

@@ -1,12 +1,13 @@
 //! How a unit is written.
 ghost use Rattle.std.specs.Prelude.{◌≡◌, ◌++◌, IfOk, OnOk};
 ghost use Rattle.std.specs.List.{flat_map};
-ghost use Rattle.load_answers.specs.Lines.{cause_text, dropin_line, kind_line, kind_lines, note_line, row_line, spaced_name, spaced_names, status_text, unit_text};
+ghost use Rattle.load_answers.specs.Lines.{cause_text, dropin_line, kind_line, kind_lines, note_line, row_line, status_text, unit_text};
 
 use fragment_choice::Cause;
 use inverse_deps::Edges;
 use load_path::Path;
 use parallel_load::{Status, Unit, UnitNote};
+use script_answers::append_names;
 use setting_rules::{DepKind, Row};
 use std::alloc::{AllocError, Global};
 use std::fmt::Write;
@@ -40,24 +41,6 @@ fn append_status(out: &mut Vec<u8>, status: &Status) -> Result<(), AllocError>
             out.extend_from_slice(cause_text(*cause))
         }
     }
-}
-
-// Appends names, each behind a space.
-fn append_names(out: &mut Vec<u8>, names: &[UnitName]) -> Result<(), AllocError>
-    ensures appended { OnOk result (out.new.items ≡ out.old.items ++ spaced_names names.now) }
-{
-    for name in names {
-        append_name(out, name)?;
-    }
-    Ok(())
-}
-
-// Appends a name behind a space.
-fn append_name(out: &mut Vec<u8>, name: &UnitName) -> Result<(), AllocError>
-    ensures appended { OnOk result (out.new.items ≡ out.old.items ++ spaced_name name.now) }
-{
-    out.push(b' ')?;
-    out.extend_from_slice(name.bytes())
 }
 
 // Appends a line for each drop-in.

@@ -12,8 +12,10 @@ use std::alloc::Global;
 use std::thread::Threads;
 use unit_name::UnitName;
 
-/// The load of a store with these names asked for, by so many workers. One worker needs no thread.
-pub(crate) fn load_for<R: Threads + Sync>(
+/// The load of a store with these names asked for, by so many workers. It is refused where more
+/// than 4,096 names must be loaded, and for want of memory. One worker needs no thread, and their number changes nothing of
+/// the load.
+pub fn load_for<R: Threads + Sync>(
     rt: &R,
     alloc: Global,
     store: &Store,

@@ -10,9 +10,10 @@ use Rattle.edit_sums.specs.declared.contents.Content.{Content}
 use Rattle.edit_sums.specs.declared.contents.Content.TheVariants.{Gone, Link, File}
 use Rattle.edit_sums.specs.Entries.{Entry}
 use Rattle.edit_sums.specs.Sums.{EntryMap}
+use Rattle.unit_name.specs.Names.{Name}
 use Rattle.script_commands.specs.declared.commands.Refusal.{Refusal}
 use Rattle.script_commands.specs.Outcomes.{Outcome}
-use Rattle.script_commands.specs.declared.commands.Refusal.TheVariants.{UnknownCommand, Arguments, UnknownNode, BadText, UnknownPiece, NodeTaken, WriterTaken, LineTooLong, Directory, Depth, Component, FileTooLarge, BadLink, VersionsSpent, Nothing, Length, Kind, EmptyPrefix, BadByte, NotFound, Masked, Bad, Template, Workers, TooManyUnits, Seats}
+use Rattle.script_commands.specs.declared.commands.Refusal.TheVariants.{UnknownCommand, Arguments, UnknownNode, BadText, UnknownPiece, NodeTaken, WriterTaken, LineTooLong, Directory, Depth, Component, FileTooLarge, BadLink, VersionsSpent, Nothing, Length, Kind, EmptyPrefix, BadByte, NotFound, Masked, Bad, Template, Workers, TooManyUnits, ManualStart, Requisite, Conflict, Cycle, Seats}
 
 -- the counter, a dot, the writer
 abbrev pub version_text : Version → List ℕ
@@ -70,14 +71,29 @@ refusal_name (Bad unit) = codes "P4 Bad"
 refusal_name Template = codes "P1 Template"
 refusal_name Workers = codes "L1 Workers"
 refusal_name TooManyUnits = codes "L2 TooManyUnits"
+refusal_name ManualStart = codes "P5 ManualStart"
+refusal_name (Requisite unit needs) = codes "P6 Requisite"
+refusal_name (Conflict unit rival) = codes "P7 Conflict"
+refusal_name (Cycle units) = codes "P8 Cycle"
 refusal_name Seats = codes "A1 Seats"
+
+-- a name behind a space
+abbrev pub spaced_name : Name → List ℕ
+spaced_name name = codes " " ++ name
+
+-- names, each behind a space
+abbrev pub spaced_names : List Name → List ℕ
+spaced_names names = flat_map spaced_name names
 
 -- the values of a refusal, each behind a space
 abbrev pub refusal_values : Refusal → List ℕ
 refusal_values (BadByte place) = codes " " ++ decimal place
-refusal_values (NotFound unit) = codes " " ++ unit
-refusal_values (Masked unit) = codes " " ++ unit
-refusal_values (Bad unit) = codes " " ++ unit
+refusal_values (NotFound unit) = spaced_name unit
+refusal_values (Masked unit) = spaced_name unit
+refusal_values (Bad unit) = spaced_name unit
+refusal_values (Requisite unit needs) = spaced_name unit ++ spaced_name needs
+refusal_values (Conflict unit rival) = spaced_name unit ++ spaced_name rival
+refusal_values (Cycle units) = spaced_names units
 refusal_values other = []
 
 abbrev pub error_line : Refusal → List ℕ

@@ -3,6 +3,7 @@ ghost use Rattle.std.specs.Prelude.{◌≡◌, ◌∷◌, ◌++◌, IfOk, OnOk, 
 ghost use Rattle.std.specs.List.{flat_map};
 ghost use Rattle.script_answers.specs.Texts.{refusal_name, refusal_values, error_line, ok_line, changed_line, crowd_line, entries_line, entry_line, files_text, content_text, version_text};
 
+use crate::names::{append_name, append_names};
 use edit_sums::Content;
 use join_law::Version;
 use replica_store::{Placed, Store};
@@ -40,6 +41,10 @@ fn code_and_name(refusal: &Refusal) -> &'static [u8]
         Refusal::Template => b"P1 Template",
         Refusal::Workers => b"L1 Workers",
         Refusal::TooManyUnits => b"L2 TooManyUnits",
+        Refusal::ManualStart => b"P5 ManualStart",
+        Refusal::Requisite(_, _) => b"P6 Requisite",
+        Refusal::Conflict(_, _) => b"P7 Conflict",
+        Refusal::Cycle(_) => b"P8 Cycle",
         Refusal::Seats => b"A1 Seats",
     }
 }
@@ -54,9 +59,13 @@ fn append_values(alloc: Global, out: &mut Vec<u8>, refusal: &Refusal) -> Result<
             out.extend_from_slice(format!(in alloc; " {place}")?.as_bytes())
         }
         Refusal::NotFound(name) | Refusal::Masked(name) | Refusal::Bad(name) => {
-            out.push(b' ')?;
-            out.extend_from_slice(name.bytes())
+            append_name(out, name)
         }
+        Refusal::Requisite(unit, other) | Refusal::Conflict(unit, other) => {
+            append_name(out, unit)?;
+            append_name(out, other)
+        }
+        Refusal::Cycle(units) => append_names(out, units.as_slice()),
         _ => Ok(()),
     }
 }

@@ -2,5 +2,7 @@
 #![tactic(auto)]
 
 mod answers;
+mod names;
 
 pub use answers::{crowd_done, list_files, merge_done, part_done, put_done, refused};
+pub use names::append_names;

@@ -6,7 +6,7 @@ use Rattle.script_words.specs.Words.{words_of, text_after}
 use Rattle.script_words.specs.Names.{is_name}
 use Rattle.script_words.specs.Numbers.{number_of}
 use Rattle.script_commands.specs.declared.commands.Command.{Command}
-use Rattle.script_commands.specs.declared.commands.Command.TheVariants.{Node, Put, Link, Remove, Merge, Part, Send, Sweep, Files, Cat, Show, List as ListUnits, Workers, Same, Crowd}
+use Rattle.script_commands.specs.declared.commands.Command.TheVariants.{Node, Put, Link, Remove, Merge, Part, Send, Sweep, Files, Cat, Show, List as ListUnits, Plan, Workers, Same, Crowd}
 use Rattle.script_commands.specs.declared.commands.Refusal.{Refusal}
 use Rattle.script_commands.specs.declared.commands.Refusal.TheVariants.{UnknownCommand, Arguments}
 
@@ -76,6 +76,11 @@ abbrev pub list_command : List (List ℕ) → Result Command Refusal
 list_command (node ∷ unit ∷ []) = if is_name node then Ok (ListUnits node unit) else Err Arguments
 list_command words = Err Arguments
 
+-- the units that run are the words that follow; there may be none
+abbrev pub plan_command : List (List ℕ) → Result Command Refusal
+plan_command (node ∷ unit ∷ running) = if is_name node then Ok (Plan node unit running) else Err Arguments
+plan_command words = Err Arguments
+
 abbrev pub workers_with : Option ℕ → Result Command Refusal
 workers_with None = Err Arguments
 workers_with (Some count) = Ok (Workers count)
@@ -105,10 +110,11 @@ question_of verb words =
     else (if bytes_eq verb (codes "cat") then cat_command words
     else (if bytes_eq verb (codes "show") then show_command words
     else (if bytes_eq verb (codes "list") then list_command words
+    else (if bytes_eq verb (codes "plan") then plan_command words
     else (if bytes_eq verb (codes "workers") then workers_command words
     else (if bytes_eq verb (codes "same") then same_command words
     else (if bytes_eq verb (codes "crowd") then crowd_command words
-    else Err UnknownCommand))))))
+    else Err UnknownCommand)))))))
 
 -- the first word names the command
 abbrev pub command_of_words : List (List ℕ) → List ℕ → Result Command Refusal

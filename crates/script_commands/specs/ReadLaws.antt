@@ -7,11 +7,11 @@ use Rattle.std.proofs.lemmas.Bool.{cond-true, and_from, and_parts, true≢false,
 use Rattle.script_words.specs.Names.{is_name}
 use Rattle.script_words.specs.Numbers.{number_of}
 use Rattle.script_words.specs.Words.{text_after, words_of}
-use Rattle.script_commands.specs.declared.commands.Command.TheVariants.{Node, Put, Link, Remove, Merge, Part, Send, Sweep, Files, Cat, Show, List as ListUnits, Workers, Same, Crowd}
+use Rattle.script_commands.specs.declared.commands.Command.TheVariants.{Node, Put, Link, Remove, Merge, Part, Send, Sweep, Files, Cat, Show, List as ListUnits, Plan, Workers, Same, Crowd}
 use Rattle.script_commands.specs.declared.commands.Command.{Command}
 use Rattle.script_commands.specs.declared.commands.Refusal.{Refusal}
 use Rattle.script_commands.specs.declared.commands.Refusal.TheVariants.{Arguments, UnknownCommand}
-use Rattle.script_commands.specs.Commands.{cat_command, command_of_words, crowd_command, crowd_with, files_command, link_command, list_command, merge_command, node_command, node_with, part_command, put_command, remove_command, same_command, send_command, show_command, sweep_command, workers_command, workers_with}
+use Rattle.script_commands.specs.Commands.{cat_command, command_of_words, crowd_command, crowd_with, files_command, link_command, list_command, merge_command, node_command, node_with, part_command, plan_command, put_command, remove_command, same_command, send_command, show_command, sweep_command, workers_command, workers_with}
 use Rattle.script_commands.specs.WrittenLaws.{AreWordsOf, BeginsWithVerb, IsOneOf, JustItsWordsAreRead, OthersAreRefused, verbs}
 
 -- ---- no other words
@@ -127,6 +127,13 @@ module _ (c : Command) (line : List ℕ) where
       subst (λ (d : Command). AreWordsOf d (codes "list" ∷ node ∷ unit ∷ []) line) read.1 (refl, read.0)
   list_read (node ∷ unit ∷ word ∷ words) e = absurd (never Arguments c e)
 
+  plan_read : (words : List (List ℕ)) → plan_command words ≡ Ok c → AreWordsOf c (codes "plan" ∷ words) line
+  plan_read [] e = absurd (never Arguments c e)
+  plan_read (node ∷ []) e = absurd (never Arguments c e)
+  plan_read (node ∷ unit ∷ running) e =
+      let read = read_where (is_name node) (Plan node unit running) c e in
+      subst (λ (d : Command). AreWordsOf d (codes "plan" ∷ node ∷ unit ∷ running) line) read.1 (refl, read.0)
+
   workers_read : (words : List (List ℕ)) → workers_command words ≡ Ok c → AreWordsOf c (codes "workers" ∷ words) line
   workers_read [] e = absurd (never Arguments c e)
   workers_read (number ∷ []) e = by (number_of number) refl e
@@ -184,10 +191,11 @@ module _ (c : Command) (line : List ℕ) where
       verb_or verb (codes "cat") words (cat_command words) _ e8 (cat_read words) (λ e9.
       verb_or verb (codes "show") words (show_command words) _ e9 (show_read words) (λ e10.
       verb_or verb (codes "list") words (list_command words) _ e10 (list_read words) (λ e11.
-      verb_or verb (codes "workers") words (workers_command words) _ e11 (workers_read words) (λ e12.
-      verb_or verb (codes "same") words (same_command words) _ e12 (same_read words) (λ e13.
-      verb_or verb (codes "crowd") words (crowd_command words) _ e13 (crowd_read words) (λ e14.
-      absurd (never UnknownCommand c e14))))))))))))))))
+      verb_or verb (codes "plan") words (plan_command words) _ e11 (plan_read words) (λ e12.
+      verb_or verb (codes "workers") words (workers_command words) _ e12 (workers_read words) (λ e13.
+      verb_or verb (codes "same") words (same_command words) _ e13 (same_read words) (λ e14.
+      verb_or verb (codes "crowd") words (crowd_command words) _ e14 (crowd_read words) (λ e15.
+      absurd (never UnknownCommand c e15)))))))))))))))))
 
 -- and these are read
 read_as : (c : Command) (words : List (List ℕ)) (line : List ℕ) → AreWordsOf c words line → command_of_words words line ≡ Ok c
@@ -205,6 +213,7 @@ read_as (Files node) words line (same, named) = ap (λ v. command_of_words v lin
 read_as (Cat node unit) words line (same, named) = ap (λ v. command_of_words v line) same ∙ cond-true _ _ _ named
 read_as (Show node unit) words line (same, named) = ap (λ v. command_of_words v line) same ∙ cond-true _ _ _ named
 read_as (ListUnits node unit) words line (same, named) = ap (λ v. command_of_words v line) same ∙ cond-true _ _ _ named
+read_as (Plan node unit running) words line (same, named) = ap (λ v. command_of_words v line) same ∙ cond-true _ _ _ named
 read_as (Workers count) words line (number, same, is) = ap (λ v. command_of_words v line) same ∙ ap workers_with is
 read_as (Same left right) words line (same, is, and) = ap (λ v. command_of_words v line) same ∙ cond-true _ _ _ (and_from _ _ is and)
 read_as (Crowd node seats edits) words line (first, second, same, is, and, named, few) =
@@ -299,6 +308,11 @@ module _ (r : Refusal) (line : List ℕ) where
   list_refused (node ∷ unit ∷ []) e = refused_where (is_name node) (ListUnits node unit) r e
   list_refused (node ∷ unit ∷ word ∷ words) e = same_refusal r Arguments e
 
+  plan_refused : (words : List (List ℕ)) → plan_command words ≡ Err r → r ≡ Arguments
+  plan_refused [] e = same_refusal r Arguments e
+  plan_refused (node ∷ []) e = same_refusal r Arguments e
+  plan_refused (node ∷ unit ∷ running) e = refused_where (is_name node) (Plan node unit running) r e
+
   workers_refused : (words : List (List ℕ)) → workers_command words ≡ Err r → r ≡ Arguments
   workers_refused [] e = same_refusal r Arguments e
   workers_refused (number ∷ []) e = by (number_of number) e
@@ -361,10 +375,11 @@ module _ (r : Refusal) (line : List ℕ) where
       refused_at verb (codes "cat") (drop 10 verbs) (cat_command words) _ e8 (cat_refused words) (λ e9.
       refused_at verb (codes "show") (drop 11 verbs) (show_command words) _ e9 (show_refused words) (λ e10.
       refused_at verb (codes "list") (drop 12 verbs) (list_command words) _ e10 (list_refused words) (λ e11.
-      refused_at verb (codes "workers") (drop 13 verbs) (workers_command words) _ e11 (workers_refused words) (λ e12.
-      refused_at verb (codes "same") (drop 14 verbs) (same_command words) _ e12 (same_refused words) (λ e13.
-      refused_at verb (codes "crowd") (drop 15 verbs) (crowd_command words) _ e13 (crowd_refused words) (λ e14.
-      inr (λ none. none, same_refusal r UnknownCommand e14))))))))))))))))
+      refused_at verb (codes "plan") (drop 13 verbs) (plan_command words) _ e11 (plan_refused words) (λ e12.
+      refused_at verb (codes "workers") (drop 14 verbs) (workers_command words) _ e12 (workers_refused words) (λ e13.
+      refused_at verb (codes "same") (drop 15 verbs) (same_command words) _ e13 (same_refused words) (λ e14.
+      refused_at verb (codes "crowd") (drop 16 verbs) (crowd_command words) _ e14 (crowd_refused words) (λ e15.
+      inr (λ none. none, same_refusal r UnknownCommand e15)))))))))))))))))
 
 pub others_are_refused : OthersAreRefused
 others_are_refused line refusal e = why_refused refusal line (words_of line) e

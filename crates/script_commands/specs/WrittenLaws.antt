@@ -14,7 +14,7 @@ use Rattle.script_words.specs.Numbers.{number_of}
 use Rattle.script_words.specs.NumbersLaws.{number_of-decimal}
 use Rattle.script_words.specs.Words.{IsWord, spaced, text_after, words_of}
 use Rattle.script_words.specs.WordsLaws.{text_after-last, text_after-spaced, words_of-nil, words_of-spaced, words_of-word, words_of-word_space}
-use Rattle.script_commands.specs.declared.commands.Command.TheVariants.{Node, Put, Link, Remove, Merge, Part, Send, Sweep, Files, Cat, Show, List as ListUnits, Workers, Same, Crowd}
+use Rattle.script_commands.specs.declared.commands.Command.TheVariants.{Node, Put, Link, Remove, Merge, Part, Send, Sweep, Files, Cat, Show, List as ListUnits, Plan, Workers, Same, Crowd}
 use Rattle.script_commands.specs.declared.commands.Command.{Command}
 use Rattle.script_commands.specs.declared.commands.Refusal.{Refusal}
 use Rattle.script_commands.specs.declared.commands.Refusal.TheVariants.{Arguments, UnknownCommand}
@@ -85,6 +85,11 @@ abbrev pub ListIsReadBack : Type 0
 ListIsReadBack = (node unit : List ℕ) → IsName node → IsWord unit
     → command_of (line_of (codes "list" ∷ node ∷ unit ∷ [])) ≡ Ok (ListUnits node unit)
 
+-- any number of running units, also none
+abbrev pub PlanIsReadBack : Type 0
+PlanIsReadBack = (node unit : List ℕ) (running : List (List ℕ)) → IsName node → IsWord unit → All IsWord running
+    → command_of (line_of (codes "plan" ∷ node ∷ unit ∷ running)) ≡ Ok (Plan node unit running)
+
 -- a number of 32 bits, in decimal
 abbrev pub WorkersIsReadBack : Type 0
 WorkersIsReadBack = (count : ℕ) → count < 2 ^ 32
@@ -116,6 +121,7 @@ AreWordsOf (Files node) words line = (words ≡ codes "files" ∷ node ∷ []) �
 AreWordsOf (Cat node unit) words line = (words ≡ codes "cat" ∷ node ∷ unit ∷ []) × IsName node
 AreWordsOf (Show node unit) words line = (words ≡ codes "show" ∷ node ∷ unit ∷ []) × IsName node
 AreWordsOf (ListUnits node unit) words line = (words ≡ codes "list" ∷ node ∷ unit ∷ []) × IsName node
+AreWordsOf (Plan node unit running) words line = (words ≡ codes "plan" ∷ node ∷ unit ∷ running) × IsName node
 AreWordsOf (Workers count) words line = (number : List ℕ) × (words ≡ codes "workers" ∷ number ∷ []) × (number_of number ≡ Some count)
 AreWordsOf (Same left right) words line = (words ≡ codes "same" ∷ left ∷ right ∷ []) × IsName left × IsName right
 AreWordsOf (Crowd node seats edits) words line =
@@ -127,7 +133,7 @@ JustItsWordsAreRead = (line : List ℕ) (command : Command) → (command_of line
 
 -- the words that name commands
 abbrev pub verbs : List (List ℕ)
-verbs = codes "node" ∷ codes "put" ∷ codes "link" ∷ codes "remove" ∷ codes "merge" ∷ codes "part" ∷ codes "send" ∷ codes "sweep" ∷ codes "files" ∷ codes "cat" ∷ codes "show" ∷ codes "list" ∷ codes "workers" ∷ codes "same" ∷ codes "crowd" ∷ []
+verbs = codes "node" ∷ codes "put" ∷ codes "link" ∷ codes "remove" ∷ codes "merge" ∷ codes "part" ∷ codes "send" ∷ codes "sweep" ∷ codes "files" ∷ codes "cat" ∷ codes "show" ∷ codes "list" ∷ codes "plan" ∷ codes "workers" ∷ codes "same" ∷ codes "crowd" ∷ []
 
 -- the word is one of these
 abbrev pub IsOneOf : List ℕ → List (List ℕ) → Type 0
@@ -262,6 +268,10 @@ show_is_read_back node unit is word = read_words (codes "show" ∷ node ∷ unit
 
 pub list_is_read_back : ListIsReadBack
 list_is_read_back node unit is word = read_words (codes "list" ∷ node ∷ unit ∷ []) (is_verb (codes "list") refl, (name_is_word node is, (word, tt))) ∙ cond-true _ _ _ is
+
+pub plan_is_read_back : PlanIsReadBack
+plan_is_read_back node unit running is word all =
+    read_words (codes "plan" ∷ node ∷ unit ∷ running) (is_verb (codes "plan") refl, (name_is_word node is, (word, recursion_from_All IsWord running all))) ∙ cond-true _ _ _ is
 
 pub workers_is_read_back : WorkersIsReadBack
 workers_is_read_back count small =

@@ -6,6 +6,7 @@ use edit_sums::ContentFault;
 use load_path::PathFault;
 use replica_store::EditFault;
 use script_words::cut_word;
+use section_reader::Items;
 use std::alloc::{AllocError, AllocFailed};
 use std::marker::Model;
 use unit_name::{NameFault, UnitName};
@@ -138,6 +139,12 @@ pub enum Command<'a> {
         node: Word<'a>,
         unit: Word<'a>,
     },
+    /// What starts and what stops where a unit is to start while others run, as a node's units come to it.
+    Plan {
+        node: Word<'a>,
+        unit: Word<'a>,
+        running: Words<'a>,
+    },
     /// So many workers load from now on.
     Workers {
         count: u32,
@@ -190,6 +197,14 @@ pub enum Refusal {
     Workers,
     /// More names must be loaded than a load may have.
     TooManyUnits,
+    /// The unit that is to start refuses that a person starts it.
+    ManualStart,
+    /// A unit that must start, and its requisite that doesn't run.
+    Requisite(UnitName, UnitName),
+    /// Two units that must both start, and that conflict.
+    Conflict(UnitName, UnitName),
+    /// Units that are to start and wait for each other, each before the next.
+    Cycle(Items<UnitName>),
     /// The seats of a crowd aren't 1 to 64.
     Seats,
 }

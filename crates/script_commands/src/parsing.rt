@@ -1,7 +1,7 @@
 //! From a line to a command.
 ghost use Rattle.std.specs.Prelude.{◌≡◌, [], ◌∷◌, MatchOption};
 ghost use Rattle.script_words.specs.Words.{words_of, text_after};
-ghost use Rattle.script_commands.specs.Commands.{command_of, node_command, put_command, link_command, remove_command, merge_command, part_command, send_command, sweep_command, files_command, cat_command, list_command, crowd_command, show_command, workers_command, same_command, question_of, AreNotOne, AreNotTwo, AreNotThree};
+ghost use Rattle.script_commands.specs.Commands.{command_of, node_command, put_command, link_command, remove_command, merge_command, part_command, send_command, sweep_command, files_command, cat_command, list_command, plan_command, crowd_command, show_command, workers_command, same_command, question_of, AreNotOne, AreNotTwo, AreNotThree};
 
 use crate::commands::{Command, Refusal, Word, Words};
 use crate::edit_counts::EditCount;
@@ -47,6 +47,8 @@ fn question<'a>(verb: &[u8], rest: &'a [u8]) -> Result<Command<'a>, Refusal>
         show(rest)
     } else if verb == b"list".as_slice() {
         list(rest)
+    } else if verb == b"plan".as_slice() {
+        plan(rest)
     } else if verb == b"workers".as_slice() {
         workers(rest)
     } else if verb == b"same".as_slice() {
@@ -282,6 +284,26 @@ fn list(rest: &[u8]) -> Result<Command<'_>, Refusal>
         Ok(Command::List {
             node: Word::new(node),
             unit: Word::new(unit),
+        })
+    } else {
+        Err(Refusal::Arguments)
+    }
+}
+
+fn plan(rest: &[u8]) -> Result<Command<'_>, Refusal>
+    ensures command { result ≡ plan_command (words_of rest.now) }
+{
+    let Some((node, rest)) = cut_word(rest) else {
+        return Err(Refusal::Arguments);
+    };
+    let Some((unit, rest)) = cut_word(rest) else {
+        return Err(Refusal::Arguments);
+    };
+    if is_name(node) {
+        Ok(Command::Plan {
+            node: Word::new(node),
+            unit: Word::new(unit),
+            running: Words::new(rest),
         })
     } else {
         Err(Refusal::Arguments)

@@ -5,7 +5,7 @@ ghost use Rattle.start_plan.specs.Requests.{AsksTemplate, HasTemplate};
 use crate::requests::Request;
 use unit_name::UnitName;
 
-// Whether the target or a running name is a template.
+/// Whether the target or a running name is a template, for which there is no plan. Linear in the names, without memory.
 pub fn asks_template(request: &Request) -> bool
     ensures template { IsTrue result ↔ AsksTemplate request.now }
 {

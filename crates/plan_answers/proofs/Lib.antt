@@ -1,0 +1,3 @@
+pub mod Asked
+pub mod Reading
+pub mod Told
