@@ -45,7 +45,10 @@ fn work<R: AllocGlobal + Threads + Wait + Sync>(
 }
 
 // Says of each dialogue whether it is answered as it tells.
-fn work_all<R: AllocGlobal + Threads + Wait + Sync>(rt: &R, text: &[u8]) -> Result<Vec<u8>, AllocError> {
+fn work_all<R: AllocGlobal + Threads + Wait + Sync>(
+    rt: &R,
+    text: &[u8],
+) -> Result<Vec<u8>, AllocError> {
     let mut out = Vec::new(rt.alloc());
     let mut dialogue = Dialogue::new(rt.alloc());
     let mut rest = text;
