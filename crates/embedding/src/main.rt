@@ -6,6 +6,7 @@ use replica_store::{Content, ContentFault, EditFault, Path, PathFault, Replica};
 use script_pipes::Watched;
 use std::alloc::{AllocError, Global};
 use std::io;
+use std::sync::Wait;
 use std::thread::Threads;
 use thiserror::Error;
 
@@ -28,7 +29,7 @@ enum Fault {
 
 // What a script is answered by.
 fn answers_to(
-    rt: &(impl AllocGlobal + Threads + Sync),
+    rt: &(impl AllocGlobal + Threads + Wait + Sync),
     script: &[u8],
 ) -> Result<Vec<u8>, ShellFault> {
     let mut source = Watched::new(script);

@@ -5,3 +5,4 @@ pub mod Nodes
 pub mod Runs
 pub mod StepKinds
 pub mod WholeScripts
+pub mod Rooms

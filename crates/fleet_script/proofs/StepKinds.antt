@@ -16,7 +16,7 @@ use Rattle.world_law.specs.declared.events.Event.TheVariants as event
 use Rattle.world_law.specs.Cuts.{cut, digest_of}
 use Rattle.script_words.specs.TextLaws.{spells_one}
 use Rattle.script_commands.specs.declared.commands.Command.{Command}
-use Rattle.script_commands.specs.declared.commands.Command.TheVariants.{Node, Put, Link, Remove, Merge, Part, Send, Sweep, Files, Cat, Show, List as ListUnits, Plan, Workers, Same}
+use Rattle.script_commands.specs.declared.commands.Command.TheVariants.{Node, Put, Link, Remove, Merge, Part, Send, Sweep, Files, Cat, Show, List as ListUnits, Plan, Workers, Same, Crowd}
 use Rattle.script_commands.specs.declared.commands.Refusal.{Refusal}
 use Rattle.script_commands.specs.declared.commands.Refusal.TheVariants.{BadLink, BadText, Component, Depth, Directory, FileTooLarge, NodeTaken, Nothing, UnknownNode, UnknownPiece, VersionsSpent, Workers as NoCrew, WriterTaken}
 use Rattle.script_commands.specs.Outcomes.{Outcome, is_spent}
@@ -37,6 +37,8 @@ use Rattle.load_answers.specs.Shows.{TellsUnit}
 use Rattle.load_answers.specs.ShowLaws.{units_are_told_once, units_spend_nothing}
 use Rattle.plan_answers.specs.Plans.{TellsPlan}
 use Rattle.plan_answers.specs.PlanLaws.{plans_are_told_once, plans_spend_nothing}
+use Rattle.crowd_answers.specs.Tells.{TellsCrowd}
+use Rattle.crowd_answers.specs.TellsLaws.{crowds_are_told_once, crowds_spend_nothing}
 use Rattle.fleet_script.specs.Does.{AtNode, AtPath, AtPaths, AtPiece, Does, Gives, IsRead, Reads, Refuses, RefusesPath, TellsPaths, WithFile, WithTarget, WithText, Writes, if_any}
 use Rattle.fleet_script.proofs.Between.{merged_all-append, merged_nodes}
 
@@ -290,3 +292,4 @@ module _ (old : ScriptWorld) where
       let C : ℕ → ℕ → Outcome → ScriptWorld → Type 0 = λ j k outcome new. ((held old j ≡ held old k) × Gives (codes "same\n") old outcome new) ⊎ ((held old j ≡ held old k → ⊥) × Gives (codes "differ\n") old outcome new) in
       at_node left (λ j outcome new. AtNode old outcome new right (λ k. C j k outcome new))
       (λ j lt_left. at_node right (C j) (λ k lt_right. compares (held old j ≡ held old k) (codes "same\n") (codes "differ\n")))
+  does (Crowd node seats edits) = reads node (TellsCrowd seats edits) (crowds_are_told_once seats edits) (crowds_spend_nothing seats edits)

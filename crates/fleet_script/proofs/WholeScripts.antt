@@ -123,7 +123,7 @@ fewer_lines (part ∷ []) = by (length part == 0)
 fewer_lines (part ∷ next ∷ parts) = let later = fewer_lines (next ∷ parts) in omega arith
 
 -- a script has no more lines than bytes, but for one
-lines_are_few : (script : List ℕ) → length (lines_of script) ≤ length script + 1
+pub lines_are_few : (script : List ℕ) → length (lines_of script) ≤ length script + 1
 unfolding lines_of
 lines_are_few script =
     let fewer = fewer_lines (slice_split (λ b. b == 10) script) in

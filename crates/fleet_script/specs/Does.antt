@@ -24,6 +24,7 @@ use Rattle.load_answers.specs.Lists.{TellsList}
 use Rattle.load_answers.specs.Loads.{IsCrew}
 use Rattle.load_answers.specs.Shows.{TellsUnit}
 use Rattle.plan_answers.specs.Plans.{TellsPlan}
+use Rattle.crowd_answers.specs.Tells.{TellsCrowd}
 use Rattle.script_worlds.specs.Worlds.{ScriptWorld, held, happened, with_node, node_named, has_writer, next_edit, parted, piece_named, merged, swept}
 
 -- the answer is these words, and the new world is that one
@@ -171,3 +172,4 @@ Does old (command.List node unit) outcome new = Reads old outcome new node (Tell
 Does old (command.Plan node unit running) outcome new = Reads old outcome new node (TellsPlan unit running)
 Does old (command.Workers count) outcome new = Crews old outcome new count
 Does old (command.Same left right) outcome new = Compares old outcome new left right
+Does old (command.Crowd node seats edits) outcome new = Reads old outcome new node (TellsCrowd seats edits)

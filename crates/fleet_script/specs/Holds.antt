@@ -1,12 +1,12 @@
 -- What the shell keeps of a world: of each node its replica of now, by name the numbers of nodes and the pieces of now, and which writer numbers are taken.
 -- Source: this project's own.
-use Rattle.std.specs.Prelude.{◌≡◌, ◌⊎◌, ℕ, ◌<◌, Bool, false, Vec, List, [], length, slice_get, slice_index_or, slice_set, Option, Some, None, Result}
+use Rattle.std.specs.Prelude.{◌≡◌, ◌⊎◌, ℕ, ◌<◌, ◌≤◌, Bool, false, Vec, List, [], length, slice_get, slice_index_or, slice_set, Option, Some, None, Result}
 use Rattle.std.specs.Cmp.Lexicographic.{slice_cmp}
 use Rattle.std.specs.Ordering.{nat_cmp}
 use Rattle.std.specs.declared.alloc.Global.{Global}
 use Rattle.std.specs.BTreeMap as maps
 use Rattle.std.specs.BTreeSet as sets
-use Rattle.edit_sums.specs.Sums.{EntryMap, join}
+use Rattle.edit_sums.specs.Sums.{EntryMap, high_of, join}
 use Rattle.replica_store.specs.Replicas.{Replicated}
 use Rattle.world_law.specs.Worlds as worlds
 use Rattle.script_commands.specs.declared.commands.Command.{Command}
@@ -62,6 +62,10 @@ pub record Holds (shell : Keeps) (world : ScriptWorld) : Type 0 where
   pub taken : (writer : ℕ) → shell.is_taken writer ≡ has_writer world.nodes writer
   pub pieces : (name : List ℕ) → IsNamed world (shell.piece_of name) (piece_named world.pieces name)
   pub lawful : IsLawful world
+
+-- each node has room for a crowd above the counters that it holds
+abbrev pub HasRoom : Keeps → Type 0
+HasRoom shell = (k : ℕ) (node : Replicated) → slice_get shell.nodes k ≡ Some node → high_of node.store ≤ 18446744073709487615
 
 -- Whatever world the old shell holds, the new one holds one to which it may go.
 abbrev pub Continues : Keeps → Keeps → (ScriptWorld → ScriptWorld → Type 0) → Type 0

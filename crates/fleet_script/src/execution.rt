@@ -1,23 +1,27 @@
 //! Commands are done here.
 ghost use Rattle.std.specs.Prelude.{◌≡◌, ◌<◌, Some, length, vec_len, IfOk, MatchResult};
-ghost use Rattle.script_commands.specs.declared.commands.Command.TheVariants.{Node, Put, Link, Remove, Files, Cat, Show, List, Plan, Workers, Same};
+ghost use Rattle.script_commands.specs.declared.commands.Command.TheVariants.{Node, Put, Link, Remove, Files, Cat, Show, List, Plan, Workers, Same, Crowd};
 ghost use Rattle.script_commands.specs.Commands.{command_of};
 ghost use Rattle.fleet_script.specs.Does.{Does, Refuses, Writes};
-ghost use Rattle.fleet_script.specs.Holds.{Continues, Executes, Goes, HasNoNode, IsBlank, kept_in};
+ghost use Rattle.fleet_script.specs.Holds.{Continues, Executes, Goes, HasNoNode, HasRoom, IsBlank, kept_in};
 ghost use Rattle.fleet_script.specs.Scripts.{AnswersLine};
 
 use crate::states::Shell;
 use byte_strings::Bytes;
+use crowd_answers::tell_crowd;
 use edit_sums::Content;
 use load_answers::{Crew, tell_list, tell_unit};
 use load_path::Path;
 use plan_answers::tell_plan;
 use replica_store::Replica;
 use script_answers::{list_files, put_done, refused};
-use script_commands::{Command, Fault, Refusal, Words, parse, read_file, read_link, read_path};
+use script_commands::{
+    Command, EditCount, Fault, Refusal, Words, parse, read_file, read_link, read_path,
+};
 use script_words::is_passed_over;
 use std::alloc::{AllocError, Global};
 use std::collections::{BTreeMap, BTreeSet};
+use std::sync::Wait;
 use std::thread::Threads;
 use unit_answers::tell_files;
 
@@ -198,6 +202,22 @@ impl Shell {
         }
     }
 
+    // Tells what a crowd comes to on a copy of what a node holds.
+    fn crowd<R: Threads + Wait + Sync>(
+        &mut self,
+        rt: &R,
+        alloc: Global,
+        node: &[u8],
+        seats: u32,
+        edits: EditCount,
+    ) -> Result<Vec<u8>, Fault>
+        requires room { HasRoom (kept_in self.old) }
+        ensures done { Executes self.old self.new (Crowd node.now seats edits) result }
+    {
+        let at = self.node_at(alloc, node)?;
+        tell_crowd(rt, alloc, &self.nodes[at], seats, edits)
+    }
+
     // A node puts its next edit.
     fn write(
         &mut self,
@@ -220,11 +240,12 @@ impl Shell {
 
 impl Shell {
     // Does what a line asks for.
-    fn execute<R: AllocGlobal + Threads + Sync>(
+    fn execute<R: AllocGlobal + Threads + Wait + Sync>(
         &mut self,
         rt: &R,
         line: &[u8],
     ) -> Result<Vec<u8>, Fault>
+        requires room { HasRoom (kept_in self.old) }
         ensures done { Goes (kept_in self.old) (kept_in self.new) (λ before outcome after.
             MatchResult (command_of line.now) (λ command. Does before command outcome after)
             (λ refusal. Refuses before refusal outcome after)) result }
@@ -271,15 +292,19 @@ impl Shell {
             } => self.plan(rt, alloc, node.as_slice(), unit.as_slice(), running),
             Command::Workers { count } => self.workers(alloc, count),
             Command::Same { left, right } => self.same(alloc, left.as_slice(), right.as_slice()),
+            Command::Crowd { node, seats, edits } => {
+                self.crowd(rt, alloc, node.as_slice(), seats, edits)
+            }
         }
     }
 
     /// The answer to a line.
-    pub fn answer_line<R: AllocGlobal + Threads + Sync>(
+    pub fn answer_line<R: AllocGlobal + Threads + Wait + Sync>(
         &mut self,
         rt: &R,
         line: &[u8],
     ) -> Result<Vec<u8>, AllocError>
+        requires room { HasRoom (kept_in self.old) }
         ensures answered { IfOk result (λ answer. Continues (kept_in self.old) (kept_in self.new)
             (λ old new. AnswersLine old line.now answer.items new)) }
     {

@@ -1,5 +1,5 @@
 //! A script is read, and its answers are written.
-ghost use Rattle.std.specs.Prelude.{◌≡◌, ℕ, List, Err, OnOk, OnErr, IsErrOf};
+ghost use Rattle.std.specs.Prelude.{◌≡◌, ◌≤◌, ℕ, List, length, Err, OnOk, OnErr, IsErrOf};
 ghost use Rattle.std.specs.Io.KnownBytes.{Appends};
 ghost use Rattle.script_pipes.specs.Failures.{FailedSince};
 ghost use Rattle.script_pipes.specs.KnownBytes.{AppendsFront};
@@ -9,6 +9,7 @@ ghost use Rattle.fleet_script.specs.Scripts.{Answers, AnswersFront};
 use crate::states::Shell;
 use script_pipes::{MAX_SCRIPT_BYTES, ReadFault, Sink, Source, WriteFault, read_all, write_all};
 use script_words::cut_line;
+use std::sync::Wait;
 use std::thread::Threads;
 use thiserror::Error;
 
@@ -51,11 +52,12 @@ fn give_up<K: Sink>(writer: &mut K, pending: &[u8]) -> Result<(), ShellFault>
 }
 
 // Writes the answers to a script, gathered in large pieces.
-fn answer_all<R: AllocGlobal + Threads + Sync, K: Sink>(
+fn answer_all<R: AllocGlobal + Threads + Wait + Sync, K: Sink>(
     rt: &R,
     script: &[u8],
     writer: &mut K,
 ) -> Result<(), ShellFault>
+    requires short { length script.now ≤ MAX_SCRIPT_BYTES }
     ensures ok { OnOk result ((written : List ℕ) × Answers script.now written
         × Appends (K.contents writer.old) (K.contents writer.new) written) }
     ensures front { OnErr result ((written : List ℕ) × AnswersFront script.now written
@@ -90,8 +92,8 @@ fn answer_all<R: AllocGlobal + Threads + Sync, K: Sink>(
 /// A script has at most 16,777,216 bytes and takes at most 20,000,000 reads. Any reader or writer
 /// of std is a source or a sink in a `Watched` that was made for this run. A buffer of the
 /// writer's own is flushed by its owner. Linear in the bytes of the script beside its commands.
-/// It may wait for threads, where a command loads by several workers.
-pub fn run<R: AllocGlobal + Threads + Sync, S: Source, K: Sink>(
+/// It may wait for threads, where a command loads by several workers, and as a node does, where a crowd works at one.
+pub fn run<R: AllocGlobal + Threads + Wait + Sync, S: Source, K: Sink>(
     rt: &R,
     reader: &mut S,
     writer: &mut K,

@@ -14,6 +14,7 @@ pub use fleet_script::run;
 use script_pipes::{MAX_SCRIPT_BYTES, Sink, Source, Watched};
 use std::io;
 use std::process::ExitCode;
+use std::sync::Wait;
 use std::thread::Threads;
 
 #[cfg(test)]
@@ -37,7 +38,7 @@ fn finish(rt: &impl Eprint, outcome: Result<(), ShellFault>) -> u8
 
 /// The whole program: reads a script, writes its answers, says on standard error what went wrong, if anything did,
 /// and gives the exit status.
-fn answer_script<R: AllocGlobal + Eprint + Threads + Sync, S: Source, K: Sink>(
+fn answer_script<R: AllocGlobal + Eprint + Threads + Wait + Sync, S: Source, K: Sink>(
     rt: &R,
     source: &mut S,
     sink: &mut K,

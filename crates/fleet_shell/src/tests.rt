@@ -31,7 +31,7 @@ fn end_of(alloc: Global, outcome: Result<(), ShellFault>, hears: bool) -> Result
 // How a run ends, in words: its exit status, what standard error is told, and what was written.
 //
 // The runtime that hears standard error in a test starts no threads, so the two halves of the program are called here.
-fn told<R: AllocGlobal + Threads + Sync, S: Source>(
+fn told<R: AllocGlobal + Threads + Wait + Sync, S: Source>(
     rt: &R,
     source: &mut S,
     mut writer: Watched<Narrow>,
@@ -55,7 +55,7 @@ fn narrow(alloc: Global, width: usize, writes_left: usize, takes_none: bool) -> 
 }
 
 // How a run ends whose reader gives a byte a read and fails behind so many reads.
-fn read_end<R: AllocGlobal + Threads + Sync>(
+fn read_end<R: AllocGlobal + Threads + Wait + Sync>(
     rt: &R,
     interrupts: bool,
     reads_left: usize,
@@ -70,7 +70,7 @@ fn read_end<R: AllocGlobal + Threads + Sync>(
 }
 
 // How a run ends whose writer takes a byte a write and fails, or takes none, behind so many writes.
-fn write_end<R: AllocGlobal + Threads + Sync>(
+fn write_end<R: AllocGlobal + Threads + Wait + Sync>(
     rt: &R,
     takes_none: bool,
     writes_left: usize,
@@ -89,7 +89,7 @@ fn good_end(alloc: Global) -> Result<String, Fail> {
 }
 
 // Whether each run ends in a read fault whose reader fails at one of its first reads.
-fn each_is_unread<R: AllocGlobal + Threads + Sync>(
+fn each_is_unread<R: AllocGlobal + Threads + Wait + Sync>(
     rt: &R,
     interrupts: bool,
     reads: usize,
@@ -116,7 +116,7 @@ fn each_read_fails_in_turn(rt: HostRuntime) -> Result<(), Fail> {
 }
 
 // Whether each run ends in a write fault behind the answers so far whose writer fails at one of its first writes.
-fn each_is_unwritten<R: AllocGlobal + Threads + Sync>(
+fn each_is_unwritten<R: AllocGlobal + Threads + Wait + Sync>(
     rt: &R,
     takes_none: bool,
 ) -> Result<bool, Fail> {
@@ -141,7 +141,7 @@ fn each_write_fails_in_turn(rt: HostRuntime) -> Result<(), Fail> {
 }
 
 // How many bytes are written of the answers to 10,000 lines, of 1,000 bytes a write, before a write fails.
-fn written_in_pieces<R: AllocGlobal + Threads + Sync>(
+fn written_in_pieces<R: AllocGlobal + Threads + Wait + Sync>(
     rt: &R,
     writes_left: usize,
 ) -> Result<usize, Fail> {

@@ -13,7 +13,7 @@ use Rattle.edit_sums.specs.Sums.{EntryMap}
 use Rattle.unit_name.specs.Names.{Name}
 use Rattle.script_commands.specs.declared.commands.Refusal.{Refusal}
 use Rattle.script_commands.specs.Outcomes.{Outcome}
-use Rattle.script_commands.specs.declared.commands.Refusal.TheVariants.{UnknownCommand, Arguments, UnknownNode, BadText, UnknownPiece, NodeTaken, WriterTaken, LineTooLong, Directory, Depth, Component, FileTooLarge, BadLink, VersionsSpent, Nothing, Length, Kind, EmptyPrefix, BadByte, NotFound, Masked, Bad, Template, Workers, TooManyUnits, ManualStart, Requisite, Conflict, Cycle}
+use Rattle.script_commands.specs.declared.commands.Refusal.TheVariants.{UnknownCommand, Arguments, UnknownNode, BadText, UnknownPiece, NodeTaken, WriterTaken, LineTooLong, Directory, Depth, Component, FileTooLarge, BadLink, VersionsSpent, Nothing, Length, Kind, EmptyPrefix, BadByte, NotFound, Masked, Bad, Template, Workers, TooManyUnits, ManualStart, Requisite, Conflict, Cycle, Seats}
 
 -- the counter, a dot, the writer
 abbrev pub version_text : Version → List ℕ
@@ -27,6 +27,9 @@ changed_line n = codes "changed " ++ decimal n ++ codes "\n"
 
 abbrev pub entries_line : ℕ → List ℕ
 entries_line n = codes "entries " ++ decimal n ++ codes "\n"
+
+abbrev pub crowd_line : ℕ → ℕ → List ℕ
+crowd_line takes paths = codes "takes " ++ decimal takes ++ codes " paths " ++ decimal paths ++ codes "\n"
 
 abbrev pub content_text : Content → List ℕ
 content_text Gone = codes "gone"
@@ -72,6 +75,7 @@ refusal_name ManualStart = codes "P5 ManualStart"
 refusal_name (Requisite unit needs) = codes "P6 Requisite"
 refusal_name (Conflict unit rival) = codes "P7 Conflict"
 refusal_name (Cycle units) = codes "P8 Cycle"
+refusal_name Seats = codes "A1 Seats"
 
 -- a name behind a space
 abbrev pub spaced_name : Name → List ℕ

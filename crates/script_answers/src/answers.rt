@@ -1,7 +1,7 @@
 //! How answers are written.
 ghost use Rattle.std.specs.Prelude.{◌≡◌, ◌∷◌, ◌++◌, IfOk, OnOk, codes};
 ghost use Rattle.std.specs.List.{flat_map};
-ghost use Rattle.script_answers.specs.Texts.{refusal_name, refusal_values, error_line, ok_line, changed_line, entries_line, entry_line, files_text, content_text, version_text};
+ghost use Rattle.script_answers.specs.Texts.{refusal_name, refusal_values, error_line, ok_line, changed_line, crowd_line, entries_line, entry_line, files_text, content_text, version_text};
 
 use crate::names::{append_name, append_names};
 use edit_sums::Content;
@@ -45,6 +45,7 @@ fn code_and_name(refusal: &Refusal) -> &'static [u8]
         Refusal::Requisite(_, _) => b"P6 Requisite",
         Refusal::Conflict(_, _) => b"P7 Conflict",
         Refusal::Cycle(_) => b"P8 Cycle",
+        Refusal::Seats => b"A1 Seats",
     }
 }
 
@@ -101,6 +102,13 @@ pub fn part_done(alloc: Global, entries: usize) -> Result<Vec<u8>, AllocError>
     ensures line { IfOk result (λ line. line.items ≡ entries_line entries) }
 {
     Ok(format!(in alloc; "entries {entries}\n")?.into_bytes())
+}
+
+/// The line of a crowd: its takes, and the paths that it held.
+pub fn crowd_done(alloc: Global, takes: u64, paths: u64) -> Result<Vec<u8>, AllocError>
+    ensures line { IfOk result (λ line. line.items ≡ crowd_line takes paths) }
+{
+    Ok(format!(in alloc; "takes {takes} paths {paths}\n")?.into_bytes())
 }
 
 // Appends a content's words. The scratch is room for numbers.

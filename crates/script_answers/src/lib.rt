@@ -4,5 +4,5 @@
 mod answers;
 mod names;
 
-pub use answers::{list_files, merge_done, part_done, put_done, refused};
+pub use answers::{crowd_done, list_files, merge_done, part_done, put_done, refused};
 pub use names::append_names;

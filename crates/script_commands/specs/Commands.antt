@@ -1,12 +1,12 @@
 -- What a line asks for.
 -- Source: this project's own.
-use Rattle.std.specs.Prelude.{ℕ, ◌&&◌, codes, if◌then◌else◌, List, [], ◌∷◌, Option, Some, None, Result, Ok, Err}
+use Rattle.std.specs.Prelude.{ℕ, ◌&&◌, codes, if◌then◌else◌, List, [], ◌∷◌, Option, Some, None, Result, Ok, Err, nat_le}
 use Rattle.std.specs.Str.{bytes_eq}
 use Rattle.script_words.specs.Words.{words_of, text_after}
 use Rattle.script_words.specs.Names.{is_name}
 use Rattle.script_words.specs.Numbers.{number_of}
 use Rattle.script_commands.specs.declared.commands.Command.{Command}
-use Rattle.script_commands.specs.declared.commands.Command.TheVariants.{Node, Put, Link, Remove, Merge, Part, Send, Sweep, Files, Cat, Show, List as ListUnits, Plan, Workers, Same}
+use Rattle.script_commands.specs.declared.commands.Command.TheVariants.{Node, Put, Link, Remove, Merge, Part, Send, Sweep, Files, Cat, Show, List as ListUnits, Plan, Workers, Same, Crowd}
 use Rattle.script_commands.specs.declared.commands.Refusal.{Refusal}
 use Rattle.script_commands.specs.declared.commands.Refusal.TheVariants.{UnknownCommand, Arguments}
 
@@ -93,6 +93,16 @@ abbrev pub same_command : List (List ℕ) → Result Command Refusal
 same_command (left ∷ right ∷ []) = if is_name left && is_name right then Ok (Same left right) else Err Arguments
 same_command words = Err Arguments
 
+-- a number of 32 bits, and at most 1,000 edits
+abbrev pub crowd_with : List ℕ → Option ℕ → Option ℕ → Result Command Refusal
+crowd_with node None edits = Err Arguments
+crowd_with node (Some seats) None = Err Arguments
+crowd_with node (Some seats) (Some edits) = if is_name node && nat_le edits 1000 then Ok (Crowd node seats edits) else Err Arguments
+
+abbrev pub crowd_command : List (List ℕ) → Result Command Refusal
+crowd_command (node ∷ seats ∷ edits ∷ []) = crowd_with node (number_of seats) (number_of edits)
+crowd_command words = Err Arguments
+
 -- the first word names the command, which changes no node
 abbrev pub question_of : List ℕ → List (List ℕ) → Result Command Refusal
 question_of verb words =
@@ -103,7 +113,8 @@ question_of verb words =
     else (if bytes_eq verb (codes "plan") then plan_command words
     else (if bytes_eq verb (codes "workers") then workers_command words
     else (if bytes_eq verb (codes "same") then same_command words
-    else Err UnknownCommand))))))
+    else (if bytes_eq verb (codes "crowd") then crowd_command words
+    else Err UnknownCommand)))))))
 
 -- the first word names the command
 abbrev pub command_of_words : List (List ℕ) → List ℕ → Result Command Refusal

@@ -1,27 +1,18 @@
 -- A line is read as a command just where it has that command's words, and one that is no command is refused for what is wrong with it.
-use Rattle.std.proofs.Common.{◌≡◌, ◌≢◌, ◌⊎◌, inl, inr, ◌<◌, ◌≤◌, ◌^◌, ℕ, Bool, true, false, ◌&&◌, List, [], ◌∷◌, ◌++◌, length, Option, Some, None, Result, Ok, Err, cond, codes, drop, refl, sym, ap, subst, ◌∙◌, append_assoc, arith, rules}
-use Rattle.std.specs.Prelude.{◌↔◌, nat_lt}
-use Rattle.std.specs.Char.{is_ascii_alphanumeric, is_ascii_digit}
-use Rattle.std.specs.Fmt.{decimal}
+use Rattle.std.proofs.Common.{◌≡◌, ◌⊎◌, inl, inr, ℕ, Bool, true, false, ◌&&◌, List, [], ◌∷◌, Option, Some, None, Result, Ok, Err, cond, codes, drop, refl, sym, ap, subst, ◌∙◌}
+use Rattle.std.specs.Prelude.{nat_le}
 use Rattle.std.specs.Str.{bytes_eq}
 use Rattle.std.proofs.lemmas.Slice.Eq.{bytes_eq-Decides}
-use Rattle.std.specs.List.{All, AllByRecursion, join_with_byte, list_all}
-use Rattle.std.proofs.lemmas.Bool.{cond-true, and_from, and_parts, true≢false}
-use Rattle.std.proofs.lemmas.Bool.Decides.{nat_tests}
-use Rattle.std.proofs.lemmas.Fmt.{decimal_nonempty, digits_decimal, length-decimal-le}
-use Rattle.std.proofs.lemmas.List.Elements.{All-from_recursion, recursion_from_All}
-use Rattle.std.proofs.lemmas.Str.Parse.{IsDigitsTest, numerals_by_value}
+use Rattle.std.proofs.lemmas.Bool.{cond-true, and_from, and_parts, true≢false, le-leb, leb-true}
 use Rattle.script_words.specs.Names.{is_name}
 use Rattle.script_words.specs.Numbers.{number_of}
-use Rattle.script_words.specs.NumbersLaws.{number_of-decimal}
-use Rattle.script_words.specs.Words.{IsWord, spaced, text_after, words_of}
-use Rattle.script_words.specs.WordsLaws.{text_after-last, text_after-spaced, words_of-nil, words_of-spaced, words_of-word, words_of-word_space}
-use Rattle.script_commands.specs.declared.commands.Command.TheVariants.{Node, Put, Link, Remove, Merge, Part, Send, Sweep, Files, Cat, Show, List as ListUnits, Plan, Workers, Same}
+use Rattle.script_words.specs.Words.{text_after, words_of}
+use Rattle.script_commands.specs.declared.commands.Command.TheVariants.{Node, Put, Link, Remove, Merge, Part, Send, Sweep, Files, Cat, Show, List as ListUnits, Plan, Workers, Same, Crowd}
 use Rattle.script_commands.specs.declared.commands.Command.{Command}
 use Rattle.script_commands.specs.declared.commands.Refusal.{Refusal}
 use Rattle.script_commands.specs.declared.commands.Refusal.TheVariants.{Arguments, UnknownCommand}
-use Rattle.script_commands.specs.Commands.{cat_command, command_of, command_of_words, files_command, link_command, list_command, merge_command, node_command, node_with, part_command, plan_command, put_command, remove_command, same_command, send_command, show_command, sweep_command, workers_command, workers_with}
-use Rattle.script_commands.specs.WrittenLaws.{AreWordsOf, BeginsWithVerb, IsName, IsOneOf, JustItsWordsAreRead, OthersAreRefused, verbs}
+use Rattle.script_commands.specs.Commands.{cat_command, command_of_words, crowd_command, crowd_with, files_command, link_command, list_command, merge_command, node_command, node_with, part_command, plan_command, put_command, remove_command, same_command, send_command, show_command, sweep_command, workers_command, workers_with}
+use Rattle.script_commands.specs.WrittenLaws.{AreWordsOf, BeginsWithVerb, IsOneOf, JustItsWordsAreRead, OthersAreRefused, verbs}
 
 -- ---- no other words
 
@@ -161,6 +152,21 @@ module _ (c : Command) (line : List ℕ) where
       subst (λ (d : Command). AreWordsOf d (codes "same" ∷ left ∷ right ∷ []) line) read.1 (refl, are.0, are.1)
   same_read (left ∷ right ∷ word ∷ words) e = absurd (never Arguments c e)
 
+  crowd_read : (words : List (List ℕ)) → crowd_command words ≡ Ok c → AreWordsOf c (codes "crowd" ∷ words) line
+  crowd_read [] e = absurd (never Arguments c e)
+  crowd_read (node ∷ []) e = absurd (never Arguments c e)
+  crowd_read (node ∷ seats ∷ []) e = absurd (never Arguments c e)
+  crowd_read (node ∷ first ∷ second ∷ []) e = by (number_of first) (number_of second) refl refl e
+    where
+      by : (a b : Option ℕ) → number_of first ≡ a → number_of second ≡ b → crowd_with node a b ≡ Ok c → AreWordsOf c (codes "crowd" ∷ node ∷ first ∷ second ∷ []) line
+      by None b is and e = absurd (never Arguments c e)
+      by (Some seats) None is and e = absurd (never Arguments c e)
+      by (Some seats) (Some edits) is and e =
+          let read = read_where (is_name node && nat_le edits 1000) (Crowd node seats edits) c e in
+          let are = and_parts (is_name node) (nat_le edits 1000) read.0 in
+          subst (λ (d : Command). AreWordsOf d (codes "crowd" ∷ node ∷ first ∷ second ∷ []) line) read.1 (first, second, refl, is, and, are.0, leb-true edits 1000 are.1)
+  crowd_read (node ∷ first ∷ second ∷ word ∷ words) e = absurd (never Arguments c e)
+
   -- the first word is the verb that is tested, or the next test decides
   verb_or : (verb name : List ℕ) (words : List (List ℕ)) (here later : Result Command Refusal) → ◌≡◌ {A = Result Command Refusal} (cond (bytes_eq verb name) here later) (Ok c)
       → (here ≡ Ok c → AreWordsOf c (name ∷ words) line) → (later ≡ Ok c → AreWordsOf c (verb ∷ words) line) → AreWordsOf c (verb ∷ words) line
@@ -188,7 +194,8 @@ module _ (c : Command) (line : List ℕ) where
       verb_or verb (codes "plan") words (plan_command words) _ e11 (plan_read words) (λ e12.
       verb_or verb (codes "workers") words (workers_command words) _ e12 (workers_read words) (λ e13.
       verb_or verb (codes "same") words (same_command words) _ e13 (same_read words) (λ e14.
-      absurd (never UnknownCommand c e14))))))))))))))))
+      verb_or verb (codes "crowd") words (crowd_command words) _ e14 (crowd_read words) (λ e15.
+      absurd (never UnknownCommand c e15)))))))))))))))))
 
 -- and these are read
 read_as : (c : Command) (words : List (List ℕ)) (line : List ℕ) → AreWordsOf c words line → command_of_words words line ≡ Ok c
@@ -209,6 +216,8 @@ read_as (ListUnits node unit) words line (same, named) = ap (λ v. command_of_wo
 read_as (Plan node unit running) words line (same, named) = ap (λ v. command_of_words v line) same ∙ cond-true _ _ _ named
 read_as (Workers count) words line (number, same, is) = ap (λ v. command_of_words v line) same ∙ ap workers_with is
 read_as (Same left right) words line (same, is, and) = ap (λ v. command_of_words v line) same ∙ cond-true _ _ _ (and_from _ _ is and)
+read_as (Crowd node seats edits) words line (first, second, same, is, and, named, few) =
+    ap (λ v. command_of_words v line) same ∙ ap (λ v. crowd_with node v (number_of second)) is ∙ ap (crowd_with node (Some seats)) and ∙ cond-true _ _ _ (and_from _ _ named (le-leb edits 1000 few))
 
 pub just_its_words_are_read : JustItsWordsAreRead
 just_its_words_are_read line command = (λ e. read_words_of command line (words_of line) e, λ are. read_as command (words_of line) line are)
@@ -319,6 +328,18 @@ module _ (r : Refusal) (line : List ℕ) where
   same_refused (left ∷ right ∷ []) e = refused_where (is_name left && is_name right) (Same left right) r e
   same_refused (left ∷ right ∷ word ∷ words) e = same_refusal r Arguments e
 
+  crowd_refused : (words : List (List ℕ)) → crowd_command words ≡ Err r → r ≡ Arguments
+  crowd_refused [] e = same_refusal r Arguments e
+  crowd_refused (node ∷ []) e = same_refusal r Arguments e
+  crowd_refused (node ∷ seats ∷ []) e = same_refusal r Arguments e
+  crowd_refused (node ∷ first ∷ second ∷ []) e = by (number_of first) (number_of second) e
+    where
+      by : (a b : Option ℕ) → crowd_with node a b ≡ Err r → r ≡ Arguments
+      by None b e = same_refusal r Arguments e
+      by (Some seats) None e = same_refusal r Arguments e
+      by (Some seats) (Some edits) e = refused_where (is_name node && nat_le edits 1000) (Crowd node seats edits) r e
+  crowd_refused (node ∷ first ∷ second ∷ word ∷ words) e = same_refusal r Arguments e
+
   abbrev IsWhy : List ℕ → List (List ℕ) → Type 0
   IsWhy verb names = (IsOneOf verb names × (r ≡ Arguments)) ⊎ ((IsOneOf verb names → ⊥) × (r ≡ UnknownCommand))
 
@@ -357,7 +378,8 @@ module _ (r : Refusal) (line : List ℕ) where
       refused_at verb (codes "plan") (drop 13 verbs) (plan_command words) _ e11 (plan_refused words) (λ e12.
       refused_at verb (codes "workers") (drop 14 verbs) (workers_command words) _ e12 (workers_refused words) (λ e13.
       refused_at verb (codes "same") (drop 15 verbs) (same_command words) _ e13 (same_refused words) (λ e14.
-      inr (λ none. none, same_refusal r UnknownCommand e14))))))))))))))))
+      refused_at verb (codes "crowd") (drop 16 verbs) (crowd_command words) _ e14 (crowd_refused words) (λ e15.
+      inr (λ none. none, same_refusal r UnknownCommand e15)))))))))))))))))
 
 pub others_are_refused : OthersAreRefused
 others_are_refused line refusal e = why_refused refusal line (words_of line) e

@@ -1,12 +1,10 @@
 -- A command is read back from how it is written: its words, with one space between each two.
-use Rattle.std.proofs.Common.{◌≡◌, ◌≢◌, ◌⊎◌, inl, inr, ◌<◌, ◌≤◌, ◌^◌, ℕ, Bool, true, false, ◌&&◌, List, [], ◌∷◌, ◌++◌, length, Option, Some, None, Result, Ok, Err, cond, codes, refl, sym, ap, subst, ◌∙◌, append_assoc, arith, rules}
+use Rattle.std.proofs.Common.{◌≡◌, ◌≢◌, ◌⊎◌, ◌<◌, ◌≤◌, ◌^◌, ℕ, Bool, true, false, ◌&&◌, List, [], ◌∷◌, ◌++◌, length, Some, Ok, Err, codes, refl, sym, ap, ◌∙◌, append_assoc, arith, rules}
 use Rattle.std.specs.Prelude.{◌↔◌, nat_lt}
 use Rattle.std.specs.Char.{is_ascii_alphanumeric, is_ascii_digit}
 use Rattle.std.specs.Fmt.{decimal}
-use Rattle.std.specs.Str.{bytes_eq}
-use Rattle.std.proofs.lemmas.Slice.Eq.{bytes_eq-Decides}
 use Rattle.std.specs.List.{All, AllByRecursion, join_with_byte, list_all}
-use Rattle.std.proofs.lemmas.Bool.{cond-true, and_from, and_parts, true≢false}
+use Rattle.std.proofs.lemmas.Bool.{cond-true, and_from, and_parts, true≢false, le-leb}
 use Rattle.std.proofs.lemmas.Bool.Decides.{nat_tests}
 use Rattle.std.proofs.lemmas.Fmt.{decimal_nonempty, digits_decimal, length-decimal-le}
 use Rattle.std.proofs.lemmas.List.Elements.{All-from_recursion, recursion_from_All}
@@ -16,11 +14,11 @@ use Rattle.script_words.specs.Numbers.{number_of}
 use Rattle.script_words.specs.NumbersLaws.{number_of-decimal}
 use Rattle.script_words.specs.Words.{IsWord, spaced, text_after, words_of}
 use Rattle.script_words.specs.WordsLaws.{text_after-last, text_after-spaced, words_of-nil, words_of-spaced, words_of-word, words_of-word_space}
-use Rattle.script_commands.specs.declared.commands.Command.TheVariants.{Node, Put, Link, Remove, Merge, Part, Send, Sweep, Files, Cat, Show, List as ListUnits, Plan, Workers, Same}
+use Rattle.script_commands.specs.declared.commands.Command.TheVariants.{Node, Put, Link, Remove, Merge, Part, Send, Sweep, Files, Cat, Show, List as ListUnits, Plan, Workers, Same, Crowd}
 use Rattle.script_commands.specs.declared.commands.Command.{Command}
 use Rattle.script_commands.specs.declared.commands.Refusal.{Refusal}
 use Rattle.script_commands.specs.declared.commands.Refusal.TheVariants.{Arguments, UnknownCommand}
-use Rattle.script_commands.specs.Commands.{cat_command, command_of, command_of_words, files_command, link_command, list_command, merge_command, node_command, node_with, part_command, plan_command, put_command, remove_command, same_command, send_command, show_command, sweep_command, workers_command, workers_with}
+use Rattle.script_commands.specs.Commands.{command_of, command_of_words, crowd_with, node_with, workers_with}
 
 -- words, with one space between each two
 abbrev pub line_of : List (List ℕ) → List ℕ
@@ -101,6 +99,11 @@ abbrev pub SameIsReadBack : Type 0
 SameIsReadBack = (left right : List ℕ) → IsName left → IsName right
     → command_of (line_of (codes "same" ∷ left ∷ right ∷ [])) ≡ Ok (Same left right)
 
+-- numbers of 32 bits, in decimal, the second at most 1,000
+abbrev pub CrowdIsReadBack : Type 0
+CrowdIsReadBack = (node : List ℕ) (seats edits : ℕ) → IsName node → seats < 2 ^ 32 → edits ≤ 1000
+    → command_of (line_of (codes "crowd" ∷ node ∷ decimal seats ∷ decimal edits ∷ [])) ≡ Ok (Crowd node seats edits)
+
 -- these are the words of a command's line; what `put` writes is the text behind the first three words and one space
 abbrev pub AreWordsOf : Command → List (List ℕ) → List ℕ → Type 0
 AreWordsOf (Node name writer) words line =
@@ -121,6 +124,8 @@ AreWordsOf (ListUnits node unit) words line = (words ≡ codes "list" ∷ node �
 AreWordsOf (Plan node unit running) words line = (words ≡ codes "plan" ∷ node ∷ unit ∷ running) × IsName node
 AreWordsOf (Workers count) words line = (number : List ℕ) × (words ≡ codes "workers" ∷ number ∷ []) × (number_of number ≡ Some count)
 AreWordsOf (Same left right) words line = (words ≡ codes "same" ∷ left ∷ right ∷ []) × IsName left × IsName right
+AreWordsOf (Crowd node seats edits) words line =
+    (first : List ℕ) × (second : List ℕ) × (words ≡ codes "crowd" ∷ node ∷ first ∷ second ∷ []) × (number_of first ≡ Some seats) × (number_of second ≡ Some edits) × IsName node × (edits ≤ 1000)
 
 -- a line is read as a command just where it has that command's words
 abbrev pub JustItsWordsAreRead : Type 0
@@ -128,7 +133,7 @@ JustItsWordsAreRead = (line : List ℕ) (command : Command) → (command_of line
 
 -- the words that name commands
 abbrev pub verbs : List (List ℕ)
-verbs = codes "node" ∷ codes "put" ∷ codes "link" ∷ codes "remove" ∷ codes "merge" ∷ codes "part" ∷ codes "send" ∷ codes "sweep" ∷ codes "files" ∷ codes "cat" ∷ codes "show" ∷ codes "list" ∷ codes "plan" ∷ codes "workers" ∷ codes "same" ∷ []
+verbs = codes "node" ∷ codes "put" ∷ codes "link" ∷ codes "remove" ∷ codes "merge" ∷ codes "part" ∷ codes "send" ∷ codes "sweep" ∷ codes "files" ∷ codes "cat" ∷ codes "show" ∷ codes "list" ∷ codes "plan" ∷ codes "workers" ∷ codes "same" ∷ codes "crowd" ∷ []
 
 -- the word is one of these
 abbrev pub IsOneOf : List ℕ → List (List ℕ) → Type 0
@@ -277,3 +282,12 @@ workers_is_read_back count small =
 pub same_is_read_back : SameIsReadBack
 same_is_read_back left right is and =
     read_words (codes "same" ∷ left ∷ right ∷ []) (is_verb (codes "same") refl, (name_is_word left is, (name_is_word right and, tt))) ∙ cond-true _ _ _ (and_from _ _ is and)
+
+pub crowd_is_read_back : CrowdIsReadBack
+crowd_is_read_back node seats edits is small few =
+    let fits : length (decimal seats) ≤ 10 = length-decimal-le 10 seats (omega arith) (omega arith) (omega arith) in
+    let short : length (decimal edits) ≤ 10 = length-decimal-le 10 edits (omega arith) (omega arith) (omega arith) in
+    read_words (codes "crowd" ∷ node ∷ decimal seats ∷ decimal edits ∷ []) (is_verb (codes "crowd") refl, (name_is_word node is, (number_is_word seats small, (number_is_word edits (omega arith), tt))))
+    ∙ ap (λ v. crowd_with node v (number_of (decimal edits))) (number_of-decimal seats 0 small (omega arith))
+    ∙ ap (crowd_with node (Some seats)) (number_of-decimal edits 0 (omega arith) (omega arith))
+    ∙ cond-true _ _ _ (and_from _ _ is (le-leb edits 1000 few))

@@ -1,6 +1,7 @@
 //! Commands, and why they are refused.
 ghost use Rattle.std.specs.Prelude.{◌≡◌, ℕ, List};
 
+use crate::edit_counts::EditCount;
 use edit_sums::ContentFault;
 use load_path::PathFault;
 use replica_store::EditFault;
@@ -153,6 +154,12 @@ pub enum Command<'a> {
         left: Word<'a>,
         right: Word<'a>,
     },
+    /// A crowd of so many workers, each with so many edits, on a copy of what a node holds.
+    Crowd {
+        node: Word<'a>,
+        seats: u32,
+        edits: EditCount,
+    },
 }
 
 /// Why a line is refused. The nodes are then as they were.
@@ -198,6 +205,8 @@ pub enum Refusal {
     Conflict(UnitName, UnitName),
     /// Units that are to start and wait for each other, each before the next.
     Cycle(Items<UnitName>),
+    /// The seats of a crowd aren't 1 to 64.
+    Seats,
 }
 
 /// Why a command was not done.

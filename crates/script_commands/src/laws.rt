@@ -1,5 +1,5 @@
 //! Laws of commands: each is read back from how it is written.
-ghost use Rattle.script_commands.specs.WrittenLaws.{CatIsReadBack, EmptyPutIsReadBack, FilesIsReadBack, JustItsWordsAreRead, LinkIsReadBack, ListIsReadBack, MergeIsReadBack, NodeIsReadBack, OthersAreRefused, PartIsReadBack, PlanIsReadBack, PutIsReadBack, RemoveIsReadBack, SameIsReadBack, SendIsReadBack, ShowIsReadBack, SweepIsReadBack, WorkersIsReadBack};
+ghost use Rattle.script_commands.specs.WrittenLaws.{CatIsReadBack, CrowdIsReadBack, EmptyPutIsReadBack, FilesIsReadBack, JustItsWordsAreRead, LinkIsReadBack, ListIsReadBack, MergeIsReadBack, NodeIsReadBack, OthersAreRefused, PartIsReadBack, PlanIsReadBack, PutIsReadBack, RemoveIsReadBack, SameIsReadBack, SendIsReadBack, ShowIsReadBack, SweepIsReadBack, WorkersIsReadBack};
 
 /// Each command is read back from its words with one space between each two: names as names may be,
 /// numbers in decimal, and paths, targets and units as any words. What `put` writes is all
@@ -21,6 +21,7 @@ pub fn commands_read_back()
     ensures plan { PlanIsReadBack }
     ensures workers { WorkersIsReadBack }
     ensures same { SameIsReadBack }
+    ensures crowd { CrowdIsReadBack }
 
     // However many spaces there are, a line is a command just where it has that command's words.
     ensures words { JustItsWordsAreRead }

@@ -5,11 +5,13 @@
 #![tactic(auto)]
 
 mod commands;
+mod edit_counts;
 mod laws;
 mod parsing;
 mod path_words;
 
 pub use commands::{Command, Fault, Refusal, Word, Words};
+pub use edit_counts::{EditCount, MOST_EDITS};
 pub use laws::commands_read_back;
 pub use parsing::parse;
 pub use path_words::{read_file, read_link, read_path, read_paths};

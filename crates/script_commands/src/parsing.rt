@@ -1,9 +1,10 @@
 //! From a line to a command.
 ghost use Rattle.std.specs.Prelude.{◌≡◌, [], ◌∷◌, MatchOption};
 ghost use Rattle.script_words.specs.Words.{words_of, text_after};
-ghost use Rattle.script_commands.specs.Commands.{command_of, node_command, put_command, link_command, remove_command, merge_command, part_command, send_command, sweep_command, files_command, cat_command, list_command, plan_command, show_command, workers_command, same_command, question_of, AreNotOne, AreNotTwo, AreNotThree};
+ghost use Rattle.script_commands.specs.Commands.{command_of, node_command, put_command, link_command, remove_command, merge_command, part_command, send_command, sweep_command, files_command, cat_command, list_command, plan_command, crowd_command, show_command, workers_command, same_command, question_of, AreNotOne, AreNotTwo, AreNotThree};
 
 use crate::commands::{Command, Refusal, Word, Words};
+use crate::edit_counts::EditCount;
 use script_words::{cut_word, is_name, parse_number, text_of_rest};
 
 /// The command of a line, or why it is none. Linear in the line, without memory.
@@ -52,6 +53,8 @@ fn question<'a>(verb: &[u8], rest: &'a [u8]) -> Result<Command<'a>, Refusal>
         workers(rest)
     } else if verb == b"same".as_slice() {
         same(rest)
+    } else if verb == b"crowd".as_slice() {
+        crowd(rest)
     } else {
         Err(Refusal::UnknownCommand)
     }
@@ -332,5 +335,27 @@ fn same(rest: &[u8]) -> Result<Command<'_>, Refusal>
         })
     } else {
         Err(Refusal::Arguments)
+    }
+}
+
+fn crowd(rest: &[u8]) -> Result<Command<'_>, Refusal>
+    ensures command { result ≡ crowd_command (words_of rest.now) }
+{
+    let Some((node, seats, edits)) = three_words(rest) else {
+        return Err(Refusal::Arguments);
+    };
+    let Some(seats) = parse_number(seats) else {
+        return Err(Refusal::Arguments);
+    };
+    let Some(edits) = parse_number(edits) else {
+        return Err(Refusal::Arguments);
+    };
+    match EditCount::of(edits) {
+        Some(edits) if is_name(node) => Ok(Command::Crowd {
+            node: Word::new(node),
+            seats,
+            edits,
+        }),
+        _ => Err(Refusal::Arguments),
     }
 }

@@ -2,6 +2,7 @@
 ghost use Rattle.std.specs.Prelude.{◌≡◌};
 
 use crate::bench::Bench;
+use crate::crowding::{answer_crowd, answer_meeting};
 use crate::endings::{close, close_short};
 use crate::steps::step;
 use crate::threads::{plan_of, work_threads};
@@ -14,6 +15,7 @@ use std::alloc::{AllocError, Global};
 use std::marker::Brand;
 use std::sync::Wait;
 use std::thread::Threads;
+use std::time::Clock;
 
 // Does the steps at an open node, up to a word that is none; whether that word is `short`.
 fn work_steps<N: NodeName, R: Wait>(
@@ -88,7 +90,7 @@ fn answer_threads<R: Threads + Wait + Sync>(
 }
 
 // What a line answers.
-fn answer<R: Threads + Wait + Sync>(
+fn answer<R: Threads + Wait + Clock + Sync>(
     rt: &R,
     alloc: Global,
     line: &[u8],
@@ -97,12 +99,14 @@ fn answer<R: Threads + Wait + Sync>(
     match words.word()? {
         b"node" => answer_node(rt, alloc, &mut words),
         b"threads" => answer_threads(rt, alloc, &mut words),
+        b"crowd" => answer_crowd(rt, alloc, &mut words),
+        b"meet" => answer_meeting(rt, alloc, &mut words),
         _ => Err(LineFault::Words),
     }
 }
 
 // Writes a line, and below it its answers if it is a node.
-fn append_line<R: Threads + Wait + Sync>(
+fn append_line<R: Threads + Wait + Clock + Sync>(
     rt: &R,
     alloc: Global,
     out: &mut Vec<u8>,
@@ -120,7 +124,7 @@ fn append_line<R: Threads + Wait + Sync>(
 }
 
 /// All lines, each with its answers.
-pub fn work_lines<R: Threads + Wait + Sync>(
+pub fn work_lines<R: Threads + Wait + Clock + Sync>(
     rt: &R,
     alloc: Global,
     lines: &[u8],

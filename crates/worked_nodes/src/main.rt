@@ -7,14 +7,18 @@
 //! is closed with all its seats; behind `short` first without the last.
 //!
 //! Or it is `threads WRITER WRITERS EDITS READERS VIEWS`: so many seats edit, each at its own path, beside others that
-//! view, each in a thread of its own; each view is compared with the number of takes that it shows. Lines that are
-//! empty
-//! or begin with `#` are repeated as they are. `stdin` has the lines, and `stdout` what each must answer; the gate
-//! compares the two.
+//! view, each in a thread of its own; each view is compared with the number of takes that it shows.
+//!
+//! Or it is `crowd WRITER SEATS EDITS`, a crowd at a node over nothing; or `meet WRITER`, a crowd of two workers with an
+//! edit each, who wait for one another before that.
+//!
+//! Lines that are empty or begin with `#` are repeated as they are. `stdin` has the lines, and `stdout` what each must
+//! answer; the gate compares the two.
 #![tactic(auto)]
 
 mod answers;
 mod bench;
+mod crowding;
 mod endings;
 mod steps;
 mod threads;

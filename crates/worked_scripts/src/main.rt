@@ -14,6 +14,7 @@ use script_words::cut_line;
 use std::alloc::AllocError;
 use std::io;
 use std::process::ExitCode;
+use std::sync::Wait;
 use std::thread::Threads;
 
 // Whether these are the answers and the end that a dialogue tells.
@@ -22,7 +23,7 @@ fn is_as_told(dialogue: &Dialogue, written: &[u8], end: &[u8]) -> bool {
 }
 
 // Runs a dialogue's commands, and says whether they are answered as it tells; if not, what came is written too.
-fn work<R: AllocGlobal + Threads + Sync>(
+fn work<R: AllocGlobal + Threads + Wait + Sync>(
     rt: &R,
     dialogue: &Dialogue,
     out: &mut Vec<u8>,
@@ -44,7 +45,10 @@ fn work<R: AllocGlobal + Threads + Sync>(
 }
 
 // Says of each dialogue whether it is answered as it tells.
-fn work_all<R: AllocGlobal + Threads + Sync>(rt: &R, text: &[u8]) -> Result<Vec<u8>, AllocError> {
+fn work_all<R: AllocGlobal + Threads + Wait + Sync>(
+    rt: &R,
+    text: &[u8],
+) -> Result<Vec<u8>, AllocError> {
     let mut out = Vec::new(rt.alloc());
     let mut dialogue = Dialogue::new(rt.alloc());
     let mut rest = text;

@@ -1,10 +1,11 @@
-use Rattle.std.proofs.Common.{ℕ, Vec, Global, refl, sym, ap, ◌∙◌}
+use Rattle.std.proofs.Common.{rules, ℕ, Vec, Global, refl, sym, ap, ◌∙◌}
 use Rattle.std.proofs.lemmas.Bool.{eqb-true}
 use Rattle.std.proofs.lemmas.List.{nil_from_length}
 use Rattle.script_words.specs.Lines.{lines_of}
 use Rattle.script_words.specs.LinesLaws.{lines_of-nil}
 use Rattle.fleet_script.specs.Holds.{kept_in}
 use Rattle.fleet_script.proofs.Runs.{begins, moved, line_answered, flushed, front_written, answered, whatever, extended, not_extended}
+use Rattle.fleet_script.proofs.Rooms.{has_room}
 use Rattle.fleet_script.proofs.running.answer_all.Goals as goal
 use Rattle.fleet_script.proofs.running.answer_all.Goals.{then-len-ge-BATCH+in_ok-write_all, else-len-ge-BATCH}
 
@@ -56,3 +57,6 @@ returns-clause-ok g c =
     (ap lines_of (nil_from_length _ (eqb-true _ _ (sym c.loop-rest-test.ensures))) ∙ lines_of-nil)
     (flushed c.args.script.now c.loop-rest.rest.now c.loop-rest.pending.items (kept_in c.loop-rest.shell) (g.K.Sink.contents c.args.writer.now) (g.K.Sink.contents c.loop-rest.writer) (g.K.Sink.contents c.write_all-2.new.sink)
     (rw c.deref-2.ensures.value at c.in_ok-write_all-2.ensures.ok) c.loop-rest.invariant.0)
+
+pub answer_line-requires-clause-room : goal.answer_line-requires-clause-room
+answer_line-requires-clause-room g c = (let room = has_room c.args.script.now c.loop-rest.rest.now c.loop-rest.pending.items (kept_in c.loop-rest.shell) (g.K.Sink.contents c.args.writer.now) (g.K.Sink.contents c.loop-rest.writer) c.requires.short c.loop-rest.invariant.0 in search rules)

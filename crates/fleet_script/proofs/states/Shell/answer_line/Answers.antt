@@ -1,4 +1,4 @@
-use Rattle.std.proofs.Common.{Ok, Err, sym, refl}
+use Rattle.std.proofs.Common.{rules, Ok, Err, sym, refl}
 use Rattle.std.proofs.lemmas.Result.{IfOk-weaker}
 use Rattle.fleet_script.specs.Holds.{kept_in}
 use Rattle.fleet_script.proofs.Lines.{answered_line}
@@ -13,3 +13,6 @@ returns-in-Err-Refused g c = record {
       (λ answer is. answered_line (kept_in c.args.self.now) (kept_in c.execute.new.self) c.args.line.now answer.items (Err c.in-Err-Refused.refusal) c.if-line-gt-LINE_LIMIT.false (sym c.if-is_passed_over.ensures.value) is (rw c.in-Err-Refused.field-0-is at c.in-Err-Refused.ensures.done))
       c.refused-in-Err-Refused.ensures.line;
 }
+
+pub execute-requires-clause-room : goal.execute-requires-clause-room
+execute-requires-clause-room g c = (let room = c.requires.room in search rules)

@@ -1,7 +1,7 @@
-use Rattle.std.proofs.Common.{Ok, sym, ap, ◌∙◌}
+use Rattle.std.proofs.Common.{rules, Ok, sym, ap, ◌∙◌}
 use Rattle.fleet_script.specs.Holds.{kept_in}
 use Rattle.fleet_script.proofs.Lines.{executed}
-use Rattle.script_commands.specs.declared.commands.Command.TheVariants.{Node, Put, Link, Remove, Merge, Part, Send, Sweep, Files, Cat, Show, List as ListUnits, Plan, Workers, Same}
+use Rattle.script_commands.specs.declared.commands.Command.TheVariants.{Node, Put, Link, Remove, Merge, Part, Send, Sweep, Files, Cat, Show, List as ListUnits, Plan, Workers, Same, Crowd}
 use Rattle.fleet_script.proofs.states.Shell.execute.Goals as goal
 
 pub returns-in-Node : goal.returns-in-Node
@@ -48,3 +48,9 @@ returns-in-List g c = record { done = executed (kept_in c.args.self.now) (kept_i
 
 pub returns-in-Plan : goal.returns-in-Plan
 returns-in-Plan g c = record { done = executed (kept_in c.args.self.now) (kept_in c.plan.new.self) c.args.line.now (Plan c.in-Plan.node c.in-Plan.unit c.in-Plan.running) c.plan.result (ap Ok (sym c.in-Plan.is) ∙ c.in_ok-name.ensures.command) (rw c.as_slice-in-Plan-2.ensures.bytes at (rw c.as_slice-in-Plan.ensures.bytes at c.plan.ensures.done)) }
+
+pub returns-in-Crowd : goal.returns-in-Crowd
+returns-in-Crowd g c = record { done = executed (kept_in c.args.self.now) (kept_in c.crowd.new.self) c.args.line.now (Crowd c.in-Crowd.node c.in-Crowd.seats c.in-Crowd.edits) c.crowd.result (ap Ok (sym c.in-Crowd.is) ∙ c.in_ok-name.ensures.command) (rw c.as_slice-in-Crowd.ensures.bytes at c.crowd.ensures.done) }
+
+pub crowd-requires-clause-room : goal.crowd-requires-clause-room
+crowd-requires-clause-room g c = (let room = c.requires.room in search rules)

@@ -1,0 +1,138 @@
+-- What a crowd comes to: how many takes, and how many paths.
+use Rattle.std.proofs.Common.{◌≡◌, ℕ, ◌*◌, ◌<◌, ◌≤◌, ◌==◌, Bool, true, false, cond, List, [], ◌∷◌, ◌++◌, length, map, refl, sym, ap, subst, ◌∙◌, arith, inl, inr, ◌⊎◌, get_or}
+use Rattle.std.specs.Prelude.{count_by, nat_lt}
+use Rattle.std.specs.List.{sum_by}
+use Rattle.std.specs.Ordering.{eq_by_cmp}
+use Rattle.std.specs.FinMap as finmap
+use Rattle.std.proofs.lemmas.Bool.{and_parts, ltb-true}
+use Rattle.std.proofs.lemmas.Bool.Decides.{leb_tells}
+use Rattle.std.proofs.Math.Dec.{leb}
+use Rattle.std.proofs.lemmas.List.Sums.{sum_by-cons}
+use Rattle.std.proofs.lemmas.Option.{slice_get-get_or}
+use Rattle.list_laws.specs.Members.{IsAmong, IsAmong-append_cases, IsAmong-append_left, IsAmong-append_right}
+use Rattle.load_path.specs.Paths.{path_cmp}
+use Rattle.edit_sums.specs.declared.entries.Edit.{Edit}
+use Rattle.edit_sums.specs.GreatestLaws.{tied}
+use Rattle.edit_sums.specs.Sums.{edits_of}
+use Rattle.replica_store.specs.Replicas.{Replicated}
+use Rattle.node_histories.specs.declared.events.Event.{Event}
+use Rattle.node_histories.specs.declared.events.Event.TheVariants.{Opening, Edited, Absorbed}
+use Rattle.node_histories.specs.Histories.{IsLegal, all_edits, edits_in, store_of, takes_in}
+use Rattle.shared_node.specs.Seats.{SeatNow, AllAgree}
+use Rattle.crowds.specs.Crowds.{crowd_path, crowd_paths, edit_at, paths_with}
+use Rattle.crowds.specs.Workers.{is_own, own_edits, HaveWorked}
+use Rattle.crowds.proofs.Listed.{in_paths, from_paths}
+use Rattle.crowds.proofs.Ours.{is_ours, all_pass, ours_many, sum_same}
+use Rattle.crowds.proofs.Own.{own_grows}
+use Rattle.crowds.proofs.SamePaths.{AreAmongPaths, same_paths}
+
+-- the edits of an event of the crowd are at a worker's path
+edits_in_ours : (workers : ℕ) (x : Event) (e : Edit) → is_ours workers x ≡ true → IsAmong e (edits_in x) → (k : ℕ) × (k < workers) × (e.path ≡ crowd_path k)
+edits_in_ours workers (Opening r) e is a = cc
+edits_in_ours workers (Edited seat f) e is (inl same) =
+    let parts = and_parts (nat_lt seat workers) (eq_by_cmp path_cmp f.path (crowd_path seat)) is in
+    (seat, ltb-true seat workers parts.0, ap (λ (g : Edit). g.path) (sym same) ∙ tied f.path (crowd_path seat) parts.1)
+edits_in_ours workers (Edited seat f) e is (inr a) = absurd a
+edits_in_ours workers (Absorbed seat p) e is a = cc
+
+edits_step : (workers : ℕ) (x : Event) (t : List Event) (e : Edit) → is_ours workers x ≡ true → (IsAmong e (all_edits t) → (k : ℕ) × (k < workers) × (e.path ≡ crowd_path k))
+    → IsAmong e (edits_in x) ⊎ IsAmong e (all_edits t) → (k : ℕ) × (k < workers) × (e.path ≡ crowd_path k)
+edits_step workers x t e is rest (inl a) = edits_in_ours workers x e is a
+edits_step workers x t e is rest (inr a) = rest a
+
+edits_ours : (workers : ℕ) (t : List Event) → ((x : Event) → IsAmong x t → is_ours workers x ≡ true) → (e : Edit) → IsAmong e (all_edits t) → (k : ℕ) × (k < workers) × (e.path ≡ crowd_path k)
+edits_ours workers [] ours e a = absurd a
+edits_ours workers (x ∷ t) ours e a =
+    edits_step workers x t e (ours x (inl refl)) (λ b. edits_ours workers t (λ y h. ours y (inr h)) e b) (IsAmong-append_cases e (edits_in x) (all_edits t) a)
+
+-- a worker that has an edit of its own has it among all edits
+own_in : (k : ℕ) (x : Event) → is_own k x ≡ true → (e : Edit) × IsAmong e (edits_in x) × (e.path ≡ crowd_path k)
+own_in k (Opening r) is = cc
+own_in k (Edited seat e) is =
+    let parts = and_parts (seat == k) (eq_by_cmp path_cmp e.path (crowd_path k)) is in
+    (e, inl refl, tied e.path (crowd_path k) parts.1)
+own_in k (Absorbed seat p) is = cc
+
+own_step : (k : ℕ) (x : Event) (h : List Event) → 0 < own_edits k (x ∷ h) → (0 < own_edits k h → (e : Edit) × IsAmong e (all_edits h) × (e.path ≡ crowd_path k))
+    → (b : Bool) → is_own k x ≡ b → (e : Edit) × IsAmong e (all_edits (x ∷ h)) × (e.path ≡ crowd_path k)
+own_step k x h some rest true is = let r = own_in k x is in (r.0, IsAmong-append_left r.0 (edits_in x) (all_edits h) r.1, r.2)
+own_step k x h some rest false is =
+    let parts = sum_by-cons (λ y. cond (is_own k y) 1 0) x h in
+    let none : ◌≡◌ {A = ℕ} (cond (is_own k x) 1 0) 0 = ap (λ b. cond b 1 0) is in
+    let r = rest (omega (arith, parts, none)) in
+    (r.0, IsAmong-append_right r.0 (edits_in x) (all_edits h) r.1, r.2)
+
+own_there : (k : ℕ) (h : List Event) → 0 < own_edits k h → (e : Edit) × IsAmong e (all_edits h) × (e.path ≡ crowd_path k)
+own_there k [] some = absurd (omega arith)
+own_there k (x ∷ h) some = own_step k x h some (λ more. own_there k h more) (is_own k x) refl
+
+none_among : (t : List Event) (e : Edit) → length t ≡ 0 → IsAmong e (all_edits t) → ⊥
+none_among [] e none a = absurd a
+none_among (x ∷ t) e none a = absurd (omega arith)
+
+nobody : SeatNow
+nobody = record { seen = []; calls = 0; number = 0 }
+
+module _ (workers edits : ℕ) (seats : List SeatNow) (count : length seats ≡ workers) (worked : HaveWorked edits seats) where
+  pub crowd_takes : sum_by (λ s. s.calls) seats ≡ workers * edits
+  crowd_takes = sum_same (λ (s : SeatNow). s.calls) edits seats (λ k s is. (worked k s is).calls) ∙ ap (λ n. n * edits) count
+
+  module _ (start : Replicated) (h : List Event) (agree : AllAgree h seats) (sum : takes_in h ≡ sum_by (λ s. s.calls) seats) where
+    own_all : (k : ℕ) → k < workers → edits ≤ own_edits k h
+    own_all k lt =
+        let is = slice_get-get_or seats k nobody (omega (arith, count)) in
+        let s : SeatNow = get_or seats k nobody in
+        let own = (worked k s is).own in
+        let grows = own_grows k s.seen h (agree k s is).0 in
+        omega (arith, own, grows)
+
+    -- the takes behind the opening are all of the crowd
+    all_ours : (q : Replicated) (t : List Event) → h ≡ Opening q ∷ t → (x : Event) → IsAmong x t → is_ours workers x ≡ true
+    all_ours q t is =
+        let many = ours_many workers edits h own_all in
+        let parts = ap (λ (k : List Event). count_by (is_ours workers) k) is ∙ sum_by-cons (λ y. cond (is_ours workers y) 1 0) (Opening q) t in
+        let long = ap takes_in is in
+        let takes = crowd_takes in
+        all_pass (is_ours workers) t (omega (arith, many, parts, long, sum, takes))
+
+    some_edits : (q : Replicated) (t : List Event) (e : Edit) → h ≡ Opening q ∷ t → IsAmong e (all_edits t) → 0 < edits
+    some_edits q t e is a = pick (leb_tells 1 edits)
+      where
+        pick : ((leb 1 edits ≡ true) × (1 ≤ edits)) ⊎ ((leb 1 edits ≡ false) × (edits < 1)) → 0 < edits
+        pick (inl x) = x.1
+        pick (inr x) =
+            let none : edits ≡ 0 = (let lt = x.1 in omega arith) in
+            let takes = crowd_takes in
+            let nothing = ap (λ n. workers * n) none in
+            let long = ap takes_in is in
+            absurd (none_among t e (omega (arith, sum, takes, nothing, long)) a)
+
+    there : (q : Replicated) (t : List Event) → q ≡ start → h ≡ Opening q ∷ t → AreAmongPaths (all_edits (Opening q ∷ t)) (edits_of start.store ++ map edit_at (crowd_paths workers edits))
+    there q t same is e a = by (IsAmong-append_cases e (edits_of q.store) (all_edits t) a)
+      where
+        by : IsAmong e (edits_of q.store) ⊎ IsAmong e (all_edits t) → (f : Edit) × IsAmong f (edits_of start.store ++ map edit_at (crowd_paths workers edits)) × (f.path ≡ e.path)
+        by (inl b) = (e, IsAmong-append_left e (edits_of start.store) (map edit_at (crowd_paths workers edits)) (subst (λ (r : Replicated). IsAmong e (edits_of r.store)) same b), refl)
+        by (inr b) =
+            let r = edits_ours workers t (all_ours q t is) e b in
+            (edit_at (crowd_path r.0), IsAmong-append_right (edit_at (crowd_path r.0)) (edits_of start.store) (map edit_at (crowd_paths workers edits)) (in_paths workers edits r.0 r.1 (some_edits q t e is b)), sym r.2)
+
+    back : (q : Replicated) (t : List Event) → q ≡ start → h ≡ Opening q ∷ t → AreAmongPaths (edits_of start.store ++ map edit_at (crowd_paths workers edits)) (all_edits (Opening q ∷ t))
+    back q t same is e a = by (IsAmong-append_cases e (edits_of start.store) (map edit_at (crowd_paths workers edits)) a)
+      where
+        by : IsAmong e (edits_of start.store) ⊎ IsAmong e (map edit_at (crowd_paths workers edits)) → (f : Edit) × IsAmong f (all_edits (Opening q ∷ t)) × (f.path ≡ e.path)
+        by (inl b) = (e, IsAmong-append_left e (edits_of q.store) (all_edits t) (subst (λ (r : Replicated). IsAmong e (edits_of r.store)) (sym same) b), refl)
+        by (inr b) =
+            let from = from_paths workers edits e b in
+            let own = own_all from.1.0 from.1.1 in
+            let some = from.0 in
+            let r = own_there from.1.0 h (omega (arith, own, some)) in
+            (r.0, subst (λ (k : List Event). IsAmong r.0 (all_edits k)) is r.1, r.2 ∙ from.1.2)
+
+    of_history : (k : List Event) → h ≡ k → IsLegal start k → finmap.len (store_of k) ≡ paths_with start.store (crowd_paths workers edits)
+    of_history [] is legal = absurd legal
+    of_history (Opening q ∷ t) is legal = same_paths (all_edits (Opening q ∷ t)) (edits_of start.store ++ map edit_at (crowd_paths workers edits)) (there q t legal.0 is) (back q t legal.0 is)
+    of_history (Edited seat e ∷ t) is legal = absurd legal
+    of_history (Absorbed seat p ∷ t) is legal = absurd legal
+
+    pub crowd_paths_held : IsLegal start h → finmap.len (store_of h) ≡ paths_with start.store (crowd_paths workers edits)
+    crowd_paths_held legal = of_history h refl legal

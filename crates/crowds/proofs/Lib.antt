@@ -1,0 +1,8 @@
+mod Paths
+mod Made
+mod SamePaths
+mod Own
+mod Seated
+mod Ours
+mod Listed
+mod Held

@@ -1,0 +1,37 @@
+-- What a worker of a crowd has done.
+-- Source: this project's own.
+use Rattle.std.specs.Prelude.{◌≡◌, ℕ, ◌≤◌, ◌==◌, Bool, false, ◌&&◌, List, map, count_by, slice_get, Some, Result, Ok}
+use Rattle.std.specs.Ordering.{eq_by_cmp}
+use Rattle.load_path.specs.Paths.{path_cmp}
+use Rattle.node_histories.specs.declared.events.Event.{Event}
+use Rattle.node_histories.specs.declared.events.Event.TheVariants.{Opening, Edited, Absorbed}
+use Rattle.shared_node.specs.Seats.{SeatNow}
+use Rattle.crowds.specs.Crowds.{crowd_path}
+
+-- the event is an edit of the worker's own file, from the seat of its number
+abbrev pub is_own : ℕ → Event → Bool
+is_own worker (Opening replica) = false
+is_own worker (Edited seat edit) = seat == worker && eq_by_cmp path_cmp edit.path (crowd_path worker)
+is_own worker (Absorbed seat piece) = false
+
+-- how many events are that
+abbrev pub own_edits : ℕ → List Event → ℕ
+own_edits worker h = count_by (λ x. is_own worker x) h
+
+-- the worker made so many takes from the seat of its number, and has seen as many edits of its own file
+pub record HasWorked (edits worker : ℕ) (seat : SeatNow) : Type 0 where
+  pub number : seat.number ≡ worker
+  pub calls : seat.calls ≡ edits
+  pub own : edits ≤ own_edits worker seat.seen
+
+-- each seat's worker has done so
+abbrev pub HaveWorked : ℕ → List SeatNow → Type 0
+HaveWorked edits seats = (worker : ℕ) (seat : SeatNow) → slice_get seats worker ≡ Some seat → HasWorked edits worker seat
+
+-- no take was made from any of these seats, and each has its place as its number
+abbrev pub AreFresh : List SeatNow → Type 0
+AreFresh seats = (worker : ℕ) (seat : SeatNow) → slice_get seats worker ≡ Some seat → (seat.calls ≡ 0) × (seat.number ≡ worker)
+
+-- none is missing of what came back, and these are all
+abbrev pub AreGathered : {S E : Type 0} → List (Result S E) → List S → Type 0
+AreGathered came seats = came ≡ map Ok seats

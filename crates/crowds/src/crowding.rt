@@ -1,0 +1,124 @@
+//! A crowd at a node.
+ghost use Rattle.std.specs.Prelude.{◌≡◌, ◌+◌, ◌-◌, ◌*◌, ◌<◌, ◌≤◌, ◌⊎◌, ◌↔◌, length, Err, IfOk};
+ghost use Rattle.std.specs.List.{sum_by};
+ghost use Rattle.edit_sums.specs.Sums.{high_of};
+ghost use Rattle.node_histories.specs.Histories.{IsLegal, replica_of, takes_in};
+ghost use Rattle.shared_node.specs.Seats.{AllAgree};
+ghost use Rattle.crowds.specs.declared.faults.CrowdFault.TheVariants.{Seats};
+ghost use Rattle.crowds.specs.Crowds.{crowd_paths, paths_with};
+
+use crate::faults::CrowdFault;
+use crate::threads::work_side_by_side;
+use node_histories::NodeName;
+use replica_store::Replica;
+use shared_node::{Blank, CloseFault, Closed, MOST_SEATS, Node, Seat};
+use std::alloc::{AllocError, Global};
+use std::marker::Brand;
+use std::sync::Wait;
+use std::thread::Threads;
+use worker_rounds::Gate;
+
+/// The most edits of one worker.
+pub const MOST_EDITS: u64 = 1_000;
+
+/// So many counters a crowd takes at most.
+pub const ROOM: u64 = 64_000;
+
+/// What a crowd came to: how many takes its node had as it was closed, and how many paths it held, those of removals
+/// too.
+#[derive(Clone, Copy, Debug, PartialEq, Eq)]
+pub struct Counted {
+    pub takes: u64,
+    pub paths: u64,
+}
+
+// Closes a node with all its seats.
+fn close<N: NodeName, R: Wait>(
+    rt: &R,
+    node: Node<N>,
+    seats: Vec<Seat<N>>,
+) -> Result<Closed, AllocError>
+    ensures legal { IfOk result (λ d. IsLegal N.opening d.seen.log) }
+    ensures agree { IfOk result (λ d. AllAgree d.seen.log seats.items) }
+    ensures takes { IfOk result (λ d. d.takes ≡ takes_in d.seen.log) }
+    ensures sum { IfOk result (λ d. d.takes ≡ sum_by (λ s. s.calls) seats.items) }
+    ensures replica { IfOk result (λ d. d.replica ≡ replica_of d.seen.log) }
+{
+    match node.close(rt, seats) {
+        Ok(closed) => Ok(closed),
+        Err(fault) => {
+            let CloseFault {
+                node,
+                seats: _,
+                cause: _,
+            } = fault;
+            node.end(rt);
+            Err(AllocError)
+        }
+    }
+}
+
+// The crowd at the node of this blank.
+fn crowd_at<N: NodeName + Send + Sync, R: Threads + Wait + Sync, G: Gate + Sync>(
+    rt: &R,
+    alloc: Global,
+    blank: Blank,
+    seats: usize,
+    edits: u64,
+    gate: &G,
+) -> Result<Counted, AllocError>
+    requires book { blank.book ≡ N.book }
+    requires opening { blank.opening ≡ N.opening }
+    requires seats { blank.seats ≡ N.seats }
+    ensures takes { IfOk result (λ counted. counted.takes ≡ seats * edits) }
+    ensures paths { IfOk result (λ counted. counted.paths ≡ paths_with N.opening.store (crowd_paths seats edits)) }
+{
+    let node = Node::<N>::open(blank);
+    match work_side_by_side(rt, alloc, &node, seats, edits, gate) {
+        Ok(seats) => {
+            let closed = close(rt, node, seats)?;
+            Ok(Counted {
+                takes: closed.takes,
+                paths: closed.replica.store().len() as u64,
+            })
+        }
+        Err(fault) => {
+            node.end(rt);
+            Err(fault)
+        }
+    }
+}
+
+/// Lets so many workers edit a copy of a replica side by side, as one node with a seat for each, and tells how many
+/// takes and paths it had at its end. The copy is dropped, and the replica is as it was.
+///
+/// Worker K, from 0, makes its edits J, from 0, one after another, each of the file
+/// `/etc/systemd/system/crowd-K.service` with the lines `[Unit]` and `Description=K J`. Before its first it asks the
+/// gate with K until that answers true, at most `worker_rounds::TURNS` times. Each worker has a thread of its own where
+/// one can be made. It may wait, as the calls of a node do.
+///
+/// It is refused as `Seats` exactly where the seats aren't 1 to 64, before anything else; and as `Memory` for want of
+/// memory, or where the node refuses anything, which it does for want of memory alone. It costs for each edit what
+/// `Node::edit` does.
+pub fn crowd<R: Threads + Wait + Sync, G: Gate + Sync>(
+    rt: &R,
+    alloc: Global,
+    replica: &Replica,
+    seats: usize,
+    edits: u64,
+    gate: &G,
+) -> Result<Counted, CrowdFault>
+    requires edits { edits ≤ MOST_EDITS }
+    requires room { high_of replica.now.store ≤ u64.MAX - ROOM }
+    ensures takes { IfOk result (λ counted. counted.takes ≡ seats * edits) }
+    ensures paths { IfOk result (λ counted. counted.paths ≡ paths_with replica.now.store (crowd_paths seats edits)) }
+    ensures seats { (result ≡ Err Seats) ↔ ((seats ≡ 0) ⊎ (64 < seats)) }
+{
+    if seats == 0 || seats > MOST_SEATS {
+        return Err(CrowdFault::Seats);
+    }
+    match Blank::new(rt, replica.try_clone()?, seats) {
+        Ok(blank) => { Ok(crowd_at::<Brand, R, G>(rt, alloc, blank, seats, edits, gate)?) }
+        Err(_) => Err(CrowdFault::Memory),
+    }
+}

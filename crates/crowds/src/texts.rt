@@ -1,0 +1,30 @@
+//! What the workers of a crowd write, and where.
+ghost use Rattle.std.specs.Prelude.{◌≡◌, ◌<◌, IfOk};
+ghost use Rattle.edit_sums.specs.declared.contents.Content.TheVariants.{File};
+ghost use Rattle.crowds.specs.Crowds.{crowd_path, crowd_text};
+
+use edit_sums::Content;
+use load_path::Path;
+use std::alloc::{AllocError, Global};
+
+// The path of a worker's own file.
+pub fn path_of(alloc: Global, worker: usize) -> Result<Path, AllocError>
+    ensures path { IfOk result (λ path. path ≡ crowd_path worker) }
+{
+    let text = format!(in alloc; "/etc/systemd/system/crowd-{worker}.service")?;
+    match Path::parse(alloc, text.as_bytes()) {
+        Ok(path) => Ok(path),
+        Err(_) => Err(AllocError),
+    }
+}
+
+// What a worker writes at its edit of this number.
+pub fn file_of(alloc: Global, worker: usize, number: u64) -> Result<Content, AllocError>
+    ensures file { IfOk result (λ content. content ≡ File (crowd_text worker number)) }
+{
+    let text = format!(in alloc; "[Unit]\nDescription={worker} {number}\n")?;
+    match Content::file(text.into_bytes()) {
+        Ok(content) => Ok(content),
+        Err(_) => Err(AllocError),
+    }
+}

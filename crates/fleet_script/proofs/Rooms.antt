@@ -1,0 +1,16 @@
+-- Between two lines of a script each node has room for a crowd.
+use Rattle.std.proofs.Common.{◌≡◌, ◌≤◌, ◌++◌, ℕ, List, Option, length, length-append, ap, ◌∙◌, arith}
+use Rattle.edit_sums.specs.Sums.{high_of}
+use Rattle.script_words.specs.Lines.{lines_of}
+use Rattle.fleet_script.specs.Holds.{HasRoom, Keeps}
+use Rattle.fleet_script.proofs.Runs.{Progress}
+use Rattle.fleet_script.proofs.WholeScripts.{counters_are_lines, lines_are_few}
+
+-- no counter is greater than the number of lines
+pub has_room : (script rest pending : List ℕ) (keeps : Keeps) (old now : Option (List ℕ)) → length script ≤ 16777216 → Progress script rest keeps old now pending → HasRoom keeps
+has_room script rest pending keeps old now short p k node is =
+    let most = (counters_are_lines p.before (p.written ++ pending) p.world p.run).stores k in
+    let held = ap high_of (p.holds.stores k node is) in
+    let few = lines_are_few script in
+    let parts = ap length p.lines ∙ length-append p.before (lines_of rest) in
+    omega (arith, most, held, few, parts, short)

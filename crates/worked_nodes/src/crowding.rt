@@ -1,0 +1,61 @@
+//! Crowds at a node over nothing.
+use crate::words::{LineFault, Words};
+use crowds::{Counted, CrowdFault, Gate, MOST_EDITS, ROOM, crowd};
+use meetings::Meeting;
+use parallel_load::OpenGate;
+use replica_store::Replica;
+use std::alloc::Global;
+use std::sync::Wait;
+use std::thread::Threads;
+use std::time::Clock;
+
+// What a crowd at a node of this writer comes to.
+fn crowd_text<R: Threads + Wait + Sync, G: Gate + Sync>(
+    rt: &R,
+    alloc: Global,
+    writer: u32,
+    seats: usize,
+    edits: u64,
+    gate: &G,
+) -> Result<Vec<u8>, LineFault> {
+    let replica = Replica::new(alloc, writer);
+    if edits > MOST_EDITS || replica.high() > u64::MAX - ROOM {
+        return Err(LineFault::Words);
+    }
+    match crowd(rt, alloc, &replica, seats, edits, gate) {
+        Ok(Counted { takes, paths }) => {
+            Ok(format!(in alloc; "\n  takes {takes} paths {paths}")?.into_bytes())
+        }
+        Err(CrowdFault::Seats) => Ok(Vec::from_slice(alloc, b"\n  A1 Seats")?),
+        Err(CrowdFault::Memory) => Err(LineFault::Memory),
+    }
+}
+
+/// What a line of a crowd answers.
+pub fn answer_crowd<R: Threads + Wait + Sync>(
+    rt: &R,
+    alloc: Global,
+    words: &mut Words,
+) -> Result<Vec<u8>, LineFault> {
+    let writer = words.writer()?;
+    let seats = words.place()?;
+    let edits = words.number()?;
+    crowd_text(rt, alloc, writer, seats, edits, &OpenGate)
+}
+
+/// What a line of two workers answers who wait for one another before their first edits.
+pub fn answer_meeting<R: Threads + Wait + Clock + Sync>(
+    rt: &R,
+    alloc: Global,
+    words: &mut Words,
+) -> Result<Vec<u8>, LineFault> {
+    let writer = words.writer()?;
+    let gate = Meeting::new(rt);
+    let mut text = crowd_text(rt, alloc, writer, 2, 1, &gate)?;
+    if gate.were_together() {
+        text.extend_from_slice(b"\n  both workers worked at the same time")?;
+    } else {
+        text.extend_from_slice(b"\n  no two workers worked at the same time")?;
+    }
+    Ok(text)
+}
