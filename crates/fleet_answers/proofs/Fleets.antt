@@ -17,7 +17,7 @@ use Rattle.fleet_answers.specs.declared.answers.Question.{Question}
 use Rattle.fleet_answers.proofs.Held.{if_some, of_found, shown_at}
 
 module _ (n : ℕ) (events : List Event) (world : World) (k : ℕ) (question : Question) (r : Replicated) (answer : Answer) (here : slice_get world.replicas.items k ≡ Some r)
-  (is : IsAnswer r.store question answer) where
+    (is : IsAnswer r.store question answer) where
   pub of_store : IsWorld (world_after n events) world → AnswersItsStore n events k question answer
   of_store shows =
       shown_at (λ (x : Replicated). x.store) (λ (x : Node). x.store) (λ (s : EntryMap). IsAnswer s question answer) world.replicas.items (world_after n events).nodes k r

@@ -62,11 +62,7 @@ impl From<AllocError> for AnswerFault {
 /// Answers a question from a store, on one thread. It fails for want of memory alone.
 ///
 /// One load (systemd.unit(5)), then the edges, the graph and the plan of it.
-pub fn answer_here(
-    alloc: Global,
-    store: &Store,
-    question: &Question,
-) -> Result<Answer, AllocError>
+pub fn answer_here(alloc: Global, store: &Store, question: &Question) -> Result<Answer, AllocError>
     ensures answer { IfOk result (IsAnswer store.now question.now) }
 {
     let asked = asked_names(alloc, question)?;
