@@ -1,8 +1,7 @@
 -- Each name of a question stands for a unit of its load.
-use Rattle.std.proofs.Common.{List, [], ◌∷◌, ◌++◌, inl, inr, sym, subst, ◌≡◌}
-use Rattle.list_laws.specs.Members.{IsAmong, IsAmong-append_right}
+use Rattle.std.proofs.Common.{◌∷◌, inl, inr}
+use Rattle.list_laws.specs.Members.{IsAmong-append_right}
 use Rattle.edit_sums.specs.Sums.{EntryMap}
-use Rattle.unit_name.specs.Names.{Name}
 use Rattle.parallel_load.specs.Loads.{IsLoad, LoadMap}
 use Rattle.unit_graph.specs.GraphLaws.{known_names}
 use Rattle.start_plan.specs.Requests.{IsOfGraph}

@@ -1,5 +1,5 @@
 -- Laws of answers: a store and a question have one.
-use Rattle.std.proofs.Common.{◌≡◌, inl, inr, List, refl, ap, sym, subst, ◌∙◌}
+use Rattle.std.proofs.Common.{◌≡◌, inl, inr, refl, ap, subst, ◌∙◌}
 use Rattle.edit_sums.specs.Sums.{EntryMap}
 use Rattle.unit_name.specs.Names.{Name, name_cmp}
 use Rattle.parallel_load.specs.LoadLaws.{one_load}
@@ -13,7 +13,6 @@ use Rattle.start_plan.specs.declared.requests.Refusal.TheVariants.{Template, Not
 use Rattle.start_plan.specs.declared.requests.Request.{Request}
 use Rattle.start_plan.specs.Outcomes.{IsFault, IsPlanned, IsRefused, IsRefusalOf}
 use Rattle.start_plan.specs.PlanLaws.{one_case, one_plan, one_refusal_told, plan_or_refusal}
-use Rattle.start_plan.specs.Requests.{case_of}
 use Rattle.fleet_answers.specs.Answers.{IsAnswer, IsLoadedFor, IsPlannedFrom, IsRefusedFrom, asked}
 use Rattle.fleet_answers.specs.declared.answers.Answer.{Answer}
 use Rattle.fleet_answers.specs.declared.answers.Answer.TheVariants as answer

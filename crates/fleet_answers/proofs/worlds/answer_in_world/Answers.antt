@@ -1,6 +1,5 @@
 use Rattle.std.proofs.Common.{◌≡◌, length, subst}
 use Rattle.std.specs.Prelude.{Some, slice_get}
-use Rattle.std.proofs.lemmas.Option.{slice_get_read}
 use Rattle.edit_sums.specs.Sums.{EntryMap}
 use Rattle.fleet_answers.specs.Answers.{IsAnswer}
 use Rattle.fleet_answers.proofs.Fleets.{agrees, as_told, of_store, of_sum}
