@@ -1,30 +1,39 @@
-//! Byte strings whose bytes are shared.
+//! Byte strings: short ones stand in the value itself, longer ones are shared by their copies.
 ghost use Rattle.std.specs.Prelude.{◌≡◌, IfOk};
 ghost use Rattle.std.specs.Ordering.{nat_cmp};
 ghost use Rattle.std.specs.Cmp.Lexicographic.{slice_cmp};
 
+use crate::shared::SharedBytes;
+use crate::short::{SHORT, ShortBytes};
 use join_law::Key;
 use std::alloc::{AllocError, Global};
 use std::cmp::Ordering;
 use std::hash::{Hash, Hasher};
 use std::marker::Model;
-use std::sync::Arc;
+
+// Where the bytes stand.
+#[derive(Debug, Drop)]
+enum Held {
+    Short(ShortBytes),
+    Shared(SharedBytes),
+}
 
 /// A byte string, which need be no UTF-8, ordered by its bytes, a proper prefix first.
 ///
-/// Its bytes are shared by all its copies, so that a copy takes no time and no room for them.
+/// A copy takes neither time nor room for the bytes: up to 22 of them stand in the value itself, and take no memory, and
+/// more are shared by all copies.
 #[derive(Debug, Drop)]
 pub struct Bytes {
-    shared: Arc<Vec<u8>, Global>,
+    held: Held,
 }
 
 impl Model for Bytes {
     ghost use Rattle.std.specs.Prelude.{List, ℕ};
-    ghost use Rattle.std.specs.Arc.{arc_value};
+    ghost use Rattle.byte_strings.specs.Holding.{held_bytes};
 
     ghost Value = { List ℕ };
 
-    ghost view = { λ b. (arc_value b.shared).items };
+    ghost view = { λ b. held_bytes b.held };
 }
 
 impl Bytes {
@@ -32,38 +41,57 @@ impl Bytes {
     pub fn from_slice(alloc: Global, bytes: &[u8]) -> Result<Self, AllocError>
         ensures copy { IfOk result (λ copy. copy ≡ bytes.now) }
     {
-        Bytes::from_vec(Vec::from_slice(alloc, bytes)?)
-    }
-
-    /// These bytes, without a copy of them. It fails for want of memory alone; the bytes are then dropped.
-    pub fn from_vec(bytes: Vec<u8>) -> Result<Self, AllocError>
-        ensures bytes { IfOk result (λ made. made ≡ bytes.items) }
-    {
-        let alloc = *bytes.allocator();
+        if bytes.len() <= SHORT {
+            let held = Held::Short(ShortBytes::of(alloc, bytes));
+            return Ok(Bytes { held });
+        }
+        let shared = SharedBytes::from_vec(Vec::from_slice(alloc, bytes)?)?;
         Ok(Bytes {
-            shared: Arc::new(alloc, bytes)?,
+            held: Held::Shared(shared),
         })
     }
 
+    /// These bytes, without a copy of them where they are many. It fails for want of memory alone; the bytes are then
+    /// dropped.
+    pub fn from_vec(bytes: Vec<u8>) -> Result<Self, AllocError>
+        ensures bytes { IfOk result (λ made. made ≡ bytes.items) }
+    {
+        let held = if bytes.len() <= SHORT {
+            Held::Short(ShortBytes::of(*bytes.allocator(), &bytes))
+        } else {
+            Held::Shared(SharedBytes::from_vec(bytes)?)
+        };
+        Ok(Bytes { held })
+    }
+
     /// The bytes. It takes no memory.
+    #[inline(always)]
     pub fn as_slice(&self) -> &[u8]
         ensures bytes { result.now ≡ self.now }
     {
-        self.shared.as_slice()
+        match &self.held {
+            Held::Short(short) => short.as_slice(),
+            Held::Shared(shared) => shared.as_slice(),
+        }
     }
 
     /// The allocator that its bytes came from.
     pub fn allocator(&self) -> Global {
-        *self.shared.allocator()
+        match &self.held {
+            Held::Short(short) => short.allocator(),
+            Held::Shared(shared) => shared.allocator(),
+        }
     }
 
-    /// The same bytes again, shared. It fails for want of memory alone, which here is that there are too many copies.
+    /// The same bytes again. It fails for want of memory alone, which here is that there are too many copies of many bytes.
     pub fn try_clone(&self) -> Result<Bytes, AllocError>
         ensures copy { IfOk result (λ copy. copy ≡ self.now) }
     {
-        Ok(Bytes {
-            shared: Arc::try_clone(&self.shared)?,
-        })
+        let held = match &self.held {
+            Held::Short(short) => Held::Short(short.copy()),
+            Held::Shared(shared) => Held::Shared(shared.try_clone()?),
+        };
+        Ok(Bytes { held })
     }
 }
 
@@ -146,9 +174,9 @@ impl Key for Bytes {
 // So many bytes are compared one by one.
 const NEAR: usize = 16;
 
-// How two strings of bytes are ordered. Names mostly differ in their first bytes, which are compared one by one; what is
-// behind them is compared many bytes at a time.
-fn order(a: &[u8], b: &[u8]) -> Ordering
+/// How two strings of bytes are ordered. Names mostly differ in their first bytes, which are compared one by one; what is
+/// behind them is compared many bytes at a time.
+pub fn order(a: &[u8], b: &[u8]) -> Ordering
     ensures order { result ≡ slice_cmp nat_cmp a.now b.now }
 {
     let near = NEAR.min(a.len()).min(b.len());

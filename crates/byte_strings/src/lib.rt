@@ -2,5 +2,8 @@
 #![tactic(auto)]
 
 mod bytes;
+mod shared;
+mod short;
 
-pub use bytes::Bytes;
+pub use bytes::{Bytes, order};
+pub use shared::SharedBytes;

@@ -3,7 +3,7 @@ ghost use Rattle.std.specs.Prelude.{◌≡◌, ◌≤◌, ◌⊎◌, length, Err
 ghost use Rattle.std.specs.List.{list_all};
 ghost use Rattle.edit_sums.specs.Limits.{is_target, is_graphic};
 
-use byte_strings::Bytes;
+use byte_strings::SharedBytes;
 use join_law::Key;
 use std::alloc::AllocError;
 use std::cmp::Ordering;
@@ -42,9 +42,9 @@ impl From<AllocError> for ContentFault {
 }
 
 /// The bytes of a file, at most 65,536.
-#[derive(Debug, PartialEq, Eq, PartialOrd, Ord, Drop)]
+#[derive(Debug, Drop)]
 pub struct FileBytes {
-    inner: Bytes,
+    inner: SharedBytes,
 }
 
 impl Model for FileBytes {
@@ -79,9 +79,9 @@ impl FileBytes {
 }
 
 /// The target of a link: 1 to 4,095 bytes, each from 33 to 126.
-#[derive(Debug, PartialEq, Eq, PartialOrd, Ord, Drop)]
+#[derive(Debug, Drop)]
 pub struct LinkTarget {
-    target: Bytes,
+    target: SharedBytes,
 }
 
 impl Model for LinkTarget {
@@ -164,7 +164,7 @@ impl Content {
             return Err(ContentFault::FileTooLarge);
         }
         Ok(Content::File(FileBytes {
-            inner: Bytes::from_vec(bytes)?,
+            inner: SharedBytes::from_vec(bytes)?,
         }))
     }
 
@@ -177,7 +177,7 @@ impl Content {
             return Err(ContentFault::BadLink);
         }
         Ok(Content::Link(LinkTarget {
-            target: Bytes::from_vec(target)?,
+            target: SharedBytes::from_vec(target)?,
         }))
     }
 

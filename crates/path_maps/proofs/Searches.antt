@@ -19,11 +19,13 @@ module _ {V : Type 0} (k : List ℕ) where
   tied_at (e ∷ es) zero d a = a
   tied_at (e ∷ es) (suc i) d a = tied_at es i d a.1
 
+  -- a key that stands at a place has its value there
+  pub place_at : (es : List (List ℕ × V)) (i : ℕ) → IsAt bytes_cmp k es i → IsPlaceOf k es i
+  place_at es i a d = (sym (slice_cmp-IsAntisymmetric nat_cmp-IsAntisymmetric k _ (tied_at es i d a)), find_at bytes_cmp k es i d a)
+
   -- a key that stands at a place is found there
   pub place_is : (es : List (List ℕ × V)) (i : ℕ) → IsTrue (is_sorted bytes_cmp es) → i < length es → ((d : List ℕ × V) → bytes_cmp (get_or es i d).0 k ≡ Equal) → IsPlaceOf k es i
-  place_is es i s lt tied d =
-      let a = (search_finds bytes_cmp nat_list_cmp_total k es (Ok i) s lt tied).0 in
-      (sym (slice_cmp-IsAntisymmetric nat_cmp-IsAntisymmetric k _ (tied_at es i d a)), find_at bytes_cmp k es i d a)
+  place_is es i s lt tied = place_at es i (search_finds bytes_cmp nat_list_cmp_total k es (Ok i) s lt tied).0
 
   -- what an answer of the search says
   pub places : (es : List (List ℕ × V)) (r : Result ℕ ℕ) → IsTrue (is_sorted bytes_cmp es) → IsSearchInRange r (length es) → IsBinarySearchResult (λ (e : List ℕ × V). bytes_cmp e.0 k) es r

@@ -7,16 +7,34 @@ ghost use Rattle.path_maps.specs.Folders.{IsPlaceOf};
 ghost use Rattle.path_maps.specs.PathMaps.{AreRanks, bytes_cmp};
 
 use crate::stores::{NameMap, RankMap};
-use byte_strings::Bytes;
+use byte_strings::{Bytes, order};
+use std::cmp::Ordering;
 
 // Where a key of these bytes stands, or as an error where it would stand. O(log n), without memory.
+fn search<V>(pairs: &[(Bytes, V)], key: &[u8]) -> Result<usize, usize>
+    requires sorted { IsTrue (is_sorted bytes_cmp pairs.now) }
+    ensures within { IfOk result (λ at. at < length pairs.now) }
+    ensures found { IfOk result (IsPlaceOf key.now pairs.now) }
+    ensures absent { IfErr result (λ _. find bytes_cmp key.now pairs.now ≡ None) }
+{
+    pairs.binary_search_by(|pair| order(pair.0.as_slice(), key))
+}
+
+// The same; at the last pair or behind it a comparison alone.
 fn place_of<V>(pairs: &[(Bytes, V)], key: &[u8]) -> Result<usize, usize>
     requires sorted { IsTrue (is_sorted bytes_cmp pairs.now) }
     ensures within { IfOk result (λ at. at < length pairs.now) }
     ensures found { IfOk result (IsPlaceOf key.now pairs.now) }
     ensures absent { IfErr result (λ _. find bytes_cmp key.now pairs.now ≡ None) }
 {
-    pairs.binary_search_by(|pair| pair.0.as_slice().cmp(&key))
+    let Some((last, before)) = pairs.split_last() else {
+        return Err(0);
+    };
+    match order(last.0.as_slice(), key) {
+        Ordering::Less => Err(pairs.len()),
+        Ordering::Equal => Ok(before.len()),
+        Ordering::Greater => search(pairs, key),
+    }
 }
 
 // The pair at a key of these bytes. O(log n), without memory.

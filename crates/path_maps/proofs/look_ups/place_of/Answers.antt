@@ -1,12 +1,22 @@
-use Rattle.std.proofs.Common.{rules}
-use Rattle.std.proofs.lemmas.Fn.{always_returns_same}
+use Rattle.std.proofs.Common.{length, sym, ap, ◌∙◌}
+use Rattle.std.specs.Cmp.Lexicographic.{nat_list_cmp_total}
+use Rattle.sorted_pairs.specs.PlaceLaws.{find_gap}
+use Rattle.sorted_pairs.specs.SearchLaws.{behind_last, last_has}
 use Rattle.path_maps.specs.PathMaps.{bytes_cmp}
-use Rattle.path_maps.proofs.Searches.{places}
+use Rattle.path_maps.proofs.Searches.{place_at}
 use Rattle.path_maps.proofs.look_ups.place_of.Goals as goal
 
-pub returns : goal.returns
-returns g c =
+pub returns-in-Less-clause-absent : goal.returns-in-Less-clause-absent
+returns-in-Less-clause-absent g c =
     let key = c.args.key.now in
-    let by_key = c.binary_search_by.ensures.position (λ pair. bytes_cmp pair.0 key) (always_returns_same _ _ _ (λ a r f called. (search rules, search rules))) in
-    let found = places key c.args.pairs.now c.binary_search_by.result c.requires.sorted c.binary_search_by.ensures.bound by_key in
-    record { within = found.0; found = found.1; absent = found.2 }
+    let pairs = c.args.pairs.now in
+    let tied = ap (λ bytes. bytes_cmp bytes key) (sym c.as_slice.ensures.bytes) ∙ sym c.order.ensures.order in
+    let gap = behind_last bytes_cmp nat_list_cmp_total key pairs _ _ c.in-Some.ensures.cases.0 c.requires.sorted (tied ∙ c.in-Less.is) in
+    find_gap bytes_cmp key nat_list_cmp_total pairs (length pairs) c.requires.sorted gap
+
+pub returns-in-Equal-clause-found : goal.returns-in-Equal-clause-found
+returns-in-Equal-clause-found g c =
+    let key = c.args.key.now in
+    let pairs = c.args.pairs.now in
+    let tied = ap (λ bytes. bytes_cmp bytes key) (sym c.as_slice.ensures.bytes) ∙ sym c.order.ensures.order in
+    place_at key pairs _ (last_has bytes_cmp nat_list_cmp_total key pairs _ _ c.in-Some.ensures.cases.0 c.requires.sorted (tied ∙ c.in-Equal.is))
