@@ -8,7 +8,8 @@ use crate::joins::{are_same, byte, joined, told, versioned};
 use join_law::{Join, JoinMap, Versioned};
 use std::alloc::Global;
 
-type Numbers = JoinMap<u8, Versioned<u8>>;
+/// A map from numbers to numbers with versions.
+pub type Numbers = JoinMap<u8, Versioned<u8>>;
 
 type Tree = JoinMap<u8, JoinMap<u8, Numbers>>;
 
@@ -25,8 +26,8 @@ pub fn answer(alloc: Global, words: &mut Words) -> Result<Vec<u8>, CallFault> {
     }
 }
 
-// A word as a map.
-fn map_of(alloc: Global, word: &[u8]) -> Result<Numbers, CallFault> {
+/// A word as a map.
+pub fn map_of(alloc: Global, word: &[u8]) -> Result<Numbers, CallFault> {
     let mut map = JoinMap::new(alloc);
     if word == b"none".as_slice() {
         return Ok(map);
@@ -62,8 +63,8 @@ fn append_pair(
     Ok(())
 }
 
-// A map, as words write it.
-fn map_text(alloc: Global, map: &Numbers) -> Result<Vec<u8>, CallFault> {
+/// A map, as words write it.
+pub fn map_text(alloc: Global, map: &Numbers) -> Result<Vec<u8>, CallFault> {
     let mut out = Vec::new(alloc);
     for (key, value) in map.pairs() {
         append_pair(

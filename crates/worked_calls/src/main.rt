@@ -1,9 +1,11 @@
 //! Works calls of the libraries: reads a call a line from standard input, and writes each line behind it with its answer.
 //!
 //! A line is a subject, a call and its words, parted by spaces. Lines that are empty or begin with `#` are repeated
-//! as they are. `stdin` has the calls, and `stdout` what each must answer; the gate compares the two.
+//! as they are. A call that is refused memory is answered by `memory`. `stdin` has the calls, and `stdout` what each
+//! must answer; the gate compares the two.
 #![tactic(auto)]
 
+mod again;
 mod calls;
 mod choices;
 mod contents;
@@ -35,6 +37,7 @@ fn answer(alloc: Global, line: &[u8]) -> Result<Vec<u8>, CallFault> {
     let (subject, rest) = cut_word(line).ok_or(CallFault::Line)?;
     let mut words = Words::new(alloc, rest);
     match subject {
+        b"again" => again::answer(alloc, &mut words),
         b"path" => paths::answer(alloc, &mut words),
         b"name" => names::answer(alloc, &mut words),
         b"section" => sections::answer(alloc, &mut words),
@@ -54,7 +57,7 @@ fn answer(alloc: Global, line: &[u8]) -> Result<Vec<u8>, CallFault> {
     }
 }
 
-// Writes a line, and behind it its answer if it is a call.
+// Writes a line, and behind it its answer if it is a call; `memory` where that was refused.
 fn append_line(alloc: Global, out: &mut Vec<u8>, line: &[u8]) -> Result<(), AllocError> {
     out.extend_from_slice(line)?;
     if !is_passed_over(line) {
@@ -62,7 +65,7 @@ fn append_line(alloc: Global, out: &mut Vec<u8>, line: &[u8]) -> Result<(), Allo
         match answer(alloc, line) {
             Ok(text) => out.extend_from_slice(&text)?,
             Err(CallFault::Line) => out.extend_from_slice(b"no such call")?,
-            Err(CallFault::Memory) => return Err(AllocError),
+            Err(CallFault::Memory) => out.extend_from_slice(b"memory")?,
         }
     }
     out.push(b'\n')?;

@@ -32,14 +32,14 @@ pub fn answer_digest(alloc: Global, words: &mut Words) -> Result<Vec<u8>, CallFa
     }
 }
 
-// The piece of edits that words write, up to the word `+` or to the end.
-fn piece(alloc: Global, words: &mut Words) -> Result<Piece, CallFault> {
+/// The piece of edits that words write, up to the word `+` or to the end.
+pub fn piece(alloc: Global, words: &mut Words) -> Result<Piece, CallFault> {
     let edits = edits(alloc, words)?;
     Ok(Piece::from_edits(alloc, &edits)?)
 }
 
-// A replica that took the piece of edits that words write.
-fn holder(alloc: Global, words: &mut Words) -> Result<Replica, CallFault> {
+/// A replica that took the piece of edits that words write.
+pub fn holder(alloc: Global, words: &mut Words) -> Result<Replica, CallFault> {
     let mut replica = Replica::new(alloc, 9);
     took(&mut replica, piece(alloc, words)?)?;
     Ok(replica)
@@ -56,8 +56,8 @@ fn asked(alloc: Global, words: &mut Words) -> Result<Digest, CallFault> {
     Ok(digest(alloc, &replica)?)
 }
 
-// How many paths a piece carries, and what it carries.
-fn counted(alloc: Global, piece: &Piece) -> Result<Vec<u8>, CallFault> {
+/// How many paths a piece carries, and what it carries.
+pub fn counted(alloc: Global, piece: &Piece) -> Result<Vec<u8>, CallFault> {
     let mut out = Vec::new(alloc);
     append_piece(alloc, &mut out, piece)?;
     Ok(out)
@@ -82,8 +82,8 @@ fn split(alloc: Global, words: &mut Words) -> Result<Vec<u8>, CallFault> {
     }
 }
 
-// Two pieces.
-fn parts(alloc: Global, first: &Piece, second: &Piece) -> Result<Vec<u8>, CallFault> {
+/// Two pieces.
+pub fn parts(alloc: Global, first: &Piece, second: &Piece) -> Result<Vec<u8>, CallFault> {
     let mut out = counted(alloc, first)?;
     out.extend_from_slice(b" | ")?;
     append_piece(alloc, &mut out, second)?;

@@ -42,8 +42,13 @@ fn swept(alloc: Global, words: &mut Words) -> Result<Vec<u8>, CallFault> {
         replicas.push(replica(alloc, writer, words)?)?;
     }
     sweep(&mut replicas)?;
+    replicas_told(alloc, &replicas)
+}
+
+/// Each replica with its writer and what it holds.
+pub fn replicas_told(alloc: Global, replicas: &[Replica]) -> Result<Vec<u8>, CallFault> {
     let mut out = Vec::new(alloc);
-    append_replicas(alloc, &mut out, &replicas)?;
+    append_replicas(alloc, &mut out, replicas)?;
     Ok(out)
 }
 

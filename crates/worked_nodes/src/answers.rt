@@ -8,7 +8,7 @@ use crate::steps::step;
 use crate::threads::{plan_of, work_threads};
 use crate::words::{LineFault, Words};
 use node_histories::NodeName;
-use replica_store::Replica;
+use replica_store::{Replica, Store};
 use script_words::{cut_line, is_passed_over};
 use shared_node::{Blank, BlankFault, Node};
 use std::alloc::{AllocError, Global};
@@ -60,15 +60,50 @@ fn work_node<N: NodeName, R: Wait>(
     Ok(bench.out)
 }
 
-// What a line of a node answers.
+// Does what a line says at the node of this blank, under a name of its own.
+fn work_blank<R: Wait>(
+    rt: &R,
+    alloc: Global,
+    blank: Blank,
+    words: &mut Words,
+) -> Result<Vec<u8>, LineFault> {
+    work_node::<Brand, R>(rt, alloc, blank, words)
+}
+
+// What a line of a node over this replica answers. A blank that is refused memory is made again, of what comes back.
+fn answer_over<R: Wait>(
+    rt: &R,
+    alloc: Global,
+    replica: Replica,
+    seats: usize,
+    words: &mut Words,
+) -> Result<Vec<u8>, LineFault> {
+    let rest = match Blank::new(rt, replica, seats) {
+        Ok(blank) => return work_blank(rt, alloc, blank, words),
+        Err(BlankFault::Seats) => return Ok(Vec::from_slice(alloc, b"\n  A1 Seats")?),
+        Err(BlankFault::Memory(rest)) => rest,
+    };
+    let mut out = Vec::from_slice(alloc, b"\n  no blank: out of memory")?;
+    match Blank::new(rt, rest, seats) {
+        Ok(blank) => out.extend_from_slice(&work_blank(rt, alloc, blank, words)?)?,
+        Err(_) => return Err(LineFault::Memory),
+    }
+    Ok(out)
+}
+
+// What a line of a node over nothing answers.
 fn answer_node<R: Wait>(rt: &R, alloc: Global, words: &mut Words) -> Result<Vec<u8>, LineFault> {
     let replica = Replica::new(alloc, words.writer()?);
     let seats = words.place()?;
-    match Blank::new(rt, replica, seats) {
-        Ok(blank) => work_node::<Brand, R>(rt, alloc, blank, words),
-        Err(BlankFault::Seats) => Ok(Vec::from_slice(alloc, b"\n  A1 Seats")?),
-        Err(BlankFault::Memory(_)) => Err(LineFault::Memory),
-    }
+    answer_over(rt, alloc, replica, seats, words)
+}
+
+// What a line of a node over one edit answers.
+fn answer_held<R: Wait>(rt: &R, alloc: Global, words: &mut Words) -> Result<Vec<u8>, LineFault> {
+    let writer = words.writer()?;
+    let seats = words.place()?;
+    let store = Store::from_edits(alloc, &words.edits()?)?;
+    answer_over(rt, alloc, Replica::from_store(writer, store), seats, words)
 }
 
 // What a line of threads answers.
@@ -98,6 +133,7 @@ fn answer<R: Threads + Wait + Clock + Sync>(
     let mut words = Words::new(alloc, line);
     match words.word()? {
         b"node" => answer_node(rt, alloc, &mut words),
+        b"over" => answer_held(rt, alloc, &mut words),
         b"threads" => answer_threads(rt, alloc, &mut words),
         b"crowd" => answer_crowd(rt, alloc, &mut words),
         b"meet" => answer_meeting(rt, alloc, &mut words),
@@ -105,7 +141,7 @@ fn answer<R: Threads + Wait + Clock + Sync>(
     }
 }
 
-// Writes a line, and below it its answers if it is a node.
+// Writes a line, and below it its answers if it is one of those above; `memory` where that was refused.
 fn append_line<R: Threads + Wait + Clock + Sync>(
     rt: &R,
     alloc: Global,
@@ -117,7 +153,7 @@ fn append_line<R: Threads + Wait + Clock + Sync>(
         match answer(rt, alloc, line) {
             Ok(text) => out.extend_from_slice(&text)?,
             Err(LineFault::Words) => out.extend_from_slice(b"\n  no such line")?,
-            Err(LineFault::Memory) => return Err(AllocError),
+            Err(LineFault::Memory) => out.extend_from_slice(b"\n  memory")?,
         }
     }
     Ok(out.push(b'\n')?)

@@ -2,7 +2,7 @@
 use crate::bench::{Bench, store_text};
 use crate::words::LineFault;
 use node_histories::NodeName;
-use shared_node::{CloseFault, Closed, Node, Seat};
+use shared_node::{CloseCause, CloseFault, Closed, Node, Seat};
 use std::alloc::Global;
 use std::sync::Wait;
 
@@ -31,8 +31,8 @@ fn tell_refused<N: NodeName>(bench: &mut Bench<N>, fault: &CloseFault<N>) -> Res
     bench.tell(text.as_str())
 }
 
-// Closes a node with these seats.
-fn close_with<N: NodeName, R: Wait>(
+// Closes a node with these seats, for the last time that this is tried.
+fn close_at_last<N: NodeName, R: Wait>(
     rt: &R,
     node: Node<N>,
     bench: &mut Bench<N>,
@@ -51,6 +51,26 @@ fn close_with<N: NodeName, R: Wait>(
             told
         }
     }
+}
+
+// Closes a node with these seats; where memory is refused, again with what comes back.
+fn close_with<N: NodeName, R: Wait>(
+    rt: &R,
+    node: Node<N>,
+    bench: &mut Bench<N>,
+    seats: Vec<Seat<N>>,
+) -> Result<(), LineFault> {
+    let fault = match node.close(rt, seats) {
+        Ok(closed) => return tell_closed(bench, &closed),
+        Err(fault) => fault,
+    };
+    let told = tell_refused(bench, &fault);
+    let CloseFault { node, seats, cause } = fault;
+    if told.is_err() || cause != CloseCause::Memory {
+        node.end(rt);
+        return told;
+    }
+    close_at_last(rt, node, bench, seats)
 }
 
 /// Closes a node with all seats of the bench.

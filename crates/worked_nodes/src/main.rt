@@ -3,8 +3,9 @@
 //!
 //! A line is `node WRITER SEATS`, and behind it steps: `seat`, `edit SEAT PATH TEXT`,
 //! `absorb SEAT PATH COUNTER WRITER TEXT`, `learn SEAT`, `view SEAT`, `serve SEAT PATH TEXT`, `short`. At the end the
-//! node
-//! is closed with all its seats; behind `short` first without the last.
+//! node is closed with all its seats; behind `short` first without the last. `over WRITER SEATS PATH COUNTER WRITER TEXT`
+//! is such a node over a replica that holds one edit. A blank and a close that are refused memory are tried once more,
+//! with what comes back.
 //!
 //! Or it is `threads WRITER WRITERS EDITS READERS VIEWS`: so many seats edit, each at its own path, beside others that
 //! view, each in a thread of its own; each view is compared with the number of takes that it shows.
@@ -12,6 +13,7 @@
 //! Or it is `crowd WRITER SEATS EDITS`, a crowd at a node over nothing; or `meet WRITER`, a crowd of two workers with an
 //! edit each, who wait for one another before that.
 //!
+//! A line whose words or answers are refused memory is answered by `memory`; what a node answers then is an answer.
 //! Lines that are empty or begin with `#` are repeated as they are. `stdin` has the lines, and `stdout` what each must
 //! answer; the gate compares the two.
 #![tactic(auto)]

@@ -3,8 +3,6 @@ use crate::bench::{Bench, store_text};
 use crate::words::{LineFault, Words};
 use crossbeam_channel::{Receiver, unbounded};
 use delta_pieces::Piece;
-use edit_sums::Edit;
-use join_law::Version;
 use node_histories::NodeName;
 use shared_node::{Message, Node, Seat, serve};
 use std::alloc::Global;
@@ -57,7 +55,7 @@ fn edit<N: NodeName, R: Wait>(
     let path = words.path()?;
     let content = words.file()?;
     let Some(mut seat) = bench.lend(place) else {
-        return Err(LineFault::Words);
+        return bench.tell("no seat");
     };
     let taken = node.edit(rt, &mut seat, path, content);
     bench.put_back(place, seat);
@@ -72,19 +70,7 @@ fn edit<N: NodeName, R: Wait>(
 
 // The piece of one edit that the words write.
 fn piece(alloc: Global, words: &mut Words) -> Result<Piece, LineFault> {
-    let path = words.path()?;
-    let counter = words.number()?;
-    let writer = words.writer()?;
-    let content = words.file()?;
-    let version = Version { counter, writer };
-    let edit = Edit {
-        path,
-        version,
-        content,
-    };
-    let mut edits = Vec::new(alloc);
-    edits.push(edit)?;
-    Ok(Piece::from_edits(alloc, &edits)?)
+    Ok(Piece::from_edits(alloc, &words.edits()?)?)
 }
 
 // Absorbs a piece from a seat.
@@ -97,7 +83,7 @@ fn absorb<N: NodeName, R: Wait>(
     let place = words.place()?;
     let piece = piece(bench.alloc, words)?;
     let Some(mut seat) = bench.lend(place) else {
-        return Err(LineFault::Words);
+        return bench.tell("no seat");
     };
     let taken = node.absorb(rt, &mut seat, piece);
     bench.put_back(place, seat);
@@ -113,8 +99,12 @@ fn absorb<N: NodeName, R: Wait>(
 // A seat learns the last token.
 fn learn<N: NodeName>(bench: &mut Bench<N>, words: &mut Words) -> Result<(), LineFault> {
     let place = words.place()?;
-    let (Some(mut seat), Some(told)) = (bench.lend(place), bench.told.take()) else {
-        return Err(LineFault::Words);
+    let Some(mut seat) = bench.lend(place) else {
+        return bench.tell("no seat");
+    };
+    let Some(told) = bench.told.take() else {
+        bench.put_back(place, seat);
+        return bench.tell("no token");
     };
     seat.learn(&told);
     let seen = seat.takes();
@@ -127,7 +117,7 @@ fn learn<N: NodeName>(bench: &mut Bench<N>, words: &mut Words) -> Result<(), Lin
 fn view<N: NodeName>(bench: &mut Bench<N>, words: &mut Words) -> Result<(), LineFault> {
     let place = words.place()?;
     let Some(seat) = bench.lend(place) else {
-        return Err(LineFault::Words);
+        return bench.tell("no seat");
     };
     let view = match seat.view() {
         Ok(view) => view,
@@ -193,7 +183,7 @@ fn work_inbox<N: NodeName, R: Wait>(
     let place = words.place()?;
     let inbox = inbox(rt, bench.alloc, words)?;
     let Some(mut seat) = bench.lend(place) else {
-        return Err(LineFault::Words);
+        return bench.tell("no seat");
     };
     let served = serve_from(rt, node, &mut seat, bench, &inbox);
     bench.put_back(place, seat);

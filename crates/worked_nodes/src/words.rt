@@ -1,5 +1,6 @@
 //! The words of a line.
-use edit_sums::{Content, ContentFault};
+use edit_sums::{Content, ContentFault, Edit};
+use join_law::Version;
 use load_path::{Path, PathFault};
 use script_words::{cut_word, unescape};
 use std::alloc::{AllocError, AllocFailed, Global};
@@ -78,6 +79,21 @@ impl<'a> Words<'a> {
             Err(PathFault::Memory) => Err(LineFault::Memory),
             Err(_) => Err(LineFault::Words),
         }
+    }
+
+    /// The next words as one edit: a path, a counter, a writer and the content of a file.
+    pub fn edits(&mut self) -> Result<Vec<Edit>, LineFault> {
+        let path = self.path()?;
+        let counter = self.number()?;
+        let writer = self.writer()?;
+        let content = self.file()?;
+        let mut edits = Vec::new(self.alloc);
+        edits.push(Edit {
+            path,
+            version: Version { counter, writer },
+            content,
+        })?;
+        Ok(edits)
     }
 
     /// The next word as the content of a file.

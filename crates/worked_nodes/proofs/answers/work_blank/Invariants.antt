@@ -1,5 +1,5 @@
-use Rattle.worked_nodes.proofs.answers.answer_node.Given as goal
+use Rattle.worked_nodes.proofs.answers.work_blank.Given as goal
 
--- the blank that was just made
+-- the blank itself
 abbrev pub ghosts-work_node : goal.ghosts-work_node
 ghosts-work_node g a = record { book = a.blank.book; seats = a.blank.seats; opening = a.blank.opening }

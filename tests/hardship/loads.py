@@ -1,0 +1,65 @@
+"""Loads and graphs of stores that are refused memory: the lines of worked_loads."""
+from cases import Case
+from lines import answers_below, is_silent, name_of
+from programs import first_line, refused_in_turn
+
+PROGRAM = "worked_loads"
+REFUSED = b"out of memory"
+
+
+def workers_of(answer):
+    """The words in front of an answer that is one of workers; none at any other."""
+    words, found, _ = answer.partition(b" workers: ")
+    return words + found if found else None
+
+
+def is_right(answer, said):
+    """Whether a line is the right one, or says of workers that they were refused memory."""
+    workers = workers_of(answer)
+    return said == answer or (workers is not None and said == workers + REFUSED)
+
+
+def is_load_of_workers(answer, said):
+    """Whether a line on workers is right where the load by one thread was refused: there was none to compare with."""
+    workers = workers_of(answer)
+    return said in (answer, workers + b"a load") and not said.endswith(b"the same")
+
+
+def is_allowed(answers, said):
+    """Whether these lines are the right ones, or say where memory was refused."""
+    if said == [b"memory"]:
+        return True
+    if said and said[0] == REFUSED:
+        of_workers = [answer for answer in answers if workers_of(answer) is not None]
+        return len(of_workers) == len(said) - 1 and all(map(is_load_of_workers, of_workers, said[1:]))
+    return len(said) == len(answers) and all(map(is_right, answers, said))
+
+
+def judge(tally, place, run, line, answers):
+    """Whether a run gave the right answers, or said that memory was refused."""
+    tally.note(run)
+    told = run.answers.split(b"\n")
+    said = [text[2:] for text in told[1:-1]]
+    is_told = run.status == 0 and told[0] == line and told[-1] == b""
+    if is_told and said == answers:
+        tally.whole += bool(run.refusals)
+    elif run.refusals and is_told and is_allowed(answers, said):
+        tally.told += 1
+    elif is_silent(run):
+        tally.told += 1
+    else:
+        tally.wrong(place, f"status {run.status}: {said[:3]} {first_line(run.answers)}")
+
+
+def once(bench, tally, line, answers):
+    """One request is refused."""
+    for number, run in refused_in_turn(bench, PROGRAM, line + b"\n"):
+        judge(tally, f"request {number}", run, line, answers)
+
+
+def cases():
+    """All lines but those at whose gate two workers wait for one another."""
+    for line, answers in answers_below(PROGRAM):
+        call = line.split(b" ", 1)[0].decode()
+        if call != "meet":
+            yield Case(f"loads: {call}", name_of(line), once, (line, answers), weight=100)

@@ -1,0 +1,157 @@
+"""Running nodes that are refused memory: the lines of worked_nodes."""
+from cases import Case
+from lines import answers_below, is_silent, name_of
+from node_model import Wrong
+from node_steps import walk
+from programs import first_line, refused_in_turn
+
+PROGRAM = "worked_nodes"
+X, Y, Z = (f"/etc/systemd/system/{name}" for name in "xyz")
+
+# Lines, and what each answers where something is refused at each answer that says so, and nowhere else. A node takes
+# memory to publish only until it has published once, so of the takes of a line the first alone can be pending.
+WANTED = (
+    # The edit is accepted and not shown. The next one publishes it first. A close that is refused is made again.
+    (
+        f"node 7 1 seat edit 0 {X} A view 0 edit 0 {Y} B view 0 absorb 0 {Z} 9 3 C view 0",
+        [
+            "seat 0",
+            "A3 Pending 1.7",
+            "takes 0",
+            "ok 2.7",
+            "takes 2 x 1.7 y 2.7",
+            "changed 1",
+            "takes 3 x 1.7 y 2.7 z 9.3",
+            "out of memory",
+            "closed takes 3 x 1.7 y 2.7 z 9.3",
+        ],
+    ),
+    # The same of a piece, which the close publishes, at the second time.
+    (
+        f"node 7 1 seat absorb 0 {Z} 9 3 C view 0",
+        ["seat 0", "A3 Pending", "takes 0", "out of memory", "closed takes 1 z 9.3"],
+    ),
+    # What is pending isn't published where that is refused once more, and what came then isn't accepted.
+    (
+        f"node 7 1 seat edit 0 {X} A absorb 0 {Y} 9 3 B view 0 absorb 0 {Z} 9 3 C view 0",
+        [
+            "seat 0",
+            "A3 Pending 1.7",
+            "out of memory",
+            "takes 0",
+            "changed 1",
+            "takes 2 x 1.7 z 9.3",
+            "closed takes 2 x 1.7 z 9.3",
+        ],
+    ),
+    # An inbox with one edit, which the close publishes.
+    (
+        f"node 7 1 seat serve 0 {X} A view 0",
+        ["seat 0", "answered 0", "pending 1", "refused 0", "takes 0", "closed takes 1 x 1.7"],
+    ),
+    # A blank that is refused is made of the replica that comes back.
+    (
+        f"over 7 1 {X} 4 9 A seat edit 0 {Y} B",
+        ["no blank: out of memory", "seat 0", "ok 5.7", "closed takes 1 x 4.9 y 5.7"],
+    ),
+)
+
+# The line at which each two requests are refused, and its answers where none is.
+PAIRS = (
+    f"node 7 1 seat edit 0 {X} A absorb 0 {Z} 9 3 C view 0",
+    ["seat 0", "ok 1.7", "changed 1", "takes 2 x 1.7 z 9.3", "closed takes 2 x 1.7 z 9.3"],
+)
+
+
+def said_of(line, run):
+    """The answers to a line; None where something else was written."""
+    told = run.answers.decode().split("\n")
+    if run.status != 0 or told[0] != line or told[-1] != "":
+        return None
+    return [text[2:] for text in told[1:-1]]
+
+
+def judge(tally, place, run, line, answers):
+    """Whether a run gave the right answers, or those of a node that was refused memory."""
+    tally.note(run)
+    said = said_of(line, run)
+    if said == answers:
+        tally.whole += bool(run.refusals)
+    elif is_silent(run) or (run.refusals and said == ["memory"]):
+        tally.told += 1
+    elif run.refusals and said is not None and line.split()[0] in ("node", "over"):
+        judge_steps(tally, place, line, said, run.refusals)
+    else:
+        tally.wrong(place, f"status {run.status}: {said} {first_line(run.answers)}")
+
+
+def judge_steps(tally, place, line, said, refusals):
+    """Whether a node that was refused memory at a step may give these answers."""
+    try:
+        walk(line, said, refusals)
+        tally.again += 1
+    except Wrong as fault:
+        tally.wrong(place, f"{fault}: {said}")
+
+
+def once(bench, tally, line, answers):
+    """One request is refused."""
+    for number, run in refused_in_turn(bench, PROGRAM, (line + "\n").encode()):
+        judge(tally, f"request {number}", run, line, answers)
+
+
+def twice(bench, tally, line, answers):
+    """Each two requests are refused."""
+    text = (line + "\n").encode()
+    requests = bench.run(PROGRAM, text).requests
+    for first in range(1, requests + 1):
+        for second in range(first + 1, requests + 3):
+            run = bench.run(PROGRAM, text, REFUSE_MEMORY=f"{first},{second}")
+            judge(tally, f"requests {first}, {second}", run, line, answers)
+
+
+def refused_steps(wanted):
+    """The places of the answers at which something was refused."""
+    words = ("A3 Pending", "pending 1", "out of memory", "no blank")
+    return [place for place, answer in enumerate(wanted) if answer.startswith(words)]
+
+
+def exactly(bench, tally, line, wanted):
+    """Finds one request after another whose refusal gives these answers, so far as the next one goes."""
+    text, refused = (line + "\n").encode(), []
+    for place in refused_steps(wanted):
+        number = next_refusal(bench, tally, line, wanted[: place + 1], refused)
+        if number is None:
+            tally.wrong(f"behind requests {refused}", f"no refusal gives {wanted[place]!r}")
+            return
+        refused.append(number)
+    run = bench.run(PROGRAM, text, REFUSE_MEMORY=",".join(map(str, refused)))
+    tally.note(run)
+    if said_of(line, run) != wanted:
+        tally.wrong(f"requests {refused}", f"{said_of(line, run)}")
+
+
+def next_refusal(bench, tally, line, front, refused):
+    """The least request behind those refused whose refusal gives answers with this front."""
+    text = (line + "\n").encode()
+    first = refused[-1] + 1 if refused else 1
+    requests = bench.run(PROGRAM, text, REFUSE_MEMORY=",".join(map(str, refused))).requests
+    for number in range(first, requests + 1):
+        run = bench.run(PROGRAM, text, REFUSE_MEMORY=",".join(map(str, [*refused, number])))
+        tally.note(run)
+        said = said_of(line, run)
+        if said is not None and said[: len(front)] == front:
+            return number
+    return None
+
+
+def cases():
+    """The lines, but those of many threads and of a meeting; and what takes several refusals."""
+    for line, answers in answers_below(PROGRAM):
+        call = line.split(b" ", 1)[0].decode()
+        if call not in ("threads", "meet"):
+            words = (line.decode(), [answer.decode() for answer in answers])
+            yield Case(f"nodes: {call}", name_of(line), once, words, weight=100)
+    for line, wanted in WANTED:
+        yield Case("nodes: publishes refused", name_of(line.encode()), exactly, (line, wanted), weight=200)
+    yield Case("nodes: two requests refused", name_of(PAIRS[0].encode()), twice, PAIRS, weight=5_000)

@@ -1,0 +1,189 @@
+// refuse.c: stands between a program and the C library, and refuses what the environment names.
+//
+// It is preloaded. It counts the requests for memory that the program makes, starts of threads among them, its reads
+// of standard input and its writes to standard output, each from 1 on, over all threads. A list of numbers is `3`,
+// `3,8` or `3-`, which is 3 and all behind it.
+//
+//     REFUSE_MEMORY=LIST      these requests are refused
+//     FAIL_READS=LIST         these reads fail
+//     INTERRUPT_READS=NUMBER  each read whose number it divides is interrupted
+//     SHORT_READS=1           each read gives a byte at most
+//     FAIL_WRITES=LIST        these writes fail
+//     INTERRUPT_WRITES=LIST   these writes are interrupted
+//     EMPTY_WRITES=LIST       these writes take no byte
+//     SHORT_WRITES=1          each write takes a byte at most
+//     HARDSHIP_COUNTS=FILE    the counts stand in this file: requests, refusals, reads, writes, as numbers of 8 bytes
+//
+// Other descriptors are passed on as they are, so that standard error can say what went wrong.
+#define _GNU_SOURCE
+#include <dlfcn.h>
+#include <errno.h>
+#include <fcntl.h>
+#include <pthread.h>
+#include <stdatomic.h>
+#include <stdbool.h>
+#include <stdint.h>
+#include <stdlib.h>
+#include <string.h>
+#include <sys/mman.h>
+#include <sys/syscall.h>
+#include <unistd.h>
+
+enum { MOST = 64 };
+
+// Numbers that are refused: some, and all from one on.
+struct list {
+    uint64_t numbers[MOST];
+    int length;
+    uint64_t from;
+};
+
+struct counts {
+    _Atomic uint64_t requests;
+    _Atomic uint64_t refusals;
+    _Atomic uint64_t reads;
+    _Atomic uint64_t writes;
+};
+
+static struct list refused_memory;
+static struct list failed_reads;
+static struct list failed_writes;
+static struct list interrupted_writes;
+static struct list empty_writes;
+static uint64_t interrupted_each;
+static bool reads_are_short;
+static bool writes_are_short;
+
+static struct counts own_counts;
+static struct counts *counts = &own_counts;
+static bool is_counting;
+
+static void *(*next_malloc)(size_t);
+static void *(*next_realloc)(void *, size_t);
+static int (*next_create)(pthread_t *, const pthread_attr_t *, void *(*)(void *), void *);
+
+// Reads a list of numbers.
+static void read_list(struct list *list, const char *name) {
+    const char *text = getenv(name);
+    while (text && *text && list->length < MOST) {
+        char *end;
+        uint64_t number = strtoull(text, &end, 10);
+        if (*end == '-')
+            list->from = number;
+        else
+            list->numbers[list->length++] = number;
+        text = *end ? end + 1 : end;
+    }
+}
+
+static bool has(const struct list *list, uint64_t number) {
+    for (int place = 0; place < list->length; place++)
+        if (list->numbers[place] == number)
+            return true;
+    return list->from && number >= list->from;
+}
+
+static uint64_t number_of(const char *name) {
+    const char *text = getenv(name);
+    return text ? strtoull(text, NULL, 10) : 0;
+}
+
+// Puts the counts into a file, where they can be read after the program has ended, however it ends.
+static void share_counts(const char *path) {
+    int file = open(path, O_RDWR | O_CREAT | O_TRUNC | O_CLOEXEC, 0600);
+    if (file < 0 || ftruncate(file, sizeof own_counts) != 0)
+        abort();
+    void *shared = mmap(NULL, sizeof own_counts, PROT_READ | PROT_WRITE, MAP_SHARED, file, 0);
+    if (shared == MAP_FAILED)
+        abort();
+    close(file);
+    counts = shared;
+}
+
+static void find_next(void) {
+    next_malloc = dlsym(RTLD_NEXT, "malloc");
+    next_realloc = dlsym(RTLD_NEXT, "realloc");
+    next_create = dlsym(RTLD_NEXT, "pthread_create");
+}
+
+__attribute__((constructor)) static void begin(void) {
+    find_next();
+    read_list(&refused_memory, "REFUSE_MEMORY");
+    read_list(&failed_reads, "FAIL_READS");
+    read_list(&failed_writes, "FAIL_WRITES");
+    read_list(&interrupted_writes, "INTERRUPT_WRITES");
+    read_list(&empty_writes, "EMPTY_WRITES");
+    interrupted_each = number_of("INTERRUPT_READS");
+    reads_are_short = number_of("SHORT_READS") > 0;
+    writes_are_short = number_of("SHORT_WRITES") > 0;
+    const char *path = getenv("HARDSHIP_COUNTS");
+    if (path)
+        share_counts(path);
+    is_counting = true;
+}
+
+// Counts a request, and whether it is one that is refused.
+static bool is_refused(void) {
+    if (!is_counting)
+        return false;
+    uint64_t number = atomic_fetch_add(&counts->requests, 1) + 1;
+    if (!has(&refused_memory, number))
+        return false;
+    atomic_fetch_add(&counts->refusals, 1);
+    return true;
+}
+
+void *malloc(size_t size) {
+    if (is_refused()) {
+        errno = ENOMEM;
+        return NULL;
+    }
+    if (!next_malloc)
+        find_next();
+    return next_malloc(size);
+}
+
+void *realloc(void *block, size_t size) {
+    if (is_refused()) {
+        errno = ENOMEM;
+        return NULL;
+    }
+    if (!next_realloc)
+        find_next();
+    return next_realloc(block, size);
+}
+
+int pthread_create(pthread_t *thread, const pthread_attr_t *attributes, void *(*work)(void *), void *argument) {
+    if (is_refused())
+        return EAGAIN;
+    return next_create(thread, attributes, work, argument);
+}
+
+static ssize_t fails(int reason) {
+    errno = reason;
+    return -1;
+}
+
+ssize_t read(int file, void *room, size_t size) {
+    if (file != STDIN_FILENO)
+        return syscall(SYS_read, file, room, size);
+    uint64_t number = atomic_fetch_add(&counts->reads, 1) + 1;
+    if (has(&failed_reads, number))
+        return fails(EIO);
+    if (interrupted_each && number % interrupted_each == 0)
+        return fails(EINTR);
+    return syscall(SYS_read, file, room, reads_are_short && size > 1 ? 1 : size);
+}
+
+ssize_t write(int file, const void *bytes, size_t size) {
+    if (file != STDOUT_FILENO)
+        return syscall(SYS_write, file, bytes, size);
+    uint64_t number = atomic_fetch_add(&counts->writes, 1) + 1;
+    if (has(&failed_writes, number))
+        return fails(EIO);
+    if (has(&interrupted_writes, number))
+        return fails(EINTR);
+    if (has(&empty_writes, number))
+        return 0;
+    return syscall(SYS_write, file, bytes, writes_are_short && size > 1 ? 1 : size);
+}
