@@ -1,5 +1,6 @@
 //! The answers of lines.
 use crate::edits::store_of;
+use crate::graphs::graph;
 use crate::meetings::Meeting;
 use crate::tellings::{append_load, append_looked_up, append_unit, begin};
 use crate::words::{LineFault, Words};
@@ -109,6 +110,7 @@ fn answer<R: Threads + Clock + Sync>(
 ) -> Result<Vec<u8>, LineFault> {
     let mut words = Words::new(alloc, line);
     match words.next_word().ok_or(LineFault::Words)? {
+        b"graph" => graph(alloc, &mut words),
         b"load" => load(rt, alloc, &mut words),
         b"meet" => meet(rt, alloc, &mut words),
         b"one" => one(alloc, &mut words),
@@ -116,7 +118,7 @@ fn answer<R: Threads + Clock + Sync>(
     }
 }
 
-// Writes a line, and below it its answers if it is a call.
+// Writes a line, and below it its answers if it is a call; `memory` where that was refused.
 fn append_line<R: Threads + Clock + Sync>(
     rt: &R,
     alloc: Global,
@@ -128,7 +130,7 @@ fn append_line<R: Threads + Clock + Sync>(
         match answer(rt, alloc, line) {
             Ok(text) => out.extend_from_slice(&text)?,
             Err(LineFault::Words) => out.extend_from_slice(b"\n  no such line")?,
-            Err(LineFault::Memory) => return Err(AllocError),
+            Err(LineFault::Memory) => out.extend_from_slice(b"\n  memory")?,
         }
     }
     Ok(out.push(b'\n')?)

@@ -5,6 +5,8 @@
 //! - `load WORKERS + EDITS + ASKED + LOOKED`: the load by one thread, with what it has at the names that are looked up;
 //!   then, for each number of workers, whether the load by so many is the same, or why there is none;
 //! - `meet EDITS + ASKED`: the load by two workers, at a gate where each of two pieces waits for the other;
+//! - `graph EDITS + ASKED + KINDS + NAMES`: the units of the graph of a load, and from each name the unit for which it
+//!   stands, where edges of the kinds lead in one step, what is reached over them, and how far what it pulls is;
 //! - `one EDITS + NAMES`: the unit of each name, loaded alone.
 //!
 //! An edit is `PATH=TEXT` for a file and `PATH>TARGET` for a link, its directory as `E`, `R`, `L` or `U`. In a text `\n`
@@ -14,6 +16,7 @@
 
 mod answers;
 mod edits;
+mod graphs;
 mod meetings;
 mod tellings;
 mod words;

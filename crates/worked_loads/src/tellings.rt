@@ -17,8 +17,8 @@ fn append_word(out: &mut Vec<u8>, word: &[u8]) -> Result<(), AllocError> {
     out.extend_from_slice(word)
 }
 
-// Writes names, each behind a space.
-fn append_names(out: &mut Vec<u8>, names: &[UnitName]) -> Result<(), AllocError> {
+/// Writes names, each behind a space.
+pub fn append_names(out: &mut Vec<u8>, names: &[UnitName]) -> Result<(), AllocError> {
     for name in names {
         append_word(out, name.bytes())?;
     }
@@ -65,8 +65,8 @@ fn append_paths(out: &mut Vec<u8>, paths: &[Path]) -> Result<(), AllocError> {
     Ok(())
 }
 
-// Writes what stands for a unit.
-fn append_status(alloc: Global, out: &mut Vec<u8>, status: &Status) -> Result<(), AllocError> {
+/// Writes what stands for a unit.
+pub fn append_status(alloc: Global, out: &mut Vec<u8>, status: &Status) -> Result<(), AllocError> {
     match status {
         Status::Loaded(path) => {
             out.extend_from_slice(b"loaded from ")?;
