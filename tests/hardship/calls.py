@@ -40,8 +40,13 @@ def replicas(call, rest, between, answer):
     words = rest if call == b"exchange" else rest.split(b" ", 1)[1]
     at_first = [part.strip() for part in words.split(b"+")]
     then, at_last = (text.split(b" | ") for text in (between, answer))
-    for three in zip(at_first, then, at_last, strict=True):
-        yield three[0], *(part.split(b" has ", 1)[1] for part in three[1:])
+    for place, text in enumerate(at_first):
+        yield (text, held(then[place]), held(at_last[place]))
+
+
+def held(replica):
+    """What a replica holds, without its writer."""
+    return replica.split(b" has ", 1)[1]
 
 
 def is_amid(before, between, after, parted):

@@ -25,7 +25,9 @@ def answers_behind(program):
     """Each call of a program's data with what it must answer, which stands behind it on its line."""
     told = read_data(program, "stdout").split(b"\n")
     asked = read_data(program, "stdin").split(b"\n")
-    for line, whole in zip(asked, told, strict=True):
+    if len(asked) != len(told):
+        raise ValueError(f"{program}: {len(asked)} lines and {len(told)} answers")
+    for line, whole in zip(asked, told):
         if not is_passed_over(line):
             yield line, whole[len(line + b" -> ") :]
 

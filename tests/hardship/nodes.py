@@ -56,10 +56,24 @@ WANTED = (
     ),
 )
 
-# The line at which each two requests are refused, and its answers where none is.
+# Lines at which each two requests are refused, and what they answer where none is.
 PAIRS = (
-    f"node 7 1 seat edit 0 {X} A absorb 0 {Z} 9 3 C view 0",
-    ["seat 0", "ok 1.7", "changed 1", "takes 2 x 1.7 z 9.3", "closed takes 2 x 1.7 z 9.3"],
+    (
+        f"node 7 1 seat edit 0 {X} A absorb 0 {Z} 9 3 C view 0",
+        ["seat 0", "ok 1.7", "changed 1", "takes 2 x 1.7 z 9.3", "closed takes 2 x 1.7 z 9.3"],
+    ),
+    (
+        f"node 7 1 seat serve 0 {X} A edit 0 {Y} B view 0",
+        [
+            "seat 0",
+            "answered 1",
+            "pending 0",
+            "refused 0",
+            "ok 2.7",
+            "takes 2 x 1.7 y 2.7",
+            "closed takes 2 x 1.7 y 2.7",
+        ],
+    ),
 )
 
 
@@ -154,4 +168,6 @@ def cases():
             yield Case(f"nodes: {call}", name_of(line), once, words, weight=100)
     for line, wanted in WANTED:
         yield Case("nodes: publishes refused", name_of(line.encode()), exactly, (line, wanted), weight=200)
-    yield Case("nodes: two requests refused", name_of(PAIRS[0].encode()), twice, PAIRS, weight=5_000)
+    for line, answers in PAIRS:
+        name = name_of(line.encode())
+        yield Case("nodes: two requests refused", name, twice, (line, answers), weight=5_000)

@@ -61,7 +61,7 @@ class Bench:
         """Runs a program on these bytes, with what is refused named as refuse.c names it."""
         self.give(text)
         surroundings = {"LD_PRELOAD": self.shim, "HARDSHIP_COUNTS": self.counts}
-        surroundings |= {key: str(value) for key, value in hardships.items()}
+        surroundings.update({key: str(value) for key, value in hardships.items()})
         with open(self.input, "rb") as source:
             process = subprocess.Popen(
                 [self.program(name)],
