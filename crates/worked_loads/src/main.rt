@@ -10,8 +10,8 @@
 //! - `one EDITS + NAMES`: the unit of each name, loaded alone.
 //!
 //! An edit is `PATH=TEXT` for a file and `PATH>TARGET` for a link, its directory as `E`, `R`, `L` or `U`. In a text `\n`
-//! and `\xHH` are read. Lines that are empty or begin with `#` are repeated as they are. `stdin` has the calls, and
-//! `stdout` what each must answer; the gate compares the two.
+//! and `\xHH` are read. A line that is refused memory is answered by `memory`. Lines that are empty or begin with `#` are
+//! repeated as they are. `stdin` has the calls, and `stdout` what each must answer; the gate compares the two.
 #![tactic(auto)]
 
 mod answers;
