@@ -1,11 +1,10 @@
 -- Rows that are made one by one.
-use Rattle.std.proofs.Common.{◌≡◌, ℕ, zero, suc, ◌+◌, ◌<◌, ◌≤◌, ◌⊎◌, ◌↔◌, inl, inr, Bool, List, [], ◌∷◌, ◌++◌, length, refl, ap, sym, ◌∙◌, subst, arith, length-append}
+use Rattle.std.proofs.Common.{◌≡◌, ℕ, zero, suc, ◌+◌, ◌<◌, ◌≤◌, ◌⊎◌, ◌↔◌, inl, inr, List, [], ◌∷◌, ◌++◌, length, refl, ap, sym, ◌∙◌, subst, arith, length-append}
 use Rattle.std.proofs.lemmas.Bool.{cases_eq, cases_lt}
 use Rattle.std.specs.declared.vec.Vec.{Vec}
 use Rattle.std.specs.declared.alloc.Global.{Global}
 use Rattle.list_laws.specs.Members.{IsAmong, IsAmong-append_left, IsAmong-append_right, IsAmong-append_cases}
-use Rattle.index_rows.specs.Rows.{Marked, row, AreRowsOf}
-use Rattle.index_rows.specs.ListLaws.{IsAmong-push_cases}
+use Rattle.index_rows.specs.Rows.{row, AreRowsOf}
 use Rattle.index_rows.specs.RowLaws.{row-past, AllBelow-rows}
 
 row-push_same : (rows : List (Vec ℕ Global)) (r : Vec ℕ Global) → row (rows ++ r ∷ []) (length rows) ≡ r.items
@@ -70,32 +69,3 @@ pub append_is : (v : ℕ) (xs ys zs : List ℕ) → zs ≡ xs ++ ys → IsAmong 
 append_is v xs ys zs e =
     let P : List ℕ → Type 0 = λ l. IsAmong v l ↔ (IsAmong v xs ⊎ IsAmong v ys) in
     subst P (sym e) (IsAmong-append_cases v xs ys, λ h. elim h [ inl a ↦ IsAmong-append_left v xs ys a | inr b ↦ IsAmong-append_right v xs ys b ])
-
--- the nodes kept so far
-module _ (marks : List Bool) (old nodes kept new : List ℕ) (x : ℕ) (h : (v : ℕ) → IsAmong v kept ↔ (IsAmong v old × Marked marks v)) (more : nodes ≡ old ++ x ∷ []) where
-  pub kept_more : Marked marks x → new ≡ kept ++ x ∷ [] → (v : ℕ) → IsAmong v new ↔ (IsAmong v nodes × Marked marks v)
-  kept_more m e v =
-      let P : List ℕ → Type 0 = λ l. IsAmong v l ↔ (IsAmong v nodes × Marked marks v) in
-      let Q : List ℕ → Type 0 = λ l. IsAmong v (kept ++ x ∷ []) ↔ (IsAmong v l × Marked marks v) in
-      subst P (sym e) (subst Q (sym more) (
-        λ k. elim (IsAmong-push_cases x v kept k) [
-          | inl a ↦ (let f = (h v).0 a in (IsAmong-append_left v old (x ∷ []) f.0, f.1))
-          | inr same ↦ (IsAmong-append_right v old (x ∷ []) (inl same), subst (Marked marks) same m)
-        ],
-        λ k. elim (IsAmong-push_cases x v old k.0) [
-          | inl a ↦ IsAmong-append_left v kept (x ∷ []) ((h v).1 (a, k.1))
-          | inr same ↦ IsAmong-append_right v kept (x ∷ []) (inl same)
-        ],
-      ))
-
-  pub kept_still : ¬ Marked marks x → new ≡ kept → (v : ℕ) → IsAmong v new ↔ (IsAmong v nodes × Marked marks v)
-  kept_still out e v =
-      let P : List ℕ → Type 0 = λ l. IsAmong v l ↔ (IsAmong v nodes × Marked marks v) in
-      let Q : List ℕ → Type 0 = λ l. IsAmong v kept ↔ (IsAmong v l × Marked marks v) in
-      subst P (sym e) (subst Q (sym more) (
-        λ k. (let f = (h v).0 k in (IsAmong-append_left v old (x ∷ []) f.0, f.1)),
-        λ k. elim (IsAmong-push_cases x v old k.0) [
-          | inl a ↦ (h v).1 (a, k.1)
-          | inr same ↦ absurd (out (subst (Marked marks) (sym same) k.1))
-        ],
-      ))

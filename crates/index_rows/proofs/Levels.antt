@@ -5,8 +5,6 @@ use Rattle.std.specs.List.Sorted.{IsStrictlySortedBy}
 use Rattle.std.specs.Ordering.{nat_cmp, ordering_then}
 use Rattle.std.specs.declared.cmp.Ordering.{Ordering}
 use Rattle.std.specs.declared.cmp.Ordering.TheVariants.{Less}
-use Rattle.std.specs.declared.vec.Vec.{Vec}
-use Rattle.std.specs.declared.alloc.Global.{Global}
 use Rattle.std.specs.Cmp.{nat_cmp_total}
 use Rattle.std.proofs.lemmas.Cmp.{tied_itself}
 use Rattle.std.proofs.lemmas.List.{length-replicate}
@@ -16,7 +14,7 @@ use Rattle.name_closure.specs.Chains.{IsChain, IsReached, IsDistance, IsDistance
 use Rattle.name_closure.specs.ClosureLaws.{reached_least}
 use Rattle.name_closure.specs.DistanceLaws.{one_distance}
 use Rattle.name_closure.specs.ListedLaws.{Listed, Named, named_by, names_all}
-use Rattle.index_rows.specs.Rows.{Marked, row}
+use Rattle.index_rows.specs.Rows.{Marked}
 use Rattle.index_rows.specs.ListLaws.{below_cmp}
 use Rattle.index_rows.specs.MarkLaws.{Marked-none, unset}
 use Rattle.index_rows.specs.NumberingLaws.{among_mapped, mapped_from}
@@ -45,20 +43,20 @@ IsSpread-append a b c t u v xs ys p q = record {
   sum = q.sum ∙ p.sum;
 }
 
-module _ (rows : List (Vec ℕ Global)) (sources : List ℕ) where
+module _ (count : ℕ) (next : ℕ → List ℕ) (sources : List ℕ) where
   abbrev Chain : ℕ → ℕ → Type 0
-  Chain = IsChain (Listed sources) (Named (row rows))
+  Chain = IsChain (Listed sources) (Named next)
 
   abbrev At : ℕ → ℕ → Type 0
-  At v k = IsDistance (Listed sources) (Named (row rows)) v k
+  At v k = IsDistance (Listed sources) (Named next) v k
 
   abbrev cmp : ℕ × ℕ → ℕ × ℕ → Ordering
-  cmp = distance_cmp (Listed sources) (Named (row rows)) nat_cmp
+  cmp = distance_cmp (Listed sources) (Named next) nat_cmp
 
   -- all up to this distance are marked, and those before it are listed
   pub record IsLevel (distance : ℕ) (seen : List Bool) (level : List ℕ) (pairs : List (ℕ × ℕ)) : Type 0 where
-    pub units : length seen ≡ length rows
-    pub room : distance + unset seen + length level ≤ length rows
+    pub units : length seen ≡ count
+    pub room : distance + unset seen + length level ≤ count
     pub near : (j v : ℕ) → j ≤ distance → Chain j v → Marked seen v
     pub seen_at : (v : ℕ) → Marked seen v → IsAmong v level ⊎ ((j : ℕ) × IsAmong {X = ℕ × ℕ} (j, v) pairs)
     pub level_at : (v : ℕ) → IsAmong v level → At v distance
@@ -69,20 +67,20 @@ module _ (rows : List (Vec ℕ Global)) (sources : List ℕ) where
   unset-replicate zero = refl
   unset-replicate (suc n) = ap suc (unset-replicate n)
 
-  pub IsLevel-init : (none seen : List Bool) (before level : List ℕ) (pairs : List (ℕ × ℕ)) → none ≡ replicate (length rows) false → before ≡ [] → pairs ≡ [] → IsSpread none seen before level sources → IsLevel 0 seen level pairs
+  pub IsLevel-init : (none seen : List Bool) (before level : List ℕ) (pairs : List (ℕ × ℕ)) → none ≡ replicate (count) false → before ≡ [] → pairs ≡ [] → IsSpread none seen before level sources → IsLevel 0 seen level pairs
   IsLevel-init none seen before level pairs e f g h =
-      let s : IsSpread (replicate (length rows) false) seen [] level sources = subst (λ l. IsSpread l seen [] level sources) e (subst (λ l. IsSpread none seen l level sources) f h) in
+      let s : IsSpread (replicate (count) false) seen [] level sources = subst (λ l. IsSpread l seen [] level sources) e (subst (λ l. IsSpread none seen l level sources) f h) in
       subst (IsLevel 0 seen level) (sym g) (record {
-        units = s.units ∙ length-replicate (length rows) false;
-        room = (let a = s.sum in let b = unset-replicate (length rows) in omega (arith, a, b));
+        units = s.units ∙ length-replicate (count) false;
+        room = (let a = s.sum in let b = unset-replicate (count) in omega (arith, a, b));
         near = near s;
-        seen_at = λ v m. elim (s.noted v m) [ inl k ↦ absurd (Marked-none (length rows) v k) | inr k ↦ inl k ];
+        seen_at = λ v m. elim (s.noted v m) [ inl k ↦ absurd (Marked-none (count) v k) | inr k ↦ inl k ];
         level_at = λ v k. elim (s.notes_origin v k) [ inl none' ↦ absurd none' | inr o ↦ record { chain = o.0; least = λ j c. omega arith } ];
         pair_at = λ p k. absurd k;
         rising = IsStrictlySortedBy-none cmp;
       })
     where
-      near : IsSpread (replicate (length rows) false) seen [] level sources → (j v : ℕ) → j ≤ 0 → Chain j v → Marked seen v
+      near : IsSpread (replicate (count) false) seen [] level sources → (j v : ℕ) → j ≤ 0 → Chain j v → Marked seen v
       near s zero v l c = s.all v c
       near s (suc j) v l c = absurd (omega arith)
 
@@ -121,8 +119,8 @@ module _ (rows : List (Vec ℕ Global)) (sources : List ℕ) where
     listed : ℕ → ℕ × ℕ
     listed v = (distance, v)
 
-    pub IsLevel-next : (new : List Bool) (next : List ℕ) (more : List (ℕ × ℕ)) → more ≡ pairs ++ map (λ v. (distance, v)) level → IsSpread seen new [] next (flat_map (row rows) level) → IsLevel (distance + 1) new next more
-    IsLevel-next new next more e s = subst (IsLevel (distance + 1) new next) (sym e) (record {
+    pub IsLevel-next : (new : List Bool) (further : List ℕ) (more : List (ℕ × ℕ)) → more ≡ pairs ++ map (λ v. (distance, v)) level → IsSpread seen new [] further (flat_map next level) → IsLevel (distance + 1) new further more
+    IsLevel-next new further more e s = subst (IsLevel (distance + 1) new further) (sym e) (record {
       units = s.units ∙ h.units;
       room = (let a = s.sum in let b = h.room in omega (arith, a, b, some));
       near = near;
@@ -143,9 +141,9 @@ module _ (rows : List (Vec ℕ Global)) (sources : List ℕ) where
     })
       where
         -- a step from a marked node leads to one that is marked now
-        step : (u v : ℕ) → Marked seen u → IsAmong v (row rows u) → Marked new v
+        step : (u v : ℕ) → Marked seen u → IsAmong v (next u) → Marked new v
         step u v m a = elim (h.seen_at u m) [
-          | inl k ↦ s.all v (names_all (row rows) level u v ((same u).1 k) a)
+          | inl k ↦ s.all v (names_all next level u v ((same u).1 k) a)
           | inr k ↦ (let q = h.pair_at (k.0, u) k.1 in
               let l : k.0 < distance = q.0 in
               s.kept v (h.near (suc k.0) v (omega arith) (u, (q.1.chain, a))))
@@ -160,9 +158,9 @@ module _ (rows : List (Vec ℕ Global)) (sources : List ℕ) where
           | inr k ↦ (let d : Chain (suc distance) v = subst (λ i. Chain i v) k c in step d.0 v (h.near distance d.0 (omega arith) d.1.0) d.1.1)
         ]
 
-        nearest : (v : ℕ) → IsAmong v (flat_map (row rows) level) → ¬ Marked seen v → At v (distance + 1)
+        nearest : (v : ℕ) → IsAmong v (flat_map next level) → ¬ Marked seen v → At v (distance + 1)
         nearest v a out =
-            let b = named_by (row rows) level v a in
+            let b = named_by next level v a in
             let up : suc distance ≡ distance + 1 = omega arith in
             subst (λ i. At v i) up (record {
               chain = (b.0, ((h.level_at b.0 ((same b.0).0 b.1.0)).chain, b.1.1));
@@ -170,14 +168,14 @@ module _ (rows : List (Vec ℕ Global)) (sources : List ℕ) where
             })
 
   -- with nothing at this distance, all is listed
-  pub IsLevel-done : (distance : ℕ) (seen : List Bool) (level : List ℕ) (pairs : List (ℕ × ℕ)) → level ≡ [] → IsLevel distance seen level pairs → IsDistances (Listed sources) (Named (row rows)) nat_cmp pairs
+  pub IsLevel-done : (distance : ℕ) (seen : List Bool) (level : List ℕ) (pairs : List (ℕ × ℕ)) → level ≡ [] → IsLevel distance seen level pairs → IsDistances (Listed sources) (Named next) nat_cmp pairs
   IsLevel-done distance seen level pairs e h = record { rising = h.rising; members = λ k v. (λ a. (h.pair_at (k, v) a).1, λ d. listed_at k v d) }
     where
       place : (v : ℕ) → Marked seen v → (j : ℕ) × IsAmong {X = ℕ × ℕ} (j, v) pairs
       place v m = elim (h.seen_at v m) [ inl a ↦ absurd (subst (λ l. IsAmong v l) e a) | inr a ↦ a ]
 
-      marked : (v : ℕ) → IsReached (Listed sources) (Named (row rows)) v → Marked seen v
-      marked v r = reached_least (Listed sources) (Named (row rows)) (Marked seen) (record {
+      marked : (v : ℕ) → IsReached (Listed sources) (Named next) v → Marked seen v
+      marked v r = reached_least (Listed sources) (Named next) (Marked seen) (record {
         started = λ n a. h.near 0 n (omega arith) a;
         stepped = λ n m k a. (let p = place n k in
             let q = h.pair_at (p.0, n) p.1 in
@@ -188,5 +186,5 @@ module _ (rows : List (Vec ℕ Global)) (sources : List ℕ) where
       listed_at : (k v : ℕ) → At v k → IsAmong {X = ℕ × ℕ} (k, v) pairs
       listed_at k v d =
           let p = place v (marked v (record { steps = k; chain = d.chain })) in
-          let same : p.0 ≡ k = one_distance (Listed sources) (Named (row rows)) v p.0 k (h.pair_at (p.0, v) p.1).1 d in
+          let same : p.0 ≡ k = one_distance (Listed sources) (Named next) v p.0 k (h.pair_at (p.0, v) p.1).1 d in
           subst (λ i. IsAmong {X = ℕ × ℕ} (i, v) pairs) same p.1

@@ -4,3 +4,4 @@ pub mod Notes
 pub mod Works
 pub mod Building
 pub mod Levels
+pub mod Insides

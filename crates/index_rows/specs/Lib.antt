@@ -6,3 +6,5 @@ pub mod RowLaws
 pub mod Spreads
 pub mod Numbering
 pub mod NumberingLaws
+pub mod Steps
+pub mod StepLaws

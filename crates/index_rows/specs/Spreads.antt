@@ -1,8 +1,11 @@
 -- What steps of the code add to marks, lists and rows. Only private clauses cite these.
-use Rattle.std.specs.Prelude.{◌≡◌, ◌+◌, ◌⊎◌, ℕ, Bool, List, length}
+use Rattle.std.specs.Prelude.{◌≡◌, ◌+◌, ◌⊎◌, ℕ, Bool, List, length, Option, Some, None, min}
+use Rattle.std.specs.Option.{MatchOption}
+use Rattle.std.specs.Ordering.{nat_cmp}
 use Rattle.std.specs.declared.vec.Vec.{Vec}
 use Rattle.std.specs.declared.alloc.Global.{Global}
 use Rattle.list_laws.specs.Members.{IsAmong}
+use Rattle.index_rows.specs.Least.{IsLeast}
 use Rattle.index_rows.specs.Rows.{Marked, row as row_of, times}
 use Rattle.index_rows.specs.MarkLaws.{unset}
 
@@ -22,3 +25,13 @@ pub record IsNoted (old new : List (Vec ℕ Global)) (nodes : List ℕ) (node : 
   pub units : length new ≡ length old
   pub same : (u v : ℕ) → node ≡ v → times v (row_of new u) ≡ times v (row_of old u) + times u nodes
   pub other : (u v : ℕ) → ¬ (node ≡ v) → times v (row_of new u) ≡ times v (row_of old u)
+
+-- the least of a set, or none where it is empty
+abbrev pub IsLeastOrNone : (ℕ → Type 0) → Option ℕ → Type 0
+IsLeastOrNone set least = MatchOption least ((v : ℕ) → ¬ set v) (IsLeast nat_cmp set)
+
+-- the lesser of two numbers, of which each may be missing
+abbrev pub lesser_of : Option ℕ → Option ℕ → Option ℕ
+lesser_of None second = second
+lesser_of (Some one) None = Some one
+lesser_of (Some one) (Some other) = Some (min one other)

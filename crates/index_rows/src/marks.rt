@@ -1,5 +1,5 @@
 //! Sets of nodes by marks.
-ghost use Rattle.std.specs.Prelude.{◌≡◌, ◌<◌, ◌≤◌, ◌↔◌, ℕ, length, replicate, false, MatchOption, IfOk, OnOk};
+ghost use Rattle.std.specs.Prelude.{◌≡◌, ◌<◌, ◌≤◌, ◌↔◌, ℕ, length, replicate, false, true, MatchOption, IfOk, OnOk};
 ghost use Rattle.std.specs.List.{All};
 ghost use Rattle.std.specs.List.Sorted.{IsStrictlySortedBy};
 ghost use Rattle.std.specs.Ordering.{nat_cmp};
@@ -16,6 +16,14 @@ pub fn no_marks(alloc: Global, count: usize) -> Result<Vec<bool>, AllocError>
     ensures units { IfOk result (λ marks. length marks.items ≡ count) }
 {
     vec![in alloc; false; count]
+}
+
+/// So many marks, which are all set.
+pub fn all_marks(alloc: Global, count: usize) -> Result<Vec<bool>, AllocError>
+    ensures all { IfOk result (λ marks. marks.items ≡ replicate count true) }
+    ensures units { IfOk result (λ marks. length marks.items ≡ count) }
+{
+    vec![in alloc; true; count]
 }
 
 /// The marked nodes, rising. O(n).

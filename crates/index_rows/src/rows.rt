@@ -2,7 +2,7 @@
 ghost use Rattle.std.specs.Prelude.{◌≡◌, ◌<◌, ◌↔◌, ◌⊎◌, ◌∷◌, [], ℕ, length, IfOk, OnOk};
 ghost use Rattle.std.specs.List.{All};
 ghost use Rattle.list_laws.specs.Members.{IsAmong};
-ghost use Rattle.index_rows.specs.Rows.{Marked, AllBelow, AreRowsOf, AreTurned, row as row_of};
+ghost use Rattle.index_rows.specs.Rows.{AllBelow, AreRowsOf, AreTurned, row as row_of};
 ghost use Rattle.index_rows.specs.Spreads.{IsNoted};
 
 use std::alloc::{AllocError, Global};
@@ -81,36 +81,4 @@ pub fn joined(
         rows.push(nodes)?;
     }
     Ok(rows)
-}
-
-// The marked nodes of a list.
-fn kept_nodes(alloc: Global, nodes: &[usize], marks: &[bool]) -> Result<Vec<usize>, AllocError>
-    requires { All (λ v. v < length marks.now) nodes.now }
-    ensures { IfOk result (λ kept. (v : ℕ) → IsAmong v kept.items ↔ (IsAmong v nodes.now × Marked marks.now v)) }
-{
-    let mut kept = Vec::new(alloc);
-    'nodes: for node in nodes {
-        if marks[*node] {
-            kept.push(*node)?;
-        }
-    }
-    Ok(kept)
-}
-
-/// Rows with those steps alone that lead to marked nodes. O(n) and the steps.
-pub fn kept(
-    alloc: Global,
-    rows: &[Vec<usize>],
-    marks: &[bool],
-) -> Result<Vec<Vec<usize>>, AllocError>
-    requires { AreRowsOf (length marks.now) rows.now }
-    ensures steps { IfOk result (λ kept. (u v : ℕ) → IsAmong v (row_of kept.items u)
-        ↔ (IsAmong v (row_of rows.now u) × Marked marks.now v)) }
-    ensures rows { IfOk result (λ kept. AreRowsOf (length marks.now) kept.items) }
-{
-    let mut kept = Vec::new(alloc);
-    'rows: for node in 0..rows.len() {
-        kept.push(kept_nodes(alloc, row(rows, node), marks)?)?;
-    }
-    Ok(kept)
 }

@@ -1,20 +1,20 @@
 //! Least distances from sources.
-ghost use Rattle.std.specs.Prelude.{◌≡◌, ◌<◌, ◌≤◌, ◌↔◌, ◌++◌, [], ℕ, length, map, IfOk, OnOk};
+ghost use Rattle.std.specs.Prelude.{◌≡◌, ◌<◌, ◌≤◌, ◌↔◌, ◌++◌, [], ℕ, length, map, replicate, true, IfOk, OnOk};
 ghost use Rattle.std.specs.List.{All, flat_map};
 ghost use Rattle.std.specs.List.Sorted.{IsStrictlySortedBy};
 ghost use Rattle.std.specs.Ordering.{nat_cmp};
 ghost use Rattle.list_laws.specs.Members.{IsAmong};
 ghost use Rattle.name_closure.specs.Chains.{IsDistances};
 ghost use Rattle.name_closure.specs.ListedLaws.{Listed, Named};
-ghost use Rattle.index_rows.specs.Rows.{AllBelow, row as row_of};
 ghost use Rattle.index_rows.specs.Spreads.{IsSpread};
+ghost use Rattle.index_rows.specs.Steps.{AreStepsOf, steps_from};
 
-use crate::marks::{no_marks, spread};
-use crate::rows::row;
+use crate::marks::{all_marks, no_marks, spread};
+use crate::steps::Steps;
 use std::alloc::{AllocError, Global};
 
-// Puts nodes in order, each once.
-fn put_in_order(nodes: &mut Vec<usize>)
+/// Puts nodes in order, each once. O(k log k) for k nodes, and linear where they are in order.
+pub fn put_in_order(nodes: &mut Vec<usize>)
     ensures rising { IsStrictlySortedBy nat_cmp nodes.new.items }
     ensures members { (v : ℕ) → IsAmong v nodes.new.items ↔ IsAmong v nodes.old.items }
     ensures bound { length nodes.new.items ≤ length nodes.old.items }
@@ -23,22 +23,23 @@ fn put_in_order(nodes: &mut Vec<usize>)
     nodes.dedup();
 }
 
-// Marks what the nodes lead to, and gives what wasn't marked before.
+// Marks what the nodes lead to, and gives what wasn't marked before. It is given marks that are all set.
 fn next_level(
     alloc: Global,
     seen: &mut Vec<bool>,
-    rows: &[Vec<usize>],
+    steps: &Steps,
+    all: &[bool],
     level: &[usize],
 ) -> Result<Vec<usize>, AllocError>
-    requires units { length seen.old.items ≡ length rows.now }
-    requires rows { AllBelow (length rows.now) rows.now }
-    requires level { All (λ v. v < length rows.now) level.now }
+    requires all { all.now ≡ replicate (length seen.old.items) true }
+    requires steps { AreStepsOf (length seen.old.items) steps.now }
+    requires level { All (λ v. v < length seen.old.items) level.now }
     ensures { IfOk result (λ next. IsSpread seen.old.items seen.new.items [] next.items
-        (flat_map (row_of rows.now) level.now)) }
+        (flat_map (steps_from steps.now) level.now)) }
 {
     let mut next = Vec::new(alloc);
     'level: for node in level {
-        spread(seen, &mut next, row(rows, *node))?;
+        steps.spread(seen, &mut next, all, *node)?;
     }
     Ok(next)
 }
@@ -57,18 +58,20 @@ fn push_level(
     Ok(())
 }
 
-/// The nodes that are reached from the sources, each with its least distance, by distance and then
+/// The nodes of so many that are reached from the sources, each with its least distance, by distance and then
 /// by node. O(n log n), the sources and the steps from what is reached.
 pub fn distances(
     alloc: Global,
-    rows: &[Vec<usize>],
+    count: usize,
+    steps: &Steps,
     sources: &[usize],
 ) -> Result<Vec<(usize, usize)>, AllocError>
-    requires rows { AllBelow (length rows.now) rows.now }
-    requires sources { All (λ v. v < length rows.now) sources.now }
-    ensures { IfOk result (λ pairs. IsDistances (Listed sources.now) (Named (row_of rows.now)) nat_cmp pairs.items) }
+    requires steps { AreStepsOf count steps.now }
+    requires sources { All (λ v. v < count) sources.now }
+    ensures { IfOk result (λ pairs. IsDistances (Listed sources.now) (Named (steps_from steps.now)) nat_cmp pairs.items) }
 {
-    let mut seen = no_marks(alloc, rows.len())?;
+    let all = all_marks(alloc, count)?;
+    let mut seen = no_marks(alloc, count)?;
     let mut pairs = Vec::new(alloc);
     let mut level = Vec::new(alloc);
     spread(&mut seen, &mut level, sources)?;
@@ -76,7 +79,7 @@ pub fn distances(
     'levels: while !level.is_empty() {
         put_in_order(&mut level);
         push_level(&mut pairs, distance, &level)?;
-        level = next_level(alloc, &mut seen, rows, &level)?;
+        level = next_level(alloc, &mut seen, steps, &all, &level)?;
         distance += 1;
     }
     Ok(pairs)

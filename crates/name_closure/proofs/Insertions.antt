@@ -1,21 +1,17 @@
 -- One more key among keys in order, and the keys of two lists together.
-use Rattle.std.specs.Prelude.{◌≡◌, ◌⊎◌, ◌+◌, suc, List, [], ◌∷◌, ◌++◌, length}
-use Rattle.std.specs.BTreeMap.{insert_entry}
+use Rattle.std.specs.Prelude.{◌≡◌, ◌⊎◌, ◌+◌, suc, List, [], ◌∷◌, length}
 use Rattle.std.specs.BTreeSet.{insert_key}
 use Rattle.std.specs.Cmp.{IsTotalOrder}
 use Rattle.std.specs.List.{All, AllByRecursion}
 use Rattle.std.specs.List.Sorted.{IsStrictlySortedBy}
-use Rattle.std.specs.Map.{keys_of}
 use Rattle.std.specs.Ordering.{match_ordering, ordering_reverse}
 use Rattle.std.specs.declared.cmp.Ordering.{Ordering}
 use Rattle.std.specs.declared.cmp.Ordering.TheVariants.{Less, Equal, Greater}
-use Rattle.std.proofs.Common.{inl, inr, refl, sym, arith, ap, ◌∙◌, subst, append_assoc}
-use Rattle.std.proofs.lemmas.List.{map-append}
-use Rattle.std.proofs.lemmas.List.Elements.{All-nil, All-cons, All-head, All-tail}
-use Rattle.list_laws.specs.Members.{IsAmong, IsAmong-append_cases, IsAmong-append_left, IsAmong-append_right}
+use Rattle.std.proofs.Common.{inl, inr, refl, sym, arith, ap, ◌∙◌, subst}
+use Rattle.std.proofs.lemmas.List.Elements.{All-head}
+use Rattle.list_laws.specs.Members.{IsAmong}
 use Rattle.name_closure.specs.Growth.{AreJoined}
 use Rattle.name_closure.specs.LimitLaws.{not_in_tail}
-use Rattle.name_closure.specs.Loading.{AreLoaded}
 
 module _ {N : Type 0} (order : N → N → Ordering) where
   put_kept : (k : N) (ks : List N) (n : N) → IsAmong n ks → IsAmong n (insert_key order ks k)
@@ -135,57 +131,7 @@ module _ {N : Type 0} (order : N → N → Ordering) where
           absent : ¬ IsAmong x (together xs ys)
           absent h = elim ((together_joins xs ys x).0 h) [ inl a ↦ not_in_tail order total x xs s a | inr b ↦ d x (inl refl) b ]
 
-module _ {N U : Type 0} (order : N → N → Ordering) where
-  -- an entry is put where its key is put
-  keys_with : (k : N) (v : U) (es : List (N × U)) → keys_of (insert_entry order es k v) ≡ insert_key order (keys_of es) k
-  keys_with k v [] = refl
-  keys_with k v (e ∷ es) = by (order k e.0) (keys_with k v es)
-    where
-      by : (r : Ordering) → keys_of (insert_entry order es k v) ≡ insert_key order (keys_of es) k
-          → keys_of (match_ordering r ((k, v) ∷ e ∷ es) ((e.0, v) ∷ es) (e ∷ insert_entry order es k v)) ≡ match_ordering r (k ∷ e.0 ∷ keys_of es) (e.0 ∷ keys_of es) (e.0 ∷ insert_key order (keys_of es) k)
-      by Less more = refl
-      by Equal more = refl
-      by Greater more = ap (λ ks. e.0 ∷ ks) more
-
-  module _ (exact : (x y : N) → order x y ≡ Equal → x ≡ y) where
-    -- what holds of the entries and of one more holds of all
-    all_with : (P : N × U → Type 0) (k : N) (v : U) (es : List (N × U)) → P (k, v) → All P es → All P (insert_entry order es k v)
-    all_with P k v [] p a = All-cons P (k, v) [] p (All-nil P)
-    all_with P k v (e ∷ es) p a = by (order k e.0) refl (all_with P k v es p (All-tail P e es a))
-      where
-        by : (r : Ordering) → order k e.0 ≡ r → All P (insert_entry order es k v) → All P (match_ordering r ((k, v) ∷ e ∷ es) ((e.0, v) ∷ es) (e ∷ insert_entry order es k v))
-        by Less is more = All-cons P (k, v) (e ∷ es) p a
-        by Equal is more = All-cons P (e.0, v) es (subst (λ n. P (n, v)) (exact k e.0 is) p) (All-tail P e es a)
-        by Greater is more = All-cons P e (insert_entry order es k v) (All-head P e es a) more
-
-    -- a node was put among those found, with what is loaded for it
-    module _ (node : N) (one : U) (found found' : List (N × U)) (put : found' ≡ insert_entry order found node one) where
-      pub added_loaded : (is_loaded : N → U → Type 0) → is_loaded node one → AreLoaded is_loaded found → AreLoaded is_loaded found'
-      added_loaded is_loaded is a = subst (AreLoaded is_loaded) (sym put) (all_with (λ p. is_loaded p.0 p.1) node one found is a)
-
-      keys_put : keys_of found' ≡ insert_key order (keys_of found) node
-      keys_put = ap keys_of put ∙ keys_with node one found
-
-      pub added_joins : (before : List N) (added : List (N × U)) → AreJoined before (keys_of added) (keys_of found) → AreJoined before (keys_of (added ++ (node, one) ∷ [])) (keys_of found')
-      added_joins before added joined n = (
-        λ h. elim ((put_joins order exact node (keys_of found) n).0 (subst (IsAmong n) keys_put h)) [
-          | inl a ↦ elim ((joined n).0 a) [ inl b ↦ inl b | inr b ↦ inr (subst (IsAmong n) (sym keys_more) (IsAmong-append_left n (keys_of added) (node ∷ []) b)) ]
-          | inr o ↦ inr (subst (IsAmong n) (sym keys_more) (IsAmong-append_right n (keys_of added) (node ∷ []) o))
-        ],
-        λ h. subst (IsAmong n) (sym keys_put) ((put_joins order exact node (keys_of found) n).1 (elim h [
-          | inl a ↦ inl ((joined n).1 (inl a))
-          | inr b ↦ elim (IsAmong-append_cases n (keys_of added) (node ∷ []) (subst (IsAmong n) keys_more b)) [ inl a ↦ inl ((joined n).1 (inr a)) | inr o ↦ inr o ]
-        ])),
-      )
-        where
-          keys_more : keys_of (added ++ (node, one) ∷ []) ≡ keys_of added ++ node ∷ []
-          keys_more = map-append (λ (p : N × U). p.0) added ((node, one) ∷ [])
-
 module _ {X : Type 0} where
-  -- one was taken from those that are left
-  pub whole_more : (taken : List X) (x : X) (left left' all : List X) → left ≡ x ∷ left' → taken ++ left ≡ all → (taken ++ x ∷ []) ++ left' ≡ all
-  whole_more taken x left left' all e whole = append_assoc taken (x ∷ []) left' ∙ ap (λ v. taken ++ v) (sym e) ∙ whole
-
   -- what holds of all that are left holds of the one that is taken
   pub holds_next : (P : X → Type 0) (x : X) (left left' : List X) → left ≡ x ∷ left' → All P left → P x
   holds_next P x left left' e a = All-head P x left' (subst (All P) e a)

@@ -1,3 +1,5 @@
+mod Adding
 mod Insertions
 mod News
+mod Others
 mod Rounding

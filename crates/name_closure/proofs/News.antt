@@ -1,5 +1,5 @@
 -- Nodes that are freed of those that are found, sorted, and freed of repeats.
-use Rattle.std.specs.Prelude.{◌≡◌, ◌⊎◌, Bool, true, false, not, ◌||◌, List, [], ◌∷◌, IsPermutation, IsSorted}
+use Rattle.std.specs.Prelude.{◌≡◌, ◌↔◌, ◌⊎◌, Bool, true, false, not, ◌||◌, List, [], ◌∷◌, IsPermutation, IsSorted}
 use Rattle.std.specs.BTreeMap.{is_at}
 use Rattle.std.specs.Cmp.{IsTotalOrder, IsEquivalence}
 use Rattle.std.specs.List.{list_any, dedup, filter}
@@ -18,7 +18,7 @@ use Rattle.name_closure.specs.Growth.{AreNew}
 
 module _ {N : Type 0} (order : N → N → Ordering) (total : IsTotalOrder order) (exact : (x y : N) → order x y ≡ Equal → x ≡ y) where
   -- a test by comparisons finds the members, and nothing else
-  found_by : (k : N) (ks : List N) → list_any (is_at (order k)) ks ≡ true → IsAmong k ks
+  pub found_by : (k : N) (ks : List N) → list_any (is_at (order k)) ks ≡ true → IsAmong k ks
   found_by k [] h = cc (h)
   found_by k (x ∷ xs) h = by (is_at (order k) x) refl h (found_by k xs)
     where
@@ -26,7 +26,7 @@ module _ {N : Type 0} (order : N → N → Ordering) (total : IsTotalOrder order
       by true e g more = inl (sym (exact k x (is_equal (order k x) e)))
       by false e g more = inr (more g)
 
-  found_there : (k : N) (ks : List N) → IsAmong k ks → list_any (is_at (order k)) ks ≡ true
+  pub found_there : (k : N) (ks : List N) → IsAmong k ks → list_any (is_at (order k)) ks ≡ true
   found_there k [] h = absurd h
   found_there k (x ∷ xs) (inl e) = first_found (is_at (order k) x) (ap is_eq (ap (λ z. order k z) e ∙ tied_itself total k)) (list_any (is_at (order k)) xs)
     where
@@ -76,25 +76,33 @@ module _ {N : Type 0} (order : N → N → Ordering) (total : IsTotalOrder order
       by false e (inl is) more = inr (inl is)
       by b e (inr o) more = behind b (more o)
 
-  -- nodes that were freed of those that are found, sorted, and freed of repeats
-  pub news_are : (E : N → N → Bool) → IsEquivalence E → ((x y : N) → E x y ≡ is_eq (order x y)) → (found nodes left sorted fresh : List N) → left ≡ unknown found nodes → IsPermutation left sorted → IsSorted order sorted
-      → fresh ≡ dedup E sorted → AreNew order found nodes fresh
-  news_are E same ties found nodes left sorted fresh unfound permutation rising is = record {
-    rising = subst (IsStrictlySortedBy order) (sym is) (IsStrictlySortedBy-dedup total ties sorted rising);
+  -- nodes that were sorted, and freed of repeats
+  module _ (E : N → N → Bool) (same : IsEquivalence E) (ties : (x y : N) → E x y ≡ is_eq (order x y)) (nodes sorted once : List N)
+      (permutation : IsPermutation nodes sorted) (rising : IsSorted order sorted) (is : once ≡ dedup E sorted) where
+    moved : (xs ys : List N) (n : N) → IsPermutation xs ys → IsAmong n xs → IsAmong n ys
+    moved xs ys n p h = among_from_contains n ys (Contains-permutation xs ys n p (contains_from_among n xs h))
+
+    pub once_rises : IsStrictlySortedBy order once
+    once_rises = subst (IsStrictlySortedBy order) (sym is) (IsStrictlySortedBy-dedup total ties sorted rising)
+
+    pub once_back : (n : N) → IsAmong n once → IsAmong n nodes
+    once_back n h =
+        let one = among_from_contains n sorted (Contains-from_dedup E sorted n (contains_from_among n (dedup E sorted) (subst (IsAmong n) is h))) in
+        moved sorted nodes n (IsPermutation-sym nodes sorted permutation) one
+
+    pub once_there : (n : N) → IsAmong n nodes → IsAmong n once
+    once_there n h =
+        let kept = moved nodes sorted n permutation h in
+        subst (IsAmong n) (sym is) (among_from_contains n (dedup E sorted) (Contains-dedup same (λ x y e. exact x y (is_equal _ (sym (ties x y) ∙ e))) sorted n (contains_from_among n sorted kept)))
+
+  -- nodes that were freed of those that are found, and then stand each once, in order
+  pub news_are : (found nodes left fresh : List N) → left ≡ unknown found nodes → IsStrictlySortedBy order fresh → ((n : N) → IsAmong n fresh ↔ IsAmong n left) → AreNew order found nodes fresh
+  news_are found nodes left fresh unfound rising members = record {
+    rising = rising;
     apart = λ n h. unknown_apart found nodes n (back n h);
     origin = λ n h. unknown_origin found nodes n (back n h);
-    took = λ n h. elim (unknown_took found nodes n h) [ inl a ↦ inl a | inr b ↦ inr (there n b) ];
+    took = λ n h. elim (unknown_took found nodes n h) [ inl a ↦ inl a | inr b ↦ inr ((members n).1 (subst (IsAmong n) (sym unfound) b)) ];
   }
     where
-      moved : (xs ys : List N) (n : N) → IsPermutation xs ys → IsAmong n xs → IsAmong n ys
-      moved xs ys n p h = among_from_contains n ys (Contains-permutation xs ys n p (contains_from_among n xs h))
-
       back : (n : N) → IsAmong n fresh → IsAmong n (unknown found nodes)
-      back n h =
-          let once = among_from_contains n sorted (Contains-from_dedup E sorted n (contains_from_among n (dedup E sorted) (subst (IsAmong n) is h))) in
-          subst (IsAmong n) unfound (moved sorted left n (IsPermutation-sym left sorted permutation) once)
-
-      there : (n : N) → IsAmong n (unknown found nodes) → IsAmong n fresh
-      there n h =
-          let kept = moved left sorted n permutation (subst (IsAmong n) (sym unfound) h) in
-          subst (IsAmong n) (sym is) (among_from_contains n (dedup E sorted) (Contains-dedup same (λ x y e. exact x y (is_equal _ (sym (ties x y) ∙ e))) sorted n (contains_from_among n sorted kept)))
+      back n h = subst (IsAmong n) unfound ((members n).0 h)

@@ -15,12 +15,12 @@ use Rattle.name_closure.specs.Chains.{IsReached, IsClosure, HasOver}
 use Rattle.name_closure.specs.ClosureLaws.{IsClosed, reached_closed, reached_least}
 use Rattle.name_closure.specs.Growth.{AreJoined, AreNew}
 use Rattle.name_closure.specs.ListedLaws.{Listed, named_by, names_all}
-use Rattle.name_closure.specs.Loading.{LeadsByLoad, AreLoaded, AreLoads}
+use Rattle.name_closure.specs.Loading.{LeadsByLoad, AreLoaded, AreLoads, AreOthers}
 use Rattle.name_closure.specs.LoadingLaws.{leads_by_one}
 use Rattle.name_closure.proofs.Insertions.{together, together_rises, together_joins, length-together}
 
 module _ {X : Type 0} (P : X → Type 0) where
-  holds_among : (xs : List X) (x : X) → All P xs → IsAmong x xs → P x
+  pub holds_among : (xs : List X) (x : X) → All P xs → IsAmong x xs → P x
   holds_among [] x a h = absurd h
   holds_among (y ∷ ys) x a (inl e) = subst P e (All-head P y ys a)
   holds_among (y ∷ ys) x a (inr h) = holds_among ys x (All-tail P y ys a) h
@@ -30,7 +30,7 @@ module _ {X : Type 0} (P : X → Type 0) where
   holds_of_all (x ∷ xs) each = All-cons P x xs (each x (inl refl)) (holds_of_all xs (λ y h. each y (inr h)))
 
   -- what holds of all of a list holds of all of a part of it
-  holds_of_part : (xs ys : List X) → All P xs → ((x : X) → IsAmong x ys → IsAmong x xs) → All P ys
+  pub holds_of_part : (xs ys : List X) → All P xs → ((x : X) → IsAmong x ys → IsAmong x xs) → All P ys
   holds_of_part xs ys a part = holds_of_all ys (λ x h. holds_among xs x a (part x h))
 
 module _ {N U : Type 0} where
@@ -115,8 +115,8 @@ module _ {N U : Type 0} (order : N → N → Ordering) (is_node : N → Type 0) 
           names_all (λ (p : N × U). named p.1) pairs (n, entry.0) m entry.1 ((leads_by_one is_loaded one named n entry.0 here m).0 l)
 
       pub under_way_more : (names fresh' : List N) → AreLoaded is_loaded found' → IsStrictlySortedBy order (keys_of found')
-          → names ≡ flat_map (λ p. named p.1) pairs → All is_node names → AreNew order (keys_of found') names fresh' → IsUnderWay found' fresh'
-      under_way_more names fresh' loaded rising said named_nodes new = record {
+          → AreOthers fresh (flat_map (λ p. named p.1) pairs) names → All is_node names → AreNew order (keys_of found') names fresh' → IsUnderWay found' fresh'
+      under_way_more names fresh' loaded rising others named_nodes new = record {
         loaded = loaded;
         nodes = holds_of_all is_node (keys_of found') found_node;
         rising = rising;
@@ -124,14 +124,18 @@ module _ {N U : Type 0} (order : N → N → Ordering) (is_node : N → Type 0) 
         fresh_nodes = holds_of_part is_node names fresh' named_nodes new.origin;
         apart = new.apart;
         sound = λ n h. elim (back n h) [ inl a ↦ way.sound n a | inr b ↦ way.fresh_sound n b ];
-        fresh_sound = λ n h. names_reached n (named_by (λ (p : N × U). named p.1) pairs n (subst (IsAmong n) said (new.origin n h)));
+        fresh_sound = λ n h. names_reached n (named_by (λ (p : N × U). named p.1) pairs n (others.origin n (new.origin n h)));
         started = λ n h. inl (from_either n (way.started n h));
         done = λ n m h l. elim (back n h) [
           | inl b ↦ inl (from_either m (way.done n m b l))
-          | inr b ↦ new.took m (subst (IsAmong m) (sym said) (leads_named n m b l))
+          | inr b ↦ taken m (others.took m (leads_named n m b l))
         ];
       }
         where
+          taken : (m : N) → IsAmong m fresh ⊎ IsAmong m names → IsAmong m (keys_of found') ⊎ IsAmong m fresh'
+          taken m (inl a) = inl (from_fresh m a)
+          taken m (inr a) = new.took m a
+
           found_node : (n : N) → IsAmong n (keys_of found') → is_node n
           found_node n h = elim (back n h) [ inl a ↦ holds_among is_node (keys_of found) n way.nodes a | inr b ↦ holds_among is_node fresh n way.fresh_nodes b ]
 

@@ -1,7 +1,7 @@
 -- What is loaded for nodes, and the steps to the nodes that are named there. That something is loaded for a node is any relation.
 -- Source: this project's own.
-use Rattle.std.specs.Prelude.{◌≡◌, List}
-use Rattle.std.specs.List.{All}
+use Rattle.std.specs.Prelude.{◌≡◌, ◌⊎◌, List}
+use Rattle.std.specs.List.{All, flat_map}
 use Rattle.std.specs.Map.{keys_of}
 use Rattle.list_laws.specs.Members.{IsAmong}
 
@@ -20,3 +20,15 @@ module _ {N U : Type 0} (is_loaded : N → U → Type 0) where
   pub record AreLoads (nodes : List N) (pairs : List (N × U)) : Type 0 where
     pub in_order : keys_of pairs ≡ nodes
     pub loaded : AreLoaded pairs
+
+-- some are of all these nodes, and all of these that aren't a round's own are among them
+pub record AreOthers {N : Type 0} (own all some : List N) : Type 0 where
+  pub origin : (n : N) → IsAmong n some → IsAmong n all
+  pub took : (n : N) → IsAmong n all → IsAmong n own ⊎ IsAmong n some
+
+-- what a round of these nodes loads: the nodes, beside each what is loaded for it, and the other nodes that are named there, all of
+-- which can be loaded
+pub record IsRound {N U : Type 0} (is_node : N → Type 0) (is_loaded : N → U → Type 0) (named : U → List N) (nodes : List N) (pairs : List (N × U)) (names : List N) : Type 0 where
+  pub loads : AreLoads is_loaded nodes pairs
+  pub others : AreOthers nodes (flat_map (λ p. named p.1) pairs) names
+  pub can_load : All is_node names

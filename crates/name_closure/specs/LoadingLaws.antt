@@ -1,11 +1,11 @@
--- Loads put together, and that there is one where one thing at most is loaded for each node.
-use Rattle.std.specs.Prelude.{◌≡◌, ◌↔◌, List, [], ◌∷◌, ◌++◌}
+-- Loads put together, and what they name, and that there is one where one thing at most is loaded for each node.
+use Rattle.std.specs.Prelude.{◌≡◌, ◌↔◌, ◌⊎◌, List, [], ◌∷◌, ◌++◌}
 use Rattle.std.specs.Map.{keys_of}
-use Rattle.std.proofs.Common.{refl, ap, subst, ◌∙◌}
+use Rattle.std.proofs.Common.{refl, ap, subst, ◌∙◌, inl, inr}
 use Rattle.std.proofs.lemmas.List.{map-append}
 use Rattle.std.proofs.lemmas.List.Elements.{All-nil, All-cons, All-head, All-tail, All-append}
-use Rattle.list_laws.specs.Members.{IsAmong}
-use Rattle.name_closure.specs.Loading.{LeadsByLoad, AreLoaded, AreLoads}
+use Rattle.list_laws.specs.Members.{IsAmong, IsAmong-append_cases, IsAmong-append_left, IsAmong-append_right}
+use Rattle.name_closure.specs.Loading.{LeadsByLoad, AreLoaded, AreLoads, AreOthers}
 
 module _ {N U : Type 0} (is_loaded : N → U → Type 0) where
   pub loads_none : AreLoads is_loaded [] []
@@ -43,3 +43,25 @@ module _ {N U : Type 0} (is_loaded : N → U → Type 0) where
         let rest : xs ≡ ys = one_load_of_nodes xs ys (cc (e)) (All-tail P x xs a) (All-tail P y ys b) in
         let pair : x ≡ y = ap (λ n. (n, x.1)) node ∙ ap (λ u. (y.0, u)) here in
         ap (λ p. p ∷ xs) pair ∙ ap (λ v. y ∷ v) rest
+
+module _ {N : Type 0} (own : List N) where
+  pub others_none : AreOthers own [] []
+  others_none = record { origin = λ n h. h; took = λ n h. inr h }
+
+  -- others that stand one behind the other
+  pub others_append : (all some more others : List N) → AreOthers own all some → AreOthers own more others → AreOthers own (all ++ more) (some ++ others)
+  others_append all some more others a b = record {
+    origin = λ n h. elim (IsAmong-append_cases n some others h) [
+      | inl c ↦ IsAmong-append_left n all more (a.origin n c)
+      | inr c ↦ IsAmong-append_right n all more (b.origin n c)
+    ];
+    took = λ n h. elim (IsAmong-append_cases n all more h) [ inl c ↦ front n (a.took n c) | inr c ↦ back n (b.took n c) ];
+  }
+    where
+      front : (n : N) → IsAmong n own ⊎ IsAmong n some → IsAmong n own ⊎ IsAmong n (some ++ others)
+      front n (inl c) = inl c
+      front n (inr c) = inr (IsAmong-append_left n some others c)
+
+      back : (n : N) → IsAmong n own ⊎ IsAmong n others → IsAmong n own ⊎ IsAmong n (some ++ others)
+      back n (inl c) = inl c
+      back n (inr c) = inr (IsAmong-append_right n some others c)

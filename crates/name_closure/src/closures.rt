@@ -5,9 +5,10 @@ ghost use Rattle.std.specs.List.Sorted.{IsStrictlySortedBy};
 ghost use Rattle.name_closure.specs.Chains.{IsClosure, HasOver};
 ghost use Rattle.name_closure.specs.Faults.{OnTooMany};
 ghost use Rattle.name_closure.specs.ListedLaws.{Listed};
-ghost use Rattle.name_closure.specs.Loading.{LeadsByLoad, AreLoaded, AreLoads};
+ghost use Rattle.name_closure.specs.Loading.{LeadsByLoad, AreLoaded, IsRound};
 
-use crate::loads::{CloseFault, Loads, load_each};
+use crate::loads::{CloseFault, Loads, Round};
+use crate::names::load_round;
 use crate::rounds::{add_loaded, copy_of, new_of};
 use join_law::Key;
 use std::alloc::{AllocError, Global};
@@ -44,16 +45,17 @@ pub fn close_loaded<K: Key, L: Loads<K>>(
         loader,
         sources,
         limit,
-        |fresh| load_each(alloc, loader, fresh),
+        |fresh| load_round(alloc, loader, fresh),
     )
 }
 
 /// The same, refusals and cost too, where a round's new nodes are loaded by a call. It is given them
-/// rising, all of them nodes that the loader can load, and gives each with what the loader loads for it.
+/// rising, all of them nodes that the loader can load, and gives each with what the loader loads for it,
+/// and the other nodes that are named there.
 pub fn close_by_rounds<
     K: Key,
     L: Loads<K>,
-    F: Fn(Vec<K>) -> Result<Vec<(K, L::Loaded)>, AllocError>,
+    F: Fn(Vec<K>) -> Result<Round<K, L::Loaded>, AllocError>,
 >(
     alloc: Global,
     loader: &L,
@@ -65,7 +67,8 @@ pub fn close_by_rounds<
     requires ready { (fresh : _) → IsStrictlySortedBy K.cmp fresh.items → All (L.is_node loader.now) fresh.items
         → F.pre load_round fresh }
     requires loads { (fresh : _) (loads : _) → F.post load_round fresh loads
-        → IfOk loads (λ pairs. AreLoads (L.is_loaded loader.now) fresh.items pairs.items) }
+        → IfOk loads (λ round. IsRound (L.is_node loader.now) (L.is_loaded loader.now) (L.named loader.now)
+        fresh.items round.pairs.items round.names.items) }
     ensures closure { IfOk result (λ found. IsClosure (Listed sources.now)
         (LeadsByLoad (L.is_loaded loader.now) (L.named loader.now)) K.cmp (keys found)) }
     ensures loaded { IfOk result (λ found. AreLoaded (L.is_loaded loader.now) found.entries) }
@@ -82,8 +85,8 @@ pub fn close_by_rounds<
         if fresh.len() > limit - found.len() {
             return Err(CloseFault::TooMany);
         }
-        let pairs = load_round(fresh)?;
-        let names = add_loaded(alloc, loader, &mut found, pairs)?;
+        let Round { pairs, names } = load_round(fresh)?;
+        add_loaded(alloc, loader, &mut found, pairs)?;
         fresh = new_of(&found, names);
     }
     Ok(found)

@@ -12,6 +12,7 @@
 mod closures;
 mod laws;
 mod loads;
+mod names;
 mod rounds;
 
 pub use closures::{close_by_rounds, close_loaded};
@@ -19,4 +20,5 @@ pub use laws::{
     NodeSet, StepSet, closures_of_same_steps, distances_by_lists, distances_of_nodes,
     least_closed_sets, lists_of_closures, one_load, sources_of_closures,
 };
-pub use loads::{CloseFault, Loads, load_each};
+pub use loads::{CloseFault, Loads, Round, load_each};
+pub use names::names_of;

@@ -58,6 +58,15 @@ pub trait Loads<K: Key> {
         → is_loaded loader node y → x ≡ y };
 }
 
+/// What a round loads.
+#[derive(Drop)]
+pub struct Round<K, U> {
+    /// Its nodes, each with what is loaded for it.
+    pub pairs: Vec<(K, U)>,
+    /// The other nodes that are named there, and maybe some of its own.
+    pub names: Vec<K>,
+}
+
 /// Each node with what is loaded for it, where all can be loaded. `AllocError` for want of memory.
 pub fn load_each<K: Key, L: Loads<K>>(
     alloc: Global,

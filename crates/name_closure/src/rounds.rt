@@ -1,14 +1,14 @@
 //! What a round of a closure does: what was loaded is added to what is found, and the nodes that
 //! are named there and not found yet are those of the next round.
-ghost use Rattle.std.specs.Prelude.{◌≡◌, All, IfOk, OnOk};
+ghost use Rattle.std.specs.Prelude.{◌≡◌, IfOk, OnOk};
 ghost use Rattle.std.specs.BTreeMap.{keys};
-ghost use Rattle.std.specs.List.{flat_map};
 ghost use Rattle.std.specs.List.Sorted.{IsStrictlySortedBy};
 ghost use Rattle.std.specs.Map.{keys_of};
 ghost use Rattle.name_closure.specs.Growth.{AreJoined, AreNew};
 ghost use Rattle.name_closure.specs.Loading.{AreLoaded};
 
 use crate::loads::Loads;
+use crate::names::each_once;
 use join_law::Key;
 use std::alloc::{AllocError, Global};
 use std::collections::BTreeMap;
@@ -31,33 +31,24 @@ pub fn new_of<K: Key, U>(found: &BTreeMap<K, U>, nodes: Vec<K>) -> Vec<K>
 {
     let mut fresh = nodes;
     fresh.retain(|node| !found.contains_key(node));
-    fresh.sort_unstable();
-    fresh.dedup();
-    fresh
+    each_once(fresh)
 }
 
-// Adds what was loaded for nodes to what is found, and gives the nodes that are named there.
+// Adds what was loaded for nodes to what is found. O(m + n) for m nodes that rise and n that are found where m is over a quarter
+// of n, and else O(m log n).
 pub fn add_loaded<K: Key, L: Loads<K>>(
     alloc: Global,
     loader: &L,
     found: &mut BTreeMap<K, L::Loaded>,
     pairs: Vec<(K, L::Loaded)>,
-) -> Result<Vec<K>, AllocError>
+) -> Result<(), AllocError>
     requires rising { IsStrictlySortedBy K.cmp (keys found.old) }
     requires found { AreLoaded (L.is_loaded loader.now) found.old.entries }
-    requires nodes { All (L.is_node loader.now) (keys_of pairs.items) }
     requires pairs { AreLoaded (L.is_loaded loader.now) pairs.items }
     ensures rising { IsStrictlySortedBy K.cmp (keys found.new) }
     ensures entries { OnOk result (AreLoaded (L.is_loaded loader.now) found.new.entries) }
     ensures joined { OnOk result (AreJoined (keys found.old) (keys_of pairs.items) (keys found.new)) }
-    ensures names { IfOk result (λ names. names.items ≡ flat_map (λ pair. L.named loader.now pair.1) pairs.items) }
-    ensures nodes { IfOk result (λ names. All (L.is_node loader.now) names.items) }
 {
-    let mut names = Vec::new(alloc);
-    for (node, one) in pairs {
-        let mut more = loader.names(alloc, &one)?;
-        names.append(&mut more)?;
-        found.insert(node, one)?;
-    }
-    Ok(names)
+    let mut more: BTreeMap<K, L::Loaded> = pairs.into_iter().collect(alloc)?;
+    found.append(&mut more)
 }

@@ -2,3 +2,4 @@ mod Closing
 mod Rows
 mod Settling
 mod Steps
+mod Pieces

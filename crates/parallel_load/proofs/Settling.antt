@@ -38,7 +38,7 @@ use Rattle.parallel_load.specs.Alone.{IsLoadAlone, named_in, names_in_lists, wit
 use Rattle.parallel_load.specs.Loads.{IsLoad, IsNameLoad, LoadMap, by_mains, list_by_mains}
 use Rattle.parallel_load.specs.Mains.{alias_pair, main_by}
 use Rattle.parallel_load.specs.PairLaws.{among_find, find_among}
-use Rattle.parallel_load.specs.Settled.{settled_names}
+use Rattle.parallel_load.specs.Settled.{settled_by, settled_names}
 use Rattle.parallel_load.specs.Universe.{AreUniverse, IsSource}
 use Rattle.parallel_load.specs.UniverseLaws.{all_among, sorted_from}
 use Rattle.parallel_load.proofs.Closing.{universe_is}
@@ -130,6 +130,10 @@ settled_keys_of f (p ∷ some) = ap (λ (ns : List Name). p.0 ∷ ns) (settled_k
 
 pub settled_keys : (found : List (Name × NameLoad)) → keys_of (settled_names found) ≡ keys_of found
 settled_keys found = settled_keys_of (with_mains (main_by (filter_map alias_pair found))) found
+
+-- what was found, settled by the aliases among it
+pub settled_are : (found pairs : List (Name × NameLoad)) (aliases : List (Name × Name)) → pairs ≡ found → aliases ≡ filter_map alias_pair found → settled_by aliases pairs ≡ settled_names found
+settled_are found pairs aliases e f = ap (settled_by aliases) e ∙ ap (λ (al : List (Name × Name)). settled_by al found) f
 
 -- ---- the load
 

@@ -58,6 +58,9 @@ pub record LoadMap : Type 0 where
   pub extra : List Name
   pub names : List (Name × NameLoad)
 
+abbrev pub coded_name_load : Coded NameLoad
+coded_name_load = (one.the_row).coded
+
 abbrev pub coded_load : Coded LoadMap
 coded_load =
     code_by (List Name × List (Name × NameLoad)) (coded× (coded_list (coded_list coded_ℕ)) (coded_list (coded× (coded_list coded_ℕ) (one.the_row).coded)))

@@ -6,7 +6,9 @@
 #![tactic(auto)]
 
 mod faults;
+mod finishing;
 mod gates;
+mod kept;
 mod laws;
 mod loaded;
 mod loader;

@@ -2,6 +2,7 @@
 ghost use Rattle.std.specs.Prelude.{◌≡◌, ◌++◌, ◌∷◌, [], IfOk, OnOk};
 ghost use Rattle.parallel_load.specs.Alone.{names_in_lists};
 
+use crate::kept::Kept;
 use crate::loaded::NameLoad;
 use fragment_choice::{AliasIndex, resolve};
 use name_closure::Loads;
@@ -31,7 +32,7 @@ impl<'a> Loads<UnitName> for UnitLoader<'a> {
     ghost use Rattle.parallel_load.specs.Alone.{IsLoadAlone, named_in};
     ghost use Rattle.parallel_load.specs.AloneLaws.{one_alone};
 
-    type Loaded = NameLoad;
+    type Loaded = Kept;
 
     ghost is_node = { λ _ _. Unit {0} };
 
@@ -39,18 +40,19 @@ impl<'a> Loads<UnitName> for UnitLoader<'a> {
 
     ghost named = { λ _ one. named_in one };
 
-    fn load(&self, alloc: Global, node: &UnitName) -> Result<NameLoad, AllocError> {
+    fn load(&self, alloc: Global, node: &UnitName) -> Result<Kept, AllocError> {
         let resolved = resolve(alloc, self.index.store(), node)?;
         if resolved.main == *node {
-            Ok(NameLoad::Unit(load_resolved(alloc, &self.index, resolved)?))
+            let unit = load_resolved(alloc, &self.index, resolved)?;
+            Kept::new(alloc, NameLoad::Unit(unit))
         } else {
-            Ok(NameLoad::Alias(resolved.main))
+            Kept::new(alloc, NameLoad::Alias(resolved.main))
         }
     }
 
-    fn names(&self, alloc: Global, one: &NameLoad) -> Result<Vec<UnitName>, AllocError> {
+    fn names(&self, alloc: Global, one: &Kept) -> Result<Vec<UnitName>, AllocError> {
         let mut names = Vec::new(alloc);
-        match one {
+        match one.load() {
             NameLoad::Unit(unit) => add_lists(&mut names, unit.deps.as_slice())?,
             NameLoad::Alias(main) => names.push(main.try_clone()?)?,
         }

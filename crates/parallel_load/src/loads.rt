@@ -1,24 +1,18 @@
 //! Loads of a store.
 ghost use Rattle.std.specs.Prelude.{◌≡◌, ◌↔◌, ◌⊎◌, ◌<◌, Err, IfOk, IfErr};
-ghost use Rattle.std.specs.BTreeMap.{keys};
-ghost use Rattle.std.specs.List.Sorted.{IsStrictlySortedBy};
-ghost use Rattle.unit_name.specs.Names.{name_cmp};
 ghost use Rattle.parallel_load.specs.Loads.{IsLoad};
 ghost use Rattle.parallel_load.specs.Refusals.{OnTooMany, OnWorkers};
-ghost use Rattle.parallel_load.specs.Settled.{settled_names};
 ghost use Rattle.parallel_load.specs.Universe.{IsTooLarge};
 ghost use Rattle.parallel_load.specs.declared.faults.LoadFault.TheVariants.{Workers};
 
 use crate::faults::LoadFault;
-use crate::loaded::{Loaded, NameLoad};
-use crate::loader::{UnitLoader, add_names};
-use crate::mains::Aliases;
+use crate::finishing::{settled, settled_by_workers};
+use crate::loaded::Loaded;
+use crate::loader::UnitLoader;
 use crate::sources::sources;
 use name_closure::close_loaded;
 use replica_store::Store;
-use section_reader::Items;
-use std::alloc::{AllocError, Global};
-use std::collections::BTreeMap;
+use std::alloc::Global;
 use std::thread::Threads;
 use unit_name::UnitName;
 use worker_rounds::{Gate, close_loaded_by_workers};
@@ -47,7 +41,8 @@ pub fn load_here(alloc: Global, store: &Store, extra: &[UnitName]) -> Result<Loa
 ///
 /// `Workers` exactly where they aren't 1 to 64, before anything else. The new names of a round are cut in byte order into
 /// pieces, none empty, as many as the lesser of the workers and the names, numbered from 0 in that round. Each piece has a
-/// worker of its own, which asks the gate before it loads, at most 1,000,000 times. It may wait for threads.
+/// worker of its own, which asks the gate before it loads, at most 1,000,000 times. Workers also gather what a round names,
+/// and put main names in at the end, and ask no gate for it. It may wait for threads.
 pub fn load_fleet<R: Threads + Sync, G: Gate + Sync>(
     rt: &R,
     alloc: Global,
@@ -68,37 +63,5 @@ pub fn load_fleet<R: Threads + Sync, G: Gate + Sync>(
     let loader = UnitLoader::of(alloc, store)?;
     let names = sources.as_slice();
     let found = close_loaded_by_workers(rt, alloc, &loader, names, MOST_NAMES, workers, gate)?;
-    Ok(settled(alloc, extra, found)?)
-}
-
-// The load of what was found, with dependencies by main names.
-fn settled(
-    alloc: Global,
-    extra: &[UnitName],
-    found: BTreeMap<UnitName, NameLoad>,
-) -> Result<Loaded, AllocError>
-    requires rising { IsStrictlySortedBy name_cmp (keys found) }
-    ensures extra { IfOk result (λ load. load.extra ≡ extra.now) }
-    ensures names { IfOk result (λ load. load.names ≡ settled_names found.entries) }
-{
-    let mut asked = Vec::new(alloc);
-    add_names(&mut asked, extra)?;
-    let pairs = pairs_of(alloc, found)?;
-    let aliases = Aliases::of(alloc, pairs.as_slice())?;
-    let names = aliases.settle_all(alloc, pairs)?;
-    Ok(Loaded::new(Items::from_vec(asked), names))
-}
-
-// The entries of a map in the order of their keys.
-fn pairs_of(
-    alloc: Global,
-    found: BTreeMap<UnitName, NameLoad>,
-) -> Result<Vec<(UnitName, NameLoad)>, AllocError>
-    ensures pairs { IfOk result (λ pairs. pairs.items ≡ found.entries) }
-{
-    let mut pairs = Vec::new(alloc);
-    for pair in found {
-        pairs.push(pair)?;
-    }
-    Ok(pairs)
+    Ok(settled_by_workers(rt, alloc, extra, found, workers)?)
 }

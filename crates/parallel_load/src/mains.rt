@@ -4,9 +4,10 @@ ghost use Rattle.std.specs.List.{filter_map};
 ghost use Rattle.std.specs.FinMap.{is_sorted};
 ghost use Rattle.unit_name.specs.Names.{name_cmp};
 ghost use Rattle.parallel_load.specs.Alone.{with_mains};
-ghost use Rattle.parallel_load.specs.Loads.{by_mains, list_by_mains, mains_of};
-ghost use Rattle.parallel_load.specs.Mains.{alias_pair, main_by};
+ghost use Rattle.parallel_load.specs.Loads.{by_mains, list_by_mains};
+ghost use Rattle.parallel_load.specs.Mains.{alias_pair, main_by, other_mains};
 
+use crate::kept::Kept;
 use crate::loaded::NameLoad;
 use section_reader::Items;
 use setting_rules::{DependencyList, in_byte_order};
@@ -36,7 +37,7 @@ impl Model for Aliases {
 
 impl Aliases {
     /// Those among names in byte order. It fails for want of memory alone.
-    pub fn of(alloc: Global, names: &[(UnitName, NameLoad)]) -> Result<Aliases, AllocError>
+    pub fn of(alloc: Global, names: &[(UnitName, Kept)]) -> Result<Aliases, AllocError>
         requires sorted { IsTrue (is_sorted name_cmp names.now) }
         ensures aliases { IfOk result (λ aliases. aliases ≡ filter_map alias_pair names.now) }
     {
@@ -58,14 +59,14 @@ impl Aliases {
     pub fn settle_all(
         &self,
         alloc: Global,
-        names: Vec<(UnitName, NameLoad)>,
+        names: Vec<(UnitName, Kept)>,
     ) -> Result<Vec<(UnitName, NameLoad)>, AllocError>
         ensures names { IfOk result (λ all. all.items
             ≡ map (λ p. (p.0, with_mains (main_by self.now) p.1)) names.items) }
     {
-        let mut all = Vec::new(alloc);
-        for (name, load) in names {
-            all.push((name, self.settle(alloc, load)?))?;
+        let mut all = Vec::with_capacity(alloc, names.len())?;
+        for (name, kept) in names {
+            all.push((name, self.settle(alloc, kept.into_load())?))?;
         }
         Ok(all)
     }
@@ -85,15 +86,16 @@ impl Aliases {
         ensures unit { IfOk result (λ settled. settled ≡ by_mains (main_by self.now) unit) }
     {
         let mut unit = unit;
-        let mut deps = Items::new(alloc);
-        for list in unit.deps.into_vec() {
+        let lists = unit.deps.into_vec();
+        let mut deps = Vec::with_capacity(alloc, lists.len())?;
+        for list in lists {
             deps.push(self.settle_list(alloc, &unit.name, list)?)?;
         }
-        unit.deps = deps;
+        unit.deps = Items::from_vec(deps);
         Ok(unit)
     }
 
-    // A list of a unit's dependencies by main names.
+    // A list of a unit's dependencies by main names. It takes memory only where an alias or the unit is among them.
     fn settle_list(
         &self,
         alloc: Global,
@@ -103,30 +105,70 @@ impl Aliases {
         ensures list { IfOk result (λ settled. settled ≡ list_by_mains (main_by self.now) unit.now list) }
     {
         let DependencyList { kind, names } = list;
+        let names = names.into_vec();
+        let mains = if self.are_mains(unit, &names) {
+            names
+        } else {
+            self.mains_of(alloc, unit, names)?
+        };
+        Ok(DependencyList {
+            kind,
+            names: in_byte_order(mains),
+        })
+    }
+
+    // Whether names are main names, and none is the unit's.
+    fn are_mains(&self, unit: &UnitName, names: &[UnitName]) -> bool
+        ensures same { IsTrue result → other_mains (main_by self.now) unit.now names.now ≡ names.now }
+    {
+        for name in names {
+            if *name == *unit || !self.is_main(name) {
+                return false;
+            }
+        }
+        true
+    }
+
+    // Whether a name is no alias.
+    fn is_main(&self, name: &UnitName) -> bool
+        ensures main { IsTrue result → main_by self.now name.now ≡ name.now }
+    {
+        match seek(&self.pairs, name) {
+            Ok(_) => false,
+            Err(_) => true,
+        }
+    }
+
+    // The main names of names, but for the unit's.
+    fn mains_of(
+        &self,
+        alloc: Global,
+        unit: &UnitName,
+        names: Vec<UnitName>,
+    ) -> Result<Vec<UnitName>, AllocError>
+        ensures mains { IfOk result (λ mains. mains.items ≡ other_mains (main_by self.now) unit.now names.items) }
+    {
         let mut mains = Vec::new(alloc);
-        for name in names.into_vec() {
+        for name in names {
             let main = self.main_of(name)?;
             if main != *unit {
                 mains.push(main)?;
             }
         }
-        Ok(DependencyList {
-            kind,
-            names: in_byte_order(mains),
-        })
+        Ok(mains)
     }
 }
 
 // The aliases among names, each with its main name.
 fn alias_pairs(
     alloc: Global,
-    names: &[(UnitName, NameLoad)],
+    names: &[(UnitName, Kept)],
 ) -> Result<Vec<(UnitName, UnitName)>, AllocError>
     ensures pairs { IfOk result (λ pairs. pairs.items ≡ filter_map alias_pair names.now) }
 {
     let mut pairs = Vec::new(alloc);
-    for (name, load) in names {
-        if let NameLoad::Alias(main) = load {
+    for (name, kept) in names {
+        if let NameLoad::Alias(main) = kept.load() {
             pairs.push((name.try_clone()?, main.try_clone()?))?;
         }
     }

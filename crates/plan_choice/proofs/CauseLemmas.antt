@@ -5,8 +5,9 @@ use Rattle.std.specs.declared.vec.Vec.{Vec}
 use Rattle.std.specs.declared.alloc.Global.{Global}
 use Rattle.list_laws.specs.Members.{IsAmong}
 use Rattle.index_rows.specs.Least.{IsLeast}
-use Rattle.index_rows.specs.Rows.{Marked, row}
-use Rattle.index_rows.specs.RowLaws.{row-below}
+use Rattle.index_rows.specs.Rows.{Marked}
+use Rattle.index_rows.specs.StepLaws.{steps-below}
+use Rattle.index_rows.specs.Steps.{steps_from}
 use Rattle.start_order.specs.OrderLaws.{least_along}
 use Rattle.plan_choice.specs.declared.cases.PlanRows.{PlanRows}
 use Rattle.plan_choice.specs.Sets.{IsNeeded, AreInConflict}
@@ -33,17 +34,17 @@ module _ (p : PlanRows) (needed : List Bool) (n : AreMarksOf (count_of p) (IsNee
         (λ v h. (left v).1 ((n.marked v).1 h.0, untrue ((case_of p).is_loaded v) h.1)) u l
 
   module _ (idle : List Bool) (i : AreMarksOf (count_of p) (IsIdle (count_of p) (case_of p)) idle) where
-    pub lacking : (u v : ℕ) → (Marked needed u × IsAmong v (row p.requisites.items u) × Marked idle v) ↔ LacksRequisite nat_cmp (case_of p) u v
+    pub lacking : (u v : ℕ) → (Marked needed u × IsAmong v (steps_from p.requisites u) × Marked idle v) ↔ LacksRequisite nat_cmp (case_of p) u v
     lacking u v = (
       λ h. ((n.marked u).0 h.0, h.1, is_false ((case_of p).is_running v) ((i.marked v).0 h.2).1),
-      λ h. ((n.marked u).1 h.0, h.1, (i.marked v).1 (row-below (count_of p) p.requisites.items u v p.lawful_requisites.within h.1, untrue ((case_of p).is_running v) h.2)),
+      λ h. ((n.marked u).1 h.0, h.1, (i.marked v).1 (steps-below (count_of p) p.requisites u v p.lawful_requisites h.1, untrue ((case_of p).is_running v) h.2)),
     )
 
-    pub all_run : ((u v : ℕ) → ¬ (Marked needed u × IsAmong v (row p.requisites.items u) × Marked idle v)) → (u v : ℕ) → IsNeeded (case_of p) u → IsAmong v ((case_of p).requisites u) → IsTrue ((case_of p).is_running v)
+    pub all_run : ((u v : ℕ) → ¬ (Marked needed u × IsAmong v (steps_from p.requisites u) × Marked idle v)) → (u v : ℕ) → IsNeeded (case_of p) u → IsAmong v ((case_of p).requisites u) → IsTrue ((case_of p).is_running v)
     all_run none u v h a = stable ((case_of p).is_running v) (λ out. none u v ((lacking u v).1 (h, a, is_false ((case_of p).is_running v) out)))
 
-  module _ (rivals : List (Vec ℕ Global)) (r : ArePairsOf (count_of p) (AreInConflict (case_of p)) rivals) where
-    pub rivalry : (u v : ℕ) → (Marked needed u × IsAmong v (row rivals u) × Marked needed v) ↔ AreNeededRivals nat_cmp (case_of p) u v
+  module _ (rivals : List (List (Vec ℕ Global))) (r : ArePairsOf (count_of p) (AreInConflict (case_of p)) rivals) where
+    pub rivalry : (u v : ℕ) → (Marked needed u × IsAmong v (steps_from rivals u) × Marked needed v) ↔ AreNeededRivals nat_cmp (case_of p) u v
     rivalry u v = (
       λ h. ((n.marked u).0 h.0, (n.marked v).0 h.2, (r.pairs u v).0 h.1),
       λ h. ((n.marked u).1 h.0, (r.pairs u v).1 h.2, (n.marked v).1 h.1),

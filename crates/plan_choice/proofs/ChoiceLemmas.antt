@@ -1,19 +1,22 @@
 -- What is pulled, what loses, and what is chosen, by marks and rows.
-use Rattle.std.proofs.Common.{◌≡◌, ℕ, ◌<◌, ◌⊎◌, ◌↔◌, inl, inr, Bool, true, false, List, [], ◌∷◌, ◌++◌, length, get_or, set, refl, sym, ◌∙◌, subst, length-set, get_or-set_same, get_or-set_other}
+use Rattle.std.proofs.Common.{◌≡◌, ℕ, ◌<◌, ◌⊎◌, ◌↔◌, inl, inr, Bool, true, false, List, [], ◌∷◌, ◌++◌, length, get_or, set, refl, sym, ◌∙◌, subst, length-set, arith, get_or-set_same, get_or-set_other}
 use Rattle.std.specs.Ordering.{nat_cmp}
-use Rattle.std.specs.declared.vec.Vec.{Vec}
-use Rattle.std.specs.declared.alloc.Global.{Global}
 use Rattle.std.proofs.lemmas.Bool.{cases_eq}
 use Rattle.list_laws.specs.Members.{IsAmong, IsAmong-append_left, IsAmong-append_right}
 use Rattle.name_closure.specs.Chains.{IsReached}
+use Rattle.name_closure.specs.ClosureLaws.{reached_closed, reached_least}
 use Rattle.name_closure.specs.ListedLaws.{Listed, Named}
 use Rattle.index_rows.specs.Rows.{Marked, row}
 use Rattle.index_rows.specs.ListLaws.{IsAmong-push_cases, below_cmp, cmp_below}
 use Rattle.index_rows.specs.MarkLaws.{marked_or_not}
+use Rattle.index_rows.specs.StepLaws.{more_kinds, opposite_is}
+use Rattle.index_rows.specs.Steps.{LeadsInside, steps_from}
 use Rattle.plan_choice.specs.declared.cases.PlanRows.{PlanRows}
-use Rattle.plan_choice.specs.Sets.{IsGood, Pulls, IsPulled, IsExtra, IsDropped, Keeps, IsChosen}
+use Rattle.plan_choice.specs.Answers.{IsClearBelow}
+use Rattle.plan_choice.specs.SetLaws.{needs_itself, needs_all}
+use Rattle.plan_choice.specs.Sets.{IsNeeded, IsGood, Pulls, IsPulled, IsExtra, IsDropped, Keeps, IsChosen}
 use Rattle.plan_choice.specs.RowCases.{case_of, count_of}
-use Rattle.plan_choice.specs.Marking.{AreMarksOf, ArePairsOf, IsListOf}
+use Rattle.plan_choice.specs.Marking.{AreMarksOf, IsListOf}
 use Rattle.plan_choice.specs.Losing.{IsLoser, SetsMarks}
 use Rattle.plan_choice.proofs.Fitting.{marks_along}
 use Rattle.plan_choice.proofs.WishLemmas.{needs_source, source_needed}
@@ -63,63 +66,94 @@ clean_again none marks after nodes clean s t v m = by (marked_or_not marks v)
 module _ (p : PlanRows) where
   -- ---- pulled
 
-  pub pulled_is : (good marks : List Bool) (wishes pulls : List (Vec ℕ Global)) → AreMarksOf (count_of p) (IsGood (case_of p)) good
-      → ((u v : ℕ) → IsAmong v (row wishes u) ↔ (IsAmong v (row p.wants.items u) × Marked good v))
-      → ((u v : ℕ) → IsAmong v (row pulls u) ↔ (IsAmong v (row p.needs.items u) ⊎ IsAmong v (row wishes u)))
-      → AreMarksOf (count_of p) (IsReached (Listed (p.target ∷ [])) (Named (row pulls))) marks → AreMarksOf (count_of p) (IsPulled (case_of p)) marks
-  pulled_is good marks wishes pulls g w s r =
-      marks_along (count_of p) (Listed (p.target ∷ [])) (Listed (p.target ∷ [])) (Named (row pulls)) (Pulls (case_of p)) marks r (λ u. (λ h. h, λ h. h))
-      (λ u v. (
-        λ h. elim ((s u v).0 h) [ inl a ↦ inl a | inr b ↦ (let k = (w u v).0 b in inr (k.0, (g.marked v).0 k.1)) ],
-        λ h. (s u v).1 (elim h [ inl a ↦ inl a | inr b ↦ inr ((w u v).1 (b.0, (g.marked v).1 b.1)) ]),
-      ))
+  module _ (clear : IsClearBelow nat_cmp (case_of p) 6) where
+    -- what the target needs is good
+    needed_good : (u : ℕ) → IsNeeded (case_of p) u → IsGood (case_of p) u
+    needed_good u n = record {
+      all_loaded = λ v m. clear.needs_loaded (omega arith) v (needs_all (case_of p) p.target u v n m);
+      requisites_run = λ v w m a. clear.requisites_run (omega arith) v w (needs_all (case_of p) p.target u v n m) a;
+      at_peace = λ v w m k c. clear.at_peace (omega arith) v w (needs_all (case_of p) p.target u v n m) k c;
+    }
+
+    -- what a good unit needs is good
+    good_needs : (u v : ℕ) → IsAmong v ((case_of p).needs u) → IsGood (case_of p) u → IsGood (case_of p) v
+    good_needs u v a g =
+        let one = (reached_closed (Listed (u ∷ [])) (Named (case_of p).needs)).stepped u v (needs_itself (case_of p) u) a in
+        record {
+          all_loaded = λ w m. g.all_loaded w (needs_all (case_of p) u v w one m);
+          requisites_run = λ w x m k. g.requisites_run w x (needs_all (case_of p) u v w one m) k;
+          at_peace = λ w x m k c. g.at_peace w x (needs_all (case_of p) u v w one m) k c;
+        }
+
+    module _ (good : List Bool) (g : AreMarksOf (count_of p) (IsGood (case_of p)) good) where
+      abbrev Inside : ℕ → ℕ → Type 0
+      Inside = LeadsInside good (p.needs ++ p.wants)
+
+      -- all that is pulled is good, and reached inside what is good
+      pulled_inside : (u : ℕ) → IsPulled (case_of p) u → IsGood (case_of p) u × IsReached (Listed (p.target ∷ [])) Inside u
+      pulled_inside u r = reached_least (Listed (p.target ∷ [])) (Pulls (case_of p)) (λ x. IsGood (case_of p) x × IsReached (Listed (p.target ∷ [])) Inside x) (record {
+        started = λ x h. (needed_good x (record { steps = 0; chain = h }), record { steps = 0; chain = h });
+        stepped = λ x y h l. (let ok : IsGood (case_of p) y = elim l [ inl a ↦ good_needs x y a h.0 | inr b ↦ b.1 ] in
+            let step : IsAmong y (steps_from (p.needs ++ p.wants) x) = (more_kinds p.needs p.wants x y).1 (elim l [ inl a ↦ inl a | inr b ↦ inr b.0 ]) in
+            (ok, (reached_closed (Listed (p.target ∷ [])) Inside).stepped x y h.1 (record { step = step; marked = (g.marked y).1 ok })));
+      }) u r
+
+      inside_pulled : (u : ℕ) → IsReached (Listed (p.target ∷ [])) Inside u → IsPulled (case_of p) u
+      inside_pulled u r = reached_least (Listed (p.target ∷ [])) Inside (IsPulled (case_of p)) (record {
+        started = λ x h. record { steps = 0; chain = h };
+        stepped = λ x y h l. (reached_closed (Listed (p.target ∷ [])) (Pulls (case_of p))).stepped x y h
+            (elim ((more_kinds p.needs p.wants x y).0 l.step) [ inl a ↦ inl a | inr b ↦ inr (b, (g.marked y).0 l.marked) ]);
+      }) u r
+
+      pub pulled_is : (marks : List Bool) → AreMarksOf (count_of p) (IsReached (Listed (p.target ∷ [])) Inside) marks → AreMarksOf (count_of p) (IsPulled (case_of p)) marks
+      pulled_is marks r = record { units = r.units; marked = λ u. (λ m. inside_pulled u ((r.marked u).0 m), λ h. (r.marked u).1 (pulled_inside u h).1) }
 
   -- ---- losers
 
   -- one loses just where it is extra, and another extra one names it, and isn't named by it or is less
-  pub loser_is : (extra named : List Bool) (named_by : List (Vec ℕ Global)) (u : ℕ) → AreMarksOf (count_of p) (IsExtra (case_of p)) extra
-      → ((w v : ℕ) → IsAmong v (row named_by w) ↔ IsAmong w (row p.conflicts.items v)) → ((v : ℕ) → Marked named v ↔ IsAmong v (row p.conflicts.items u))
-      → Marked extra u → (v : ℕ) × (IsAmong v (row named_by u) × Marked extra v × (Marked named v → v < u)) → IsLoser (case_of p) u
-  loser_is extra named named_by u e back m x l = (
+  pub loser_is : (extra named : List Bool) (u : ℕ) → AreMarksOf (count_of p) (IsExtra (case_of p)) extra
+      → ((v : ℕ) → Marked named v ↔ IsAmong v (row p.conflicts.now u))
+      → Marked extra u → (v : ℕ) × (IsAmong v (row p.conflicted_by.now u) × Marked extra v × (Marked named v → v < u)) → IsLoser (case_of p) u
+  loser_is extra named u e m x l = (
     l.0,
     record {
       extra = (e.marked u).0 x;
       other_extra = (e.marked l.0).0 l.1.1;
-      is_named = (back u l.0).0 l.1.0;
+      is_named = (opposite_is (row p.conflicts.now) (row p.conflicted_by.now) p.conflicts_turned u l.0).0 l.1.0;
       greater = λ a. below_cmp l.0 u (l.1.2 ((m l.0).1 a));
     },
   )
 
-  pub loser_was : (extra named : List Bool) (named_by : List (Vec ℕ Global)) (u : ℕ) → AreMarksOf (count_of p) (IsExtra (case_of p)) extra
-      → ((w v : ℕ) → IsAmong v (row named_by w) ↔ IsAmong w (row p.conflicts.items v)) → ((v : ℕ) → Marked named v ↔ IsAmong v (row p.conflicts.items u))
-      → IsLoser (case_of p) u → Marked extra u × ((v : ℕ) × (IsAmong v (row named_by u) × Marked extra v × (Marked named v → v < u)))
-  loser_was extra named named_by u e back m l =
-      ((e.marked u).1 l.1.extra, (l.0, ((back u l.0).1 l.1.is_named, (e.marked l.0).1 l.1.other_extra, λ k. cmp_below l.0 u (l.1.greater ((m l.0).0 k)))))
+  pub loser_was : (extra named : List Bool) (u : ℕ) → AreMarksOf (count_of p) (IsExtra (case_of p)) extra
+      → ((v : ℕ) → Marked named v ↔ IsAmong v (row p.conflicts.now u))
+      → IsLoser (case_of p) u → Marked extra u × ((v : ℕ) × (IsAmong v (row p.conflicted_by.now u) × Marked extra v × (Marked named v → v < u)))
+  loser_was extra named u e m l =
+      ((e.marked u).1 l.1.extra, (l.0, ((opposite_is (row p.conflicts.now) (row p.conflicted_by.now) p.conflicts_turned u l.0).1 l.1.is_named, (e.marked l.0).1 l.1.other_extra, λ k. cmp_below l.0 u (l.1.greater ((m l.0).0 k)))))
 
   -- ---- chosen
 
-  module _ (needed_by : List (Vec ℕ Global)) (back : ArePairsOf (count_of p) (λ u v. IsAmong u ((case_of p).needs v)) needed_by) (pulled fallen rest : List Bool) (losers : List ℕ)
+  module _ (pulled fallen rest : List Bool) (losers : List ℕ)
       (is_pulled : AreMarksOf (count_of p) (IsPulled (case_of p)) pulled) (lost : IsListOf (count_of p) (IsLoser (case_of p)) losers)
-      (fell : (v : ℕ) → Marked fallen v ↔ IsReached (Listed losers) (Named (row needed_by)) v) (left : (v : ℕ) → Marked rest v ↔ (Marked pulled v × ¬ Marked fallen v)) where
+      (fell : (v : ℕ) → Marked fallen v ↔ IsReached (Listed losers) (Named (steps_from p.needed_by)) v) (left : (v : ℕ) → Marked rest v ↔ (Marked pulled v × ¬ Marked fallen v)) where
     dropped_fell : (v : ℕ) → IsDropped nat_cmp (case_of p) v → Marked fallen v
-    dropped_fell v d = (fell v).1 (source_needed p needed_by back losers v d.loser ((lost.members d.loser).1 (d.winner, d.lost)) d.needed)
+    dropped_fell v d = (fell v).1 (source_needed p losers v d.loser ((lost.members d.loser).1 (d.winner, d.lost)) d.needed)
 
     fell_dropped : (v : ℕ) → Marked pulled v → Marked fallen v → IsDropped nat_cmp (case_of p) v
     fell_dropped v m f =
-        let s = needs_source p needed_by back losers v ((fell v).0 f) in
+        let s = needs_source p losers v ((fell v).0 f) in
         let l = (lost.members s.0).0 s.1.0 in
         record { pulled = (is_pulled.marked v).0 m; loser = s.0; winner = l.0; lost = l.1; needed = s.1.1 }
 
-    pub chosen_is : (marks : List Bool) (asked keeps : List (Vec ℕ Global)) → ((u v : ℕ) → IsAmong v (row asked u) ↔ (IsAmong v (row p.needs.items u) ⊎ IsAmong v (row p.wants.items u)))
-        → ((u v : ℕ) → IsAmong v (row keeps u) ↔ (IsAmong v (row asked u) × Marked rest v))
-        → AreMarksOf (count_of p) (IsReached (Listed (p.target ∷ [])) (Named (row keeps))) marks → AreMarksOf (count_of p) (IsChosen nat_cmp (case_of p)) marks
-    chosen_is marks asked keeps a k r =
-        marks_along (count_of p) (Listed (p.target ∷ [])) (Listed (p.target ∷ [])) (Named (row keeps)) (Keeps nat_cmp (case_of p)) marks r (λ u. (λ h. h, λ h. h))
+    pub chosen_is : (marks : List Bool) → AreMarksOf (count_of p) (IsReached (Listed (p.target ∷ [])) (LeadsInside rest (p.needs ++ p.wants))) marks → AreMarksOf (count_of p) (IsChosen nat_cmp (case_of p)) marks
+    chosen_is marks r =
+        marks_along (count_of p) (Listed (p.target ∷ [])) (Listed (p.target ∷ [])) (LeadsInside rest (p.needs ++ p.wants)) (Keeps nat_cmp (case_of p)) marks r (λ u. (λ h. h, λ h. h))
         (λ u v. (
-          λ h. (let b = (k u v).0 h in
-              let l = (left v).0 b.1 in
-              record { asked = (a u v).0 b.0; pulled = (is_pulled.marked v).0 l.0; stays = λ d. l.1 (dropped_fell v d) }),
-          λ h. (k u v).1 ((a u v).1 h.asked, (left v).1 ((is_pulled.marked v).1 h.pulled, λ f. h.stays (fell_dropped v ((is_pulled.marked v).1 h.pulled) f))),
+          λ h. (let l = (left v).0 h.marked in
+              record { asked = (more_kinds p.needs p.wants u v).0 h.step; pulled = (is_pulled.marked v).0 l.0; stays = λ d. l.1 (dropped_fell v d) }),
+          λ h. record {
+            step = (more_kinds p.needs p.wants u v).1 h.asked;
+            marked = (left v).1 ((is_pulled.marked v).1 h.pulled, λ f. h.stays (fell_dropped v ((is_pulled.marked v).1 h.pulled) f));
+          },
         ))
 
 -- marks of units by what a closure ensures of them

@@ -1,5 +1,5 @@
 -- Marks, rows and options, as the code reads them.
-use Rattle.std.proofs.Common.{◌≡◌, ℕ, ◌<◌, Bool, true, false, not, IsTrue, List, refl, sym, subst, Option, Some, None, get_or}
+use Rattle.std.proofs.Common.{◌≡◌, ℕ, zero, suc, ◌<◌, ◌∷◌, [], ◌++◌, arith, Bool, true, false, not, IsTrue, List, refl, sym, subst, Option, Some, None, get_or}
 use Rattle.std.specs.List.{All}
 use Rattle.std.specs.Option.{MatchOption, is_some}
 use Rattle.std.specs.declared.vec.Vec.{Vec}
@@ -10,6 +10,7 @@ use Rattle.name_closure.specs.Chains.{IsReached}
 use Rattle.name_closure.specs.SourceLaws.{same_reached, AreSameNodes, AreSameSteps}
 use Rattle.index_rows.specs.Rows.{AreRowsOf, row}
 use Rattle.index_rows.specs.RowLaws.{All-row}
+use Rattle.index_rows.specs.Steps.{AreStepsOf}
 use Rattle.plan_choice.specs.Marking.{AreMarksOf}
 
 -- a row has places in marks of so many units
@@ -18,6 +19,14 @@ row_fits m n rows u r e lawful f =
     let P : List ℕ → Type 0 = λ l. All (λ v. v < m) l in
     let Q : ℕ → Type 0 = λ k. All (λ v. v < k) (row rows u) in
     subst P (sym e) (subst Q (sym f) (All-row n rows u lawful.within))
+
+-- steps between so many units fit marks of so many
+pub steps_fit : (m n : ℕ) (steps : List (List (Vec ℕ Global))) → AreStepsOf n steps → m ≡ n → AreStepsOf m steps
+steps_fit m n steps a e = let P : ℕ → Type 0 = λ k. AreStepsOf k steps in subst P (sym e) a
+
+pub one_place : (n u : ℕ) → u < n → All (λ v. v < n) (u ∷ [])
+one_place n u l zero d lt = l
+one_place n u l (suc k) d lt = absurd (omega arith)
 
 -- what holds of each member of a list holds at each place of it
 pub all_places : (P : ℕ → Type 0) (xs : List ℕ) → ((x : ℕ) → IsAmong x xs → P x) → All P xs

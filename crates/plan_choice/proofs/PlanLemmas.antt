@@ -5,9 +5,11 @@ use Rattle.std.specs.declared.vec.Vec.{Vec}
 use Rattle.std.specs.declared.alloc.Global.{Global}
 use Rattle.list_laws.specs.Members.{IsAmong}
 use Rattle.name_closure.specs.Chains.{IsClosure}
-use Rattle.name_closure.specs.ListedLaws.{Listed, Named}
+use Rattle.name_closure.specs.ListedLaws.{Listed}
 use Rattle.name_closure.specs.SourceLaws.{same_closure}
-use Rattle.index_rows.specs.Rows.{Marked, row}
+use Rattle.index_rows.specs.Rows.{Marked}
+use Rattle.index_rows.specs.StepLaws.{opposite_is}
+use Rattle.index_rows.specs.Steps.{LeadsInside, steps_from}
 use Rattle.start_order.specs.StartOrder.{CanStart, IsStuck, IsStartList, IsCycle}
 use Rattle.start_order.specs.OrderLaws.{least_along}
 use Rattle.start_order.specs.CycleLaws.{cycle_along}
@@ -54,19 +56,18 @@ module _ (p : PlanRows) (chosen : List Bool) (c : AreMarksOf (count_of p) (IsCho
       λ h. (left u).1 (h.runs, λ m. h.unchosen ((c.marked u).0 m)),
     )
 
-    pub stopped_is : (rivals tied takes : List (Vec ℕ Global)) (ousted stops : List ℕ) → ArePairsOf (count_of p) (AreInConflict (case_of p)) rivals
-        → ((u : ℕ) → IsAmong u ousted ↔ (Marked outside u × ((v : ℕ) × (IsAmong v (row rivals u) × Marked chosen v))))
-        → ((u v : ℕ) → IsAmong v (row tied u) ↔ IsAmong u (row p.stops_with.items v)) → ((u v : ℕ) → IsAmong v (row takes u) ↔ (IsAmong v (row tied u) × Marked outside v))
-        → IsClosure (Listed ousted) (Named (row takes)) nat_cmp stops → IsClosure (IsOusted nat_cmp (case_of p)) (TakesAlong nat_cmp (case_of p)) nat_cmp stops
-    stopped_is rivals tied takes ousted stops r o t k =
-        same_closure (Listed ousted) (IsOusted nat_cmp (case_of p)) (Named (row takes)) (TakesAlong nat_cmp (case_of p))
+    pub stopped_is : (rivals : List (List (Vec ℕ Global))) (ousted stops : List ℕ) → ArePairsOf (count_of p) (AreInConflict (case_of p)) rivals
+        → ((u : ℕ) → IsAmong u ousted ↔ (Marked outside u × ((v : ℕ) × (IsAmong v (steps_from rivals u) × Marked chosen v))))
+        → IsClosure (Listed ousted) (LeadsInside outside p.takes_along) nat_cmp stops → IsClosure (IsOusted nat_cmp (case_of p)) (TakesAlong nat_cmp (case_of p)) nat_cmp stops
+    stopped_is rivals ousted stops r o =
+        same_closure (Listed ousted) (IsOusted nat_cmp (case_of p)) (LeadsInside outside p.takes_along) (TakesAlong nat_cmp (case_of p))
         (λ u. (
           λ h. (let m = (o u).0 h in record { outside = (outside_is u).0 m.0; rival = m.1.0; chosen = (c.marked m.1.0).0 m.1.1.1; conflict = (r.pairs u m.1.0).0 m.1.1.0 }),
           λ h. (o u).1 ((outside_is u).1 h.outside, (h.rival, ((r.pairs u h.rival).1 h.conflict, (c.marked h.rival).1 h.chosen))),
         ))
         (λ v u. (
-          λ h. (let m = (k v u).0 h in record { outside = (outside_is u).0 m.1; tied = (t v u).0 m.0 }),
-          λ h. (k v u).1 ((t v u).1 h.tied, (outside_is u).1 h.outside),
+          λ h. record { outside = (outside_is u).0 h.marked; tied = (opposite_is (steps_from p.stops_with) (steps_from p.takes_along) p.stops_turned v u).0 h.step },
+          λ h. record { step = (opposite_is (steps_from p.stops_with) (steps_from p.takes_along) p.stops_turned v u).1 h.tied; marked = (outside_is u).1 h.outside },
         ))
         nat_cmp stops
 

@@ -1,21 +1,20 @@
 -- What is good needs nothing with which something is wrong.
 use Rattle.std.proofs.Common.{◌≡◌, ℕ, ◌+◌, ◌<◌, ◌↔◌, inl, inr, Bool, IsTrue, List, [], ◌∷◌, ◌++◌, sym, subst, arith}
-use Rattle.std.specs.declared.vec.Vec.{Vec}
-use Rattle.std.specs.declared.alloc.Global.{Global}
 use Rattle.std.proofs.lemmas.Bool.{cases_eq}
 use Rattle.list_laws.specs.Members.{IsAmong, IsAmong-append_left, IsAmong-append_right}
 use Rattle.name_closure.specs.Chains.{IsReached}
 use Rattle.name_closure.specs.ClosureLaws.{reached_closed, reached_least}
 use Rattle.name_closure.specs.ListedLaws.{Listed, Named}
-use Rattle.index_rows.specs.Rows.{Marked, row}
+use Rattle.index_rows.specs.Rows.{Marked}
 use Rattle.index_rows.specs.ListLaws.{IsAmong-push_cases}
 use Rattle.index_rows.specs.MarkLaws.{Marked-within}
-use Rattle.index_rows.specs.RowLaws.{row-below}
+use Rattle.index_rows.specs.StepLaws.{opposite_is, steps-below}
+use Rattle.index_rows.specs.Steps.{steps_from}
 use Rattle.plan_choice.specs.declared.cases.PlanRows.{PlanRows}
 use Rattle.plan_choice.specs.Sets.{Needs, IsGood}
 use Rattle.plan_choice.specs.SetLaws.{needs_itself, needs_all}
 use Rattle.plan_choice.specs.RowCases.{case_of, count_of}
-use Rattle.plan_choice.specs.Marking.{AreMarksOf, ArePairsOf, IsListOf}
+use Rattle.plan_choice.specs.Marking.{AreMarksOf, IsListOf}
 use Rattle.plan_choice.specs.Soundness.{IsSound, IsIdle}
 use Rattle.plan_choice.proofs.Fitting.{stable}
 
@@ -24,7 +23,7 @@ module _ (p : PlanRows) where
   pub run_unless_idle : (idle : List Bool) → AreMarksOf (count_of p) (IsIdle (count_of p) (case_of p)) idle → (u : ℕ) → ((v : ℕ) → IsAmong v ((case_of p).requisites u) → ¬ Marked idle v)
       → (v : ℕ) → IsAmong v ((case_of p).requisites u) → IsTrue ((case_of p).is_running v)
   run_unless_idle idle i u none v a =
-      stable ((case_of p).is_running v) (λ rests. none v a ((i.marked v).1 (row-below (count_of p) p.requisites.items u v p.lawful_requisites.within a, rests)))
+      stable ((case_of p).is_running v) (λ rests. none v a ((i.marked v).1 (steps-below (count_of p) p.requisites u v p.lawful_requisites a, rests)))
 
   stable_sound : (u : ℕ) → ¬ (¬ IsSound (case_of p) u) → IsSound (case_of p) u
   stable_sound u h = record {
@@ -49,47 +48,47 @@ module _ (p : PlanRows) where
   }
 
   -- what needs a unit is reached from it by steps to what is in need
-  module _ (needed_by : List (Vec ℕ Global)) (back : ArePairsOf (count_of p) (λ u v. IsAmong u ((case_of p).needs v)) needed_by) (sources : List ℕ) where
+  module _ (sources : List ℕ) where
     -- reached backwards: in need of a source
-    pub needs_source : (u : ℕ) → IsReached (Listed sources) (Named (row needed_by)) u → (s : ℕ) × (IsAmong s sources × Needs (case_of p) u s)
-    needs_source u r = reached_least (Listed sources) (Named (row needed_by)) (λ x. (s : ℕ) × (IsAmong s sources × Needs (case_of p) x s)) (record {
+    pub needs_source : (u : ℕ) → IsReached (Listed sources) (Named (steps_from p.needed_by)) u → (s : ℕ) × (IsAmong s sources × Needs (case_of p) u s)
+    needs_source u r = reached_least (Listed sources) (Named (steps_from p.needed_by)) (λ x. (s : ℕ) × (IsAmong s sources × Needs (case_of p) x s)) (record {
       started = λ x h. (x, (h, needs_itself (case_of p) x));
-      stepped = λ x y h l. (h.0, (h.1.0, needs_all (case_of p) y x h.0 ((reached_closed (Listed (y ∷ [])) (Named (case_of p).needs)).stepped y x (needs_itself (case_of p) y) ((back.pairs x y).0 l)) h.1.1));
+      stepped = λ x y h l. (h.0, (h.1.0, needs_all (case_of p) y x h.0 ((reached_closed (Listed (y ∷ [])) (Named (case_of p).needs)).stepped y x (needs_itself (case_of p) y) ((opposite_is (steps_from p.needs) (steps_from p.needed_by) p.needs_turned x y).0 l)) h.1.1));
     }) u r
 
     -- what reaches from x all the way back: each that needs x is reached where x is
-    back_along : (u x : ℕ) → IsReached (Listed sources) (Named (row needed_by)) x → Needs (case_of p) u x → IsReached (Listed sources) (Named (row needed_by)) u
+    back_along : (u x : ℕ) → IsReached (Listed sources) (Named (steps_from p.needed_by)) x → Needs (case_of p) u x → IsReached (Listed sources) (Named (steps_from p.needed_by)) u
     back_along u x r n = by n
       where
         -- whatever u needs, if it is reached then so is u
-        by : Needs (case_of p) u x → IsReached (Listed sources) (Named (row needed_by)) u
-        by m = reached_least (Listed (u ∷ [])) (Named (case_of p).needs) (λ y. IsReached (Listed sources) (Named (row needed_by)) y → IsReached (Listed sources) (Named (row needed_by)) u) (record {
-          started = λ y h q. elim h [ inl e ↦ subst (IsReached (Listed sources) (Named (row needed_by))) (sym e) q | inr none ↦ absurd none ];
-          stepped = λ y z h l q. h ((reached_closed (Listed sources) (Named (row needed_by))).stepped z y q ((back.pairs z y).1 l));
+        by : Needs (case_of p) u x → IsReached (Listed sources) (Named (steps_from p.needed_by)) u
+        by m = reached_least (Listed (u ∷ [])) (Named (case_of p).needs) (λ y. IsReached (Listed sources) (Named (steps_from p.needed_by)) y → IsReached (Listed sources) (Named (steps_from p.needed_by)) u) (record {
+          started = λ y h q. elim h [ inl e ↦ subst (IsReached (Listed sources) (Named (steps_from p.needed_by))) (sym e) q | inr none ↦ absurd none ];
+          stepped = λ y z h l q. h ((reached_closed (Listed sources) (Named (steps_from p.needed_by))).stepped z y q ((opposite_is (steps_from p.needs) (steps_from p.needed_by) p.needs_turned z y).1 l));
         }) x m r
 
-    pub source_needed : (u s : ℕ) → IsAmong s sources → Needs (case_of p) u s → IsReached (Listed sources) (Named (row needed_by)) u
+    pub source_needed : (u s : ℕ) → IsAmong s sources → Needs (case_of p) u s → IsReached (Listed sources) (Named (steps_from p.needed_by)) u
     source_needed u s h n = back_along u s (record { steps = 0; chain = h }) n
 
   -- a unit that needs another one of which something is known is one of those that have rows
   pub needs_within : (u v : ℕ) → u < count_of p → Needs (case_of p) u v → v < count_of p
   needs_within u v l n = reached_least (Listed (u ∷ [])) (Named (case_of p).needs) (λ x. x < count_of p) (record {
     started = λ x h. elim h [ inl e ↦ subst (λ y. y < count_of p) e l | inr none ↦ absurd none ];
-    stepped = λ x y h a. row-below (count_of p) p.needs.items x y p.lawful_needs.within a;
+    stepped = λ x y h a. steps-below (count_of p) p.needs x y p.lawful_needs a;
   }) v n
 
   -- marks at all units but those in need of a faulty one are marks at the good ones
-  module _ (needed_by : List (Vec ℕ Global)) (back : ArePairsOf (count_of p) (λ u v. IsAmong u ((case_of p).needs v)) needed_by) (faulty : List ℕ) (bad good : List Bool)
+  module _ (faulty : List ℕ) (bad good : List Bool)
       (faults : IsListOf (count_of p) (λ u. (u < count_of p) × ¬ IsSound (case_of p) u) faulty)
-      (spoilt : (v : ℕ) → Marked bad v ↔ IsReached (Listed faulty) (Named (row needed_by)) v)
+      (spoilt : (v : ℕ) → Marked bad v ↔ IsReached (Listed faulty) (Named (steps_from p.needed_by)) v)
       (others : (v : ℕ) → Marked good v ↔ ((v < count_of p) × ¬ Marked bad v)) where
     pub good_is : (u : ℕ) → Marked good u ↔ IsGood (case_of p) u
     good_is u = (
       λ m. (let o = (others u).0 m in
-          sound_good u (λ v n. stable_sound v (λ out. o.1 ((spoilt u).1 (source_needed needed_by back faulty u v ((faults.members v).1 (needs_within u v o.0 n, out)) n))))),
+          sound_good u (λ v n. stable_sound v (λ out. o.1 ((spoilt u).1 (source_needed faulty u v ((faults.members v).1 (needs_within u v o.0 n, out)) n))))),
       λ g. (others u).1 (
         Marked-within p.loaded.items u (g.all_loaded u (needs_itself (case_of p) u)),
-        (λ b. (let s = needs_source needed_by back faulty u ((spoilt u).0 b) in ((faults.members s.0).0 s.1.0).1 (good_sound u g s.0 s.1.1))),
+        (λ b. (let s = needs_source faulty u ((spoilt u).0 b) in ((faults.members s.0).0 s.1.0).1 (good_sound u g s.0 s.1.1))),
       ),
     )
 

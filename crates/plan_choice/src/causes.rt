@@ -2,7 +2,8 @@
 ghost use Rattle.std.specs.Prelude.{◌≡◌, ◌<◌, ℕ, length, IfOk, IsTrue, MatchOption};
 ghost use Rattle.std.specs.Ordering.{nat_cmp};
 ghost use Rattle.list_laws.specs.Members.{IsAmong};
-ghost use Rattle.index_rows.specs.Rows.{Marked, AreRowsOf, row as row_of};
+ghost use Rattle.index_rows.specs.Rows.{Marked};
+ghost use Rattle.index_rows.specs.Steps.{AreStepsOf, steps_from};
 ghost use Rattle.plan_choice.specs.RowCases.{case_of, count_of};
 ghost use Rattle.plan_choice.specs.RowRefusals.{refusal_of};
 ghost use Rattle.plan_choice.specs.Sets.{IsNeeded, AreInConflict};
@@ -12,21 +13,21 @@ ghost use Rattle.plan_choice.specs.Soundness.{IsIdle};
 
 use crate::answers::RowRefusal;
 use crate::cases::PlanRows;
-use index_rows::{first_marked, least_marked, row, without};
+use index_rows::{Steps, first_marked, without};
 use std::alloc::{AllocError, Global};
 
-// The first pair of a marked unit and a marked one of its row.
-fn first_pair(sources: &[bool], rows: &[Vec<usize>], marks: &[bool]) -> Option<(usize, usize)>
+// The first pair of a marked unit and a marked one to which a step leads from it.
+fn first_pair(sources: &[bool], steps: &Steps, marks: &[bool]) -> Option<(usize, usize)>
     requires sources { length sources.now ≡ length marks.now }
-    requires rows { AreRowsOf (length marks.now) rows.now }
+    requires steps { AreStepsOf (length marks.now) steps.now }
     ensures { MatchOption result
-        ((u v : ℕ) → ¬ (Marked sources.now u × IsAmong v (row_of rows.now u) × Marked marks.now v))
-        (λ pair. IsFirstPair nat_cmp (λ u v. Marked sources.now u × IsAmong v (row_of rows.now u) × Marked marks.now v)
+        ((u v : ℕ) → ¬ (Marked sources.now u × IsAmong v (steps_from steps.now u) × Marked marks.now v))
+        (λ pair. IsFirstPair nat_cmp (λ u v. Marked sources.now u × IsAmong v (steps_from steps.now u) × Marked marks.now v)
         pair.0 pair.1) }
 {
     'sources: for unit in 0..sources.len() {
         if sources[unit] {
-            if let Some(other) = least_marked(row(rows, unit), marks) {
+            if let Some(other) = steps.least_marked(unit, marks) {
                 return Some((unit, other));
             }
         }
@@ -40,7 +41,7 @@ pub fn refused(
     case: &PlanRows,
     idle: &[bool],
     needed: &[bool],
-    rivals: &[Vec<usize>],
+    rivals: &Steps,
 ) -> Result<Option<RowRefusal>, AllocError>
     requires idle { AreMarksOf (count_of case.now) (IsIdle (count_of case.now) (case_of case.now)) idle.now }
     requires needed { AreMarksOf (count_of case.now) (IsNeeded (case_of case.now)) needed.now }

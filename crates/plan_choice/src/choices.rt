@@ -1,9 +1,10 @@
 //! What is pulled, what is dropped of it, and what is chosen.
-ghost use Rattle.std.specs.Prelude.{◌≡◌, ◌<◌, ◌⊎◌, ◌↔◌, ℕ, length, IfOk, IsTrue, slice_index};
+ghost use Rattle.std.specs.Prelude.{◌≡◌, ◌<◌, ◌⊎◌, ◌↔◌, ◌++◌, ℕ, length, IfOk, IsTrue, slice_index};
 ghost use Rattle.std.specs.List.{All};
 ghost use Rattle.std.specs.Ordering.{nat_cmp};
 ghost use Rattle.list_laws.specs.Members.{IsAmong};
 ghost use Rattle.index_rows.specs.Rows.{Marked};
+ghost use Rattle.plan_choice.specs.Answers.{IsClearBelow};
 ghost use Rattle.plan_choice.specs.RowCases.{case_of, count_of};
 ghost use Rattle.plan_choice.specs.Sets.{IsNeeded, AreInConflict, IsGood, IsPulled, IsExtra, LosesTo, IsChosen};
 ghost use Rattle.plan_choice.specs.Marking.{AreMarksOf, ArePairsOf, IsListOf};
@@ -12,17 +13,23 @@ ghost use Rattle.plan_choice.specs.Losing.{IsLoser, SetsMarks};
 
 use crate::cases::PlanRows;
 use crate::wishes::good_wishes;
-use index_rows::{joined, kept, no_marks, reached, row, turned, without};
+use index_rows::{Steps, no_marks, reached, reached_inside, row, without};
 use std::alloc::{AllocError, Global};
 
-// Marks at what is pulled.
-fn pulled(alloc: Global, case: &PlanRows, good: &[bool]) -> Result<Vec<bool>, AllocError>
-    requires { AreMarksOf (count_of case.now) (IsGood (case_of case.now)) good.now }
+// Marks at what is pulled: what is reached inside what is good. All that the target needs is good where nothing is wrong
+// with it.
+fn pulled(
+    alloc: Global,
+    case: &PlanRows,
+    asks: &Steps,
+    good: &[bool],
+) -> Result<Vec<bool>, AllocError>
+    requires asks { asks.now ≡ case.now.needs ++ case.now.wants }
+    requires good { AreMarksOf (count_of case.now) (IsGood (case_of case.now)) good.now }
+    requires clear { IsClearBelow nat_cmp (case_of case.now) 6 }
     ensures { IfOk result (λ marks. AreMarksOf (count_of case.now) (IsPulled (case_of case.now)) marks.items) }
 {
-    let wishes = kept(alloc, &case.wants, good)?;
-    let pulls = joined(alloc, &case.needs, &wishes)?;
-    Ok(reached(alloc, &pulls, &[case.target])?)
+    Ok(reached_inside(alloc, asks, good, &[case.target])?)
 }
 
 // Sets the marks of the nodes.
@@ -57,13 +64,12 @@ fn losers(alloc: Global, case: &PlanRows, extra: &[bool]) -> Result<Vec<usize>, 
     requires { AreMarksOf (count_of case.now) (IsExtra (case_of case.now)) extra.now }
     ensures { IfOk result (λ units. IsListOf (count_of case.now) (IsLoser (case_of case.now)) units.items) }
 {
-    let named_by = turned(alloc, &case.conflicts)?;
     let mut named = no_marks(alloc, extra.len())?;
     let mut units = Vec::new(alloc);
     'units: for unit in 0..extra.len() {
-        set_marks(&mut named, row(&case.conflicts, unit), true);
-        let lost = loses(extra, &named, row(&named_by, unit), unit);
-        set_marks(&mut named, row(&case.conflicts, unit), false);
+        set_marks(&mut named, row(case.conflicts, unit), true);
+        let lost = loses(extra, &named, row(case.conflicted_by, unit), unit);
+        set_marks(&mut named, row(case.conflicts, unit), false);
         if lost && extra[unit] {
             units.push(unit)?;
         }
@@ -77,21 +83,20 @@ pub fn chosen(
     case: &PlanRows,
     idle: &[bool],
     needed: &[bool],
-    rivals: &[Vec<usize>],
+    rivals: &Steps,
 ) -> Result<Vec<bool>, AllocError>
     requires idle { AreMarksOf (count_of case.now) (IsIdle (count_of case.now) (case_of case.now)) idle.now }
     requires needed { AreMarksOf (count_of case.now) (IsNeeded (case_of case.now)) needed.now }
     requires rivals { ArePairsOf (count_of case.now) (AreInConflict (case_of case.now)) rivals.now }
+    requires clear { IsClearBelow nat_cmp (case_of case.now) 6 }
     ensures { IfOk result (λ marks. AreMarksOf (count_of case.now) (IsChosen nat_cmp (case_of case.now)) marks.items) }
 {
-    let needed_by = turned(alloc, &case.needs)?;
-    let good = good_wishes(alloc, case, idle, needed, rivals, &needed_by)?;
-    let pulled = pulled(alloc, case, &good)?;
+    let good = good_wishes(alloc, case, idle, needed, rivals)?;
+    let asks = Steps::both(alloc, &case.needs, &case.wants)?;
+    let pulled = pulled(alloc, case, &asks, &good)?;
     let extra = without(alloc, &pulled, needed)?;
     let losers = losers(alloc, case, &extra)?;
-    let fallen = reached(alloc, &needed_by, &losers)?;
+    let fallen = reached(alloc, case.loaded.len(), &case.needed_by, &losers)?;
     let rest = without(alloc, &pulled, &fallen)?;
-    let asked = joined(alloc, &case.needs, &case.wants)?;
-    let kept = kept(alloc, &asked, &rest)?;
-    Ok(reached(alloc, &kept, &[case.target])?)
+    Ok(reached_inside(alloc, &asks, &rest, &[case.target])?)
 }

@@ -2,7 +2,8 @@
 ghost use Rattle.std.specs.Prelude.{◌≡◌, ℕ, length, IfOk, IfErr};
 ghost use Rattle.std.specs.Ordering.{nat_cmp};
 ghost use Rattle.list_laws.specs.Members.{IsAmong};
-ghost use Rattle.index_rows.specs.Rows.{Marked, AreRowsOf, row as row_of};
+ghost use Rattle.index_rows.specs.Rows.{Marked};
+ghost use Rattle.index_rows.specs.Steps.{AreStepsOf, steps_from};
 ghost use Rattle.name_closure.specs.Chains.{IsClosure};
 ghost use Rattle.plan_choice.specs.RowCases.{case_of, count_of};
 ghost use Rattle.plan_choice.specs.RowRefusals.{refusal_of};
@@ -16,7 +17,7 @@ use crate::cases::PlanRows;
 use crate::causes::refused;
 use crate::choices::chosen;
 use crate::wishes::rivals;
-use index_rows::{closure, kept, least_marked, reached, row, turned, unmarked, without};
+use index_rows::{Steps, marked_nodes, reached, reached_inside, unmarked, without};
 use start_order::start_order;
 use std::alloc::{AllocError, Global};
 
@@ -24,17 +25,17 @@ use std::alloc::{AllocError, Global};
 fn ousted(
     alloc: Global,
     outside: &[bool],
-    rivals: &[Vec<usize>],
+    rivals: &Steps,
     chosen: &[bool],
 ) -> Result<Vec<usize>, AllocError>
     requires units { length chosen.now ≡ length outside.now }
-    requires rivals { AreRowsOf (length chosen.now) rivals.now }
+    requires rivals { AreStepsOf (length chosen.now) rivals.now }
     ensures { IfOk result (λ units. IsListOf (length chosen.now) (λ u. Marked outside.now u
-        × ((v : ℕ) × (IsAmong v (row_of rivals.now u) × Marked chosen.now v))) units.items) }
+        × ((v : ℕ) × (IsAmong v (steps_from rivals.now u) × Marked chosen.now v))) units.items) }
 {
     let mut units = Vec::new(alloc);
     'units: for unit in 0..outside.len() {
-        if outside[unit] && least_marked(row(rivals, unit), chosen).is_some() {
+        if outside[unit] && rivals.least_marked(unit, chosen).is_some() {
             units.push(unit)?;
         }
     }
@@ -45,7 +46,7 @@ fn ousted(
 fn stops(
     alloc: Global,
     case: &PlanRows,
-    rivals: &[Vec<usize>],
+    rivals: &Steps,
     chosen: &[bool],
 ) -> Result<Vec<usize>, AllocError>
     requires rivals { ArePairsOf (count_of case.now) (AreInConflict (case_of case.now)) rivals.now }
@@ -55,9 +56,8 @@ fn stops(
 {
     let outside = without(alloc, &case.running, chosen)?;
     let ousted = ousted(alloc, &outside, rivals, chosen)?;
-    let tied = turned(alloc, &case.stops_with)?;
-    let takes = kept(alloc, &tied, &outside)?;
-    Ok(closure(alloc, &takes, &ousted)?)
+    let stopped = reached_inside(alloc, &case.takes_along, &outside, &ousted)?;
+    Ok(marked_nodes(alloc, &stopped)?)
 }
 
 // The plan where nothing is wrong with what the target needs, or the cycle of what is to start.
@@ -66,7 +66,7 @@ fn plan_of(
     case: &PlanRows,
     idle: &[bool],
     needed: &[bool],
-    rivals: &[Vec<usize>],
+    rivals: &Steps,
 ) -> Result<Result<RowPlan, RowRefusal>, AllocError>
     requires idle { AreMarksOf (count_of case.now) (IsIdle (count_of case.now) (case_of case.now)) idle.now }
     requires needed { AreMarksOf (count_of case.now) (IsNeeded (case_of case.now)) needed.now }
@@ -81,7 +81,7 @@ fn plan_of(
 {
     let chosen = chosen(alloc, case, idle, needed, rivals)?;
     let starting = without(alloc, &chosen, &case.running)?;
-    match start_order(alloc, &starting, &case.predecessors)? {
+    match start_order(alloc, &starting, case.predecessors, case.successors)? {
         Err(cycle) => Ok(Err(RowRefusal::Cycle(cycle))),
         Ok(starts) => {
             let stops = stops(alloc, case, rivals, &chosen)?;
@@ -92,7 +92,7 @@ fn plan_of(
 
 /// The plan of numbered units, or why there is none: the first refusal whose cause stands.
 ///
-/// O(n log n) and the rows.
+/// O(n log n) and the steps.
 pub fn plan_rows(alloc: Global, case: &PlanRows) -> Result<Result<RowPlan, RowRefusal>, AllocError>
     ensures plan { IfOk result (λ answer. IfOk answer (λ plan. IsPlan nat_cmp (case_of case.now) plan.stops.items
         plan.starts.items)) }
@@ -101,7 +101,7 @@ pub fn plan_rows(alloc: Global, case: &PlanRows) -> Result<Result<RowPlan, RowRe
     ensures refusal { IfOk result (λ answer. IfErr answer (λ refusal. IsRefusal nat_cmp (case_of case.now)
         (refusal_of refusal))) }
 {
-    let needed = reached(alloc, &case.needs, &[case.target])?;
+    let needed = reached(alloc, case.loaded.len(), &case.needs, &[case.target])?;
     let rivals = rivals(alloc, case)?;
     let idle = unmarked(alloc, &case.running)?;
     match refused(alloc, case, &idle, &needed, &rivals)? {

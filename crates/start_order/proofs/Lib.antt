@@ -3,3 +3,4 @@ pub mod Waiting
 pub mod Rings
 pub mod States
 pub mod Left
+pub mod Frees

@@ -1,5 +1,5 @@
 -- How many chosen nodes each node still waits for. Only private clauses cite these.
-use Rattle.std.specs.Prelude.{◌≡◌, ◌+◌, ◌⊎◌, ◌↔◌, ◌&&◌, not, cond, ℕ, suc, Bool, false, List, [], ◌∷◌, length, slice_index}
+use Rattle.std.specs.Prelude.{◌≡◌, ◌+◌, ◌≤◌, ◌⊎◌, ◌↔◌, ◌&&◌, not, cond, ℕ, suc, Bool, false, List, [], ◌∷◌, length, slice_index}
 use Rattle.std.specs.List.{slice_index_or}
 use Rattle.list_laws.specs.Members.{IsAmong}
 use Rattle.index_rows.specs.Rows.{Marked, times}
@@ -18,3 +18,7 @@ pub record IsLowered (chosen : List Bool) (row old new had has : List ℕ) : Typ
   pub units : length new ≡ length old
   pub counts : (v : ℕ) → slice_index new v + times v row ≡ slice_index old v
   pub keys : (v : ℕ) → IsAmong v has ↔ (IsAmong v had ⊎ (Marked chosen v × IsAmong v row × (slice_index new v ≡ 0)))
+
+-- the node is one of a list, and none of the list is less
+abbrev pub IsLeastIn : List ℕ → ℕ → Type 0
+IsLeastIn nodes u = IsAmong u nodes × ((v : ℕ) → IsAmong v nodes → u ≤ v)

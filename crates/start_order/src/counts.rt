@@ -4,10 +4,9 @@ ghost use Rattle.std.specs.List.{All};
 ghost use Rattle.index_rows.specs.Rows.{AllBelow, times, row as row_of};
 ghost use Rattle.start_order.specs.Counts.{waiting as waiting_of, IsLowered};
 
-use crate::free::add;
+use crate::free::Free;
 use index_rows::row;
 use std::alloc::{AllocError, Global};
-use std::collections::BTreeSet;
 
 // How many chosen nodes of `nodes` don't stand.
 fn waiting(chosen: &[bool], standing: &[bool], nodes: &[usize]) -> usize
@@ -49,20 +48,20 @@ pub fn counts_of(
 pub fn lower(
     chosen: &[bool],
     counts: &mut Vec<usize>,
-    free: &mut BTreeSet<usize>,
+    free: &mut Free,
     nodes: &[usize],
 ) -> Result<(), AllocError>
     requires units { length counts.old.items ≡ length chosen.now }
     requires nodes { All (λ v. v < length chosen.now) nodes.now }
     requires enough { (v : ℕ) → times v nodes.now ≤ slice_index counts.old.items v }
-    ensures { OnOk result (IsLowered chosen.now nodes.now counts.old.items counts.new.items free.old.keys
-        free.new.keys) }
+    ensures { OnOk result (IsLowered chosen.now nodes.now counts.old.items counts.new.items free.old
+        free.new) }
 {
     'nodes: for other in nodes {
         let count = counts[*other] - 1;
         counts[*other] = count;
         if chosen[*other] && count == 0 {
-            add(free, *other)?;
+            free.add(*other)?;
         }
     }
     Ok(())

@@ -8,8 +8,8 @@ ghost use Rattle.start_order.specs.Precedes.{Precedes};
 
 use crate::counts::{counts_of, lower};
 use crate::cycles::cycle_from;
-use crate::free::{free_of, take_least};
-use index_rows::{first_marked, no_marks, row, turned, without};
+use crate::free::{Free, ready};
+use index_rows::{first_marked, no_marks, row, without};
 use std::alloc::{AllocError, Global};
 
 // The start list, and marks at its nodes, where `after` has the rows of `before` turned round.
@@ -28,9 +28,9 @@ fn listed(
 {
     let mut standing = no_marks(alloc, chosen.len())?;
     let mut counts = counts_of(alloc, chosen, &standing, before)?;
-    let mut free = free_of(alloc, chosen, &counts)?;
+    let mut free = Free::of(alloc, &ready(alloc, chosen, &counts)?)?;
     let mut list = Vec::new(alloc);
-    'starts: while let Some(node) = take_least(&mut free) {
+    'starts: while let Some(node) = free.take_least() {
         list.push(node)?;
         standing[node] = true;
         lower(chosen, &mut counts, &mut free, row(after, node))?;
@@ -39,15 +39,18 @@ fn listed(
 }
 
 /// The order in which the chosen nodes start, or, where some are stuck, the cycle that is told of
-/// them. The row of a node has the nodes before it.
+/// them. The row of a node has the nodes before it, and the other rows are these turned round.
 ///
 /// O(n log n) and the rows.
 pub fn start_order(
     alloc: Global,
     chosen: &[bool],
     before: &[Vec<usize>],
+    after: &[Vec<usize>],
 ) -> Result<Result<Vec<usize>, Vec<usize>>, AllocError>
-    requires { AreRowsOf (length chosen.now) before.now }
+    requires before { AreRowsOf (length chosen.now) before.now }
+    requires after { AreRowsOf (length chosen.now) after.now }
+    requires turned { AreTurned before.now after.now }
     ensures list { IfOk result (λ answer. IfOk answer (λ list. IsStartList nat_cmp (Marked chosen.now)
         (Precedes before.now) list.items)) }
     ensures all { IfOk result (λ answer. IfOk answer (λ list. (u : ℕ) → Marked chosen.now u → IsAmong u list.items)) }
@@ -56,8 +59,7 @@ pub fn start_order(
     ensures cycle { IfOk result (λ answer. IfErr answer (λ cycle. IsCycle nat_cmp
         (IsStuck (Marked chosen.now) (Precedes before.now)) (Precedes before.now) cycle.items)) }
 {
-    let after = turned(alloc, before)?;
-    let (list, standing) = listed(alloc, chosen, before, &after)?;
+    let (list, standing) = listed(alloc, chosen, before, after)?;
     let left = without(alloc, chosen, &standing)?;
     match first_marked(&left) {
         None => Ok(Ok(list)),

@@ -1,15 +1,17 @@
 -- The case of a request, by numbers and by names.
-use Rattle.std.proofs.Common.{◌≡◌, ◌↔◌, ℕ, inl, inr, Bool, List, IsTrue, map, unwrap_or, refl, ap, sym, subst, ◌∙◌}
+use Rattle.std.proofs.Common.{◌≡◌, ◌↔◌, ℕ, inl, inr, Bool, List, IsTrue, map, unwrap_or, refl, ap, sym, subst, ◌∙◌, ◌<◌}
 use Rattle.std.specs.List.{list_any}
-use Rattle.std.specs.declared.vec.Vec.{Vec}
-use Rattle.std.specs.declared.alloc.Global.{Global}
 use Rattle.list_laws.specs.Members.{IsAmong}
-use Rattle.name_closure.specs.ListedLaws.{Named, named_by, names_all}
-use Rattle.index_rows.specs.Numbering.{AreNames, AreNamedSteps}
-use Rattle.index_rows.specs.NumberingLaws.{among_mapped, mapped_from}
-use Rattle.index_rows.specs.Rows.{Marked, row}
-use Rattle.unit_name.specs.Names.{Name}
+use Rattle.std.specs.Cmp.Lexicographic.{nat_list_cmp_total}
+use Rattle.name_closure.specs.ListedLaws.{Listed, Named, named_by, names_all}
+use Rattle.index_rows.specs.Numbering.{AreNames, AreNamedSteps, IsNumbering}
+use Rattle.index_rows.specs.NumberingLaws.{among_mapped, mapped_from, number_of}
+use Rattle.index_rows.specs.Rows.{Marked}
+use Rattle.index_rows.specs.StepLaws.{opposite_from}
+use Rattle.index_rows.specs.Steps.{AreOpposite}
+use Rattle.unit_name.specs.Names.{Name, name_cmp}
 use Rattle.setting_rules.specs.declared.kinds.DepKind.{DepKind}
+use Rattle.setting_rules.specs.Kinds.{inverse}
 use Rattle.setting_rules.specs.OrderLaws.{IsAmong-from_any, any-from_IsAmong}
 use Rattle.fragment_choice.specs.Choices.{is_same}
 use Rattle.parallel_load.specs.Loads.{LoadMap}
@@ -17,7 +19,7 @@ use Rattle.inverse_deps.specs.Edges.{EdgeMap, names_in}
 use Rattle.inverse_deps.specs.NamingLaws.{names_along}
 use Rattle.inverse_deps.specs.NumberLaws.{unit_number}
 use Rattle.inverse_deps.specs.Numbers.{count_of, name_at}
-use Rattle.unit_graph.specs.Graphs.{IsKnown, IsNumberFor, LeadsBy, StandsFor}
+use Rattle.unit_graph.specs.Graphs.{GraphMap, HasInverses, IsKnown, IsNumberFor, LeadsBy, StandsFor}
 use Rattle.start_plan.specs.declared.requests.Request.{Request}
 use Rattle.start_plan.specs.Requests.{AsksTemplate, IsOfGraph, edges_of, main_of}
 
@@ -54,11 +56,44 @@ running_named load names known marks marked = record { within = λ i m. ((marked
         (i.0, ((marked i.0).1 (r.0, r.1.0, number), i.1.1 ∙ sym (main_is load r.0 k.0 k.1) ∙ r.1.1))
 
 -- steps over edges of kinds, as lists of names
-pub edge_steps : (load : LoadMap) (edges : EdgeMap) (deps : List DepKind) (rows : List (Vec ℕ Global))
-    → AreNamedSteps (count_of load) (name_at load) (Named (row rows)) (LeadsBy edges deps)
-    → AreNamedSteps (count_of load) (name_at load) (Named (row rows)) (Named (edges_of edges deps))
-edge_steps load edges deps rows steps i l =
+pub edge_steps : (load : LoadMap) (edges : EdgeMap) (deps : List DepKind) (next : ℕ → List ℕ)
+    → AreNamedSteps (count_of load) (name_at load) (Named next) (LeadsBy edges deps)
+    → AreNamedSteps (count_of load) (name_at load) (Named next) (Named (edges_of edges deps))
+edge_steps load edges deps next steps i l =
     let u = name_at load i in
-    names_along (count_of load) (name_at load) (Named (row rows) i) (Named (row rows) i) (LeadsBy edges deps u) (Named (edges_of edges deps) u) (steps i l)
+    names_along (count_of load) (name_at load) (Named next i) (Named next i) (LeadsBy edges deps u) (Named (edges_of edges deps) u) (steps i l)
     (λ j. (λ h. h, λ h. h))
     (λ v. (λ h. names_all (λ dep. names_in edges dep u) deps h.0 v h.1.0 h.1.1, λ a. named_by (λ dep. names_in edges dep u) deps v a))
+
+-- an edge leads by one of these kinds just where one leads back by one of their inverses
+module _ (graph : GraphMap) (inverses : HasInverses graph) where
+  turned_kinds : (deps : List DepKind) (u v : Name) → LeadsBy graph.edges deps u v → LeadsBy graph.edges (map inverse deps) v u
+  turned_kinds deps u v h = (inverse h.0, (among_mapped inverse h.0 deps h.1.0, (inverses h.0 u v).0 h.1.1))
+
+  turned_back : (deps : List DepKind) (u v : Name) → LeadsBy graph.edges (map inverse deps) v u → LeadsBy graph.edges deps u v
+  turned_back deps u v h =
+      let k = mapped_from inverse h.0 deps h.1.0 in
+      let P : DepKind → Type 0 = λ d. IsAmong u (names_in graph.edges d v) in
+      (k.0, (k.1.0, (inverses k.0 u v).1 (subst P (sym k.1.1) h.1.1)))
+
+  -- so the numbers of its steps lead back, too
+  pub opposite_steps : (deps : List DepKind) (next others : ℕ → List ℕ) → IsNumbering (count_of graph.load) (name_at graph.load) name_cmp
+      → AreNamedSteps (count_of graph.load) (name_at graph.load) (Named next) (LeadsBy graph.edges deps)
+      → AreNamedSteps (count_of graph.load) (name_at graph.load) (Named others) (LeadsBy graph.edges (map inverse deps))
+      → ((u v : ℕ) → IsAmong v (next u) → u < count_of graph.load) → ((u v : ℕ) → IsAmong v (others u) → u < count_of graph.load)
+      → AreOpposite next others
+  opposite_steps deps next others order steps turned from back = opposite_from next others (λ u v. (there u v, here u v))
+    where
+      there : (u v : ℕ) → IsAmong v (others u) → IsAmong u (next v)
+      there u v h =
+          let l = back u v h in
+          let m = (turned u l).within v h in
+          let e = turned_back deps (name_at graph.load v) (name_at graph.load u) ((turned u l).named v h) in
+          number_of (count_of graph.load) (name_at graph.load) name_cmp nat_list_cmp_total order (Listed (next v)) (LeadsBy graph.edges deps (name_at graph.load v)) (steps v m) u l e
+
+      here : (u v : ℕ) → IsAmong u (next v) → IsAmong v (others u)
+      here u v h =
+          let l = from v u h in
+          let m = (steps v l).within u h in
+          let e = turned_kinds deps (name_at graph.load v) (name_at graph.load u) ((steps v l).named u h) in
+          number_of (count_of graph.load) (name_at graph.load) name_cmp nat_list_cmp_total order (Listed (others u)) (LeadsBy graph.edges (map inverse deps) (name_at graph.load u)) (turned u m) v l e

@@ -17,6 +17,9 @@ use unit_graph::Graph;
 /// What a unit needs.
 const NEEDING: [DepKind; 2] = [DepKind::Requires, DepKind::BindsTo];
 
+/// The inverses of these.
+const NEEDED: [DepKind; 2] = [DepKind::RequiredBy, DepKind::BoundBy];
+
 /// What takes a unit along when it stops.
 const TYING: [DepKind; 4] = [
     DepKind::Requires,
@@ -25,8 +28,20 @@ const TYING: [DepKind; 4] = [
     DepKind::PartOf,
 ];
 
-// The case of a request, by numbers.
-pub fn case_of(alloc: Global, graph: &Graph, request: &Request) -> Result<PlanRows, AllocError>
+/// The inverses of these.
+const TAKING: [DepKind; 4] = [
+    DepKind::RequiredBy,
+    DepKind::RequisiteOf,
+    DepKind::BoundBy,
+    DepKind::ConsistsOf,
+];
+
+// The case of a request, by numbers. The graph's own rows are lent.
+pub fn case_of<'b>(
+    alloc: Global,
+    graph: &'b Graph,
+    request: &Request,
+) -> Result<PlanRows<'b>, AllocError>
     requires names { IsOfGraph graph.now.load request.now }
     requires whole { ¬ AsksTemplate request.now }
     ensures case { IfOk result (λ rows. IsNamedCase (count_of graph.now.load) (name_at graph.now.load) (case_of_rows rows)
@@ -37,22 +52,26 @@ pub fn case_of(alloc: Global, graph: &Graph, request: &Request) -> Result<PlanRo
     let loaded = loaded_marks(alloc, graph.loaded())?;
     let refuses_manual_start = manual_marks(alloc, graph.loaded())?;
     let running = named_marks(alloc, graph, request.running.as_slice())?;
-    let needs = graph.rows(alloc, &NEEDING)?;
-    let wants = graph.rows(alloc, &[DepKind::Wants])?;
-    let requisites = graph.rows(alloc, &[DepKind::Requisite])?;
-    let conflicts = graph.rows(alloc, &[DepKind::Conflicts])?;
-    let predecessors = graph.rows(alloc, &[DepKind::After])?;
-    let stops_with = graph.rows(alloc, &TYING)?;
+    let needs = graph.steps(alloc, &NEEDING)?;
+    let needed_by = graph.steps(alloc, &NEEDED)?;
+    let wants = graph.steps(alloc, &[DepKind::Wants])?;
+    let requisites = graph.steps(alloc, &[DepKind::Requisite])?;
+    let stops_with = graph.steps(alloc, &TYING)?;
+    let takes_along = graph.steps(alloc, &TAKING)?;
     Ok(PlanRows {
         target,
         loaded,
         refuses_manual_start,
         running,
         needs,
+        needed_by,
         wants,
         requisites,
-        conflicts,
-        predecessors,
+        conflicts: graph.rows(DepKind::Conflicts),
+        conflicted_by: graph.rows(DepKind::ConflictedBy),
+        predecessors: graph.rows(DepKind::After),
+        successors: graph.rows(DepKind::Before),
         stops_with,
+        takes_along,
     })
 }

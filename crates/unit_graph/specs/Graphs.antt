@@ -1,7 +1,7 @@
 -- The graph of a load, by names.
 -- Source: systemd.unit(5), "Mapping of unit properties to their inverses"; that an alias stands for its main name, and the
 -- kinds of which depths are told, are this project's own.
-use Rattle.std.specs.Prelude.{◌≡◌, ℕ, Bool, Option, Some, List, [], ◌∷◌, map, refl}
+use Rattle.std.specs.Prelude.{◌≡◌, ◌↔◌, ℕ, Bool, Option, Some, List, [], ◌∷◌, map, refl}
 use Rattle.std.specs.Coded.{Coded, code_by, coded×, coded_list, coded_ℕ}
 use Rattle.std.specs.Option.{option_map}
 use Rattle.list_laws.specs.Members.{IsAmong}
@@ -10,6 +10,7 @@ use Rattle.name_closure.specs.ListedLaws.{Listed}
 use Rattle.unit_name.specs.Names.{Name, name_cmp}
 use Rattle.setting_rules.specs.declared.kinds.DepKind.{DepKind}
 use Rattle.setting_rules.specs.declared.kinds.DepKind.TheVariants.{Wants, Requires, Requisite, BindsTo}
+use Rattle.setting_rules.specs.Kinds.{inverse}
 use Rattle.unit_loads.specs.declared.units.Status.{Status}
 use Rattle.parallel_load.specs.Loads.{LoadMap, coded_load, main_in, unit_in, units_in}
 use Rattle.inverse_deps.specs.Edges.{EdgeMap, IsUnitIn, names_in}
@@ -63,6 +64,10 @@ LeadsBy edges deps u v = (dep : DepKind) × (IsAmong dep deps × IsAmong v (name
 -- edges lead to units of the load alone
 abbrev pub LeadToUnits : GraphMap → Type 0
 LeadToUnits graph = (dep : DepKind) (u v : Name) → IsAmong v (names_in graph.edges dep u) → IsUnitIn graph.load v
+
+-- an edge and its inverse are one
+abbrev pub HasInverses : GraphMap → Type 0
+HasInverses graph = (dep : DepKind) (u v : Name) → IsAmong v (names_in graph.edges dep u) ↔ IsAmong u (names_in graph.edges (inverse dep) v)
 
 -- all that is reached over edges of these kinds from the unit for which a name stands, it too, in byte order
 abbrev pub IsReach : GraphMap → List DepKind → Name → List Name → Type 0

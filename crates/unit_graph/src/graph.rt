@@ -1,9 +1,12 @@
 //! The graph of a load.
 ghost use Rattle.std.specs.Prelude.{◌≡◌, ◌↔◌, IfOk, IsTrue, MatchOption};
 ghost use Rattle.std.specs.Option.{option_copied};
+ghost use Rattle.index_rows.specs.Numbering.{IsNumbering};
+ghost use Rattle.unit_name.specs.Names.{name_cmp};
 ghost use Rattle.parallel_load.specs.Loads.{main_in};
 ghost use Rattle.inverse_deps.specs.Edges.{AreEdges, names_in};
-ghost use Rattle.unit_graph.specs.Graphs.{IsKnown, IsNumberFor, LeadToUnits, manual_in, status_in};
+ghost use Rattle.inverse_deps.specs.Numbers.{count_of, name_at};
+ghost use Rattle.unit_graph.specs.Graphs.{HasInverses, IsKnown, IsNumberFor, LeadToUnits, manual_in, status_in};
 
 use crate::tables::tables;
 use inverse_deps::{Edges, number_of};
@@ -54,10 +57,12 @@ impl<'a> Graph<'a> {
         })
     }
 
-    /// The load.
+    /// The load. Numbers of names rise with them.
     pub fn loaded(&self) -> &'a Loaded
         ensures load { result.now ≡ self.now.load }
         ensures units { LeadToUnits self.now }
+        ensures inverses { HasInverses self.now }
+        ensures order { IsNumbering (count_of self.now.load) (name_at self.now.load) name_cmp }
     {
         self.loaded
     }

@@ -33,8 +33,8 @@ impl<'a> Graph<'a> {
         ensures reached { IfOk result (λ names. IsReach self.now kinds.now from.now names.items) }
     {
         let number = self.number(from).unwrap();
-        let rows = self.rows(alloc, kinds)?;
-        let numbers = closure(alloc, &rows, &[number])?;
+        let steps = self.steps(alloc, kinds)?;
+        let numbers = closure(alloc, self.loaded.names().len(), &steps, &[number])?;
         Ok(names_of(alloc, self.loaded, &numbers)?)
     }
 
@@ -46,8 +46,8 @@ impl<'a> Graph<'a> {
         ensures depths { IfOk result (λ pairs. AreDepths self.now from.now pairs.items) }
     {
         let number = self.number(from).unwrap();
-        let rows = self.rows(alloc, &PULLING)?;
-        let pairs = distances(alloc, &rows, &[number])?;
+        let steps = self.steps(alloc, &PULLING)?;
+        let pairs = distances(alloc, self.loaded.names().len(), &steps, &[number])?;
         Ok(named_distances(alloc, self.loaded, &pairs)?)
     }
 }

@@ -1,46 +1,44 @@
 //! The steps of several kinds.
-ghost use Rattle.std.specs.Prelude.{◌<◌, IfOk};
-ghost use Rattle.name_closure.specs.ListedLaws.{Listed, Named};
-ghost use Rattle.index_rows.specs.Numbering.{AreNames, AreNamedSteps, IsNumbering};
+ghost use Rattle.std.specs.Prelude.{◌∷◌, [], ℕ, IfOk};
+ghost use Rattle.std.specs.List.Sorted.{IsStrictlySortedBy};
+ghost use Rattle.std.specs.Ordering.{nat_cmp};
+ghost use Rattle.name_closure.specs.ListedLaws.{Named};
+ghost use Rattle.index_rows.specs.Numbering.{AreNamedSteps};
 ghost use Rattle.index_rows.specs.Rows.{AreRowsOf, row as row_of};
-ghost use Rattle.unit_name.specs.Names.{name_cmp};
+ghost use Rattle.index_rows.specs.Steps.{AreStepsOf, steps_from};
 ghost use Rattle.inverse_deps.specs.Numbers.{count_of, name_at};
 ghost use Rattle.unit_graph.specs.Graphs.{LeadsBy};
 ghost use Rattle.unit_graph.specs.Tables.{IsTable};
 
 use crate::graph::Graph;
-use index_rows::row;
+use index_rows::Steps;
 use setting_rules::DepKind;
 use std::alloc::{AllocError, Global};
 
 impl<'a> Graph<'a> {
-    /// From each unit the steps of these kinds, by numbers: a row for each name, which is
-    /// empty for an alias. Numbers rise with names. It fails for
-    /// want of memory alone. O(n) and the edges of these kinds.
-    pub fn rows(&self, alloc: Global, kinds: &[DepKind]) -> Result<Vec<Vec<usize>>, AllocError>
-        ensures steps { IfOk result (λ rows. AreNamedSteps (count_of self.now.load) (name_at self.now.load)
-            (Named (row_of rows.items)) (LeadsBy self.now.edges kinds.now)) }
-        ensures rows { IfOk result (λ rows. AreRowsOf (count_of self.now.load) rows.items) }
-        ensures order { IfOk result (λ _. IsNumbering (count_of self.now.load) (name_at self.now.load) name_cmp) }
+    /// From each unit the steps of these kinds, by numbers. Numbers rise with names, and none leads from an alias. It fails
+    /// for want of memory alone. O(the kinds): the graph's own rows are lent.
+    pub fn steps<'b>(&'b self, alloc: Global, kinds: &[DepKind]) -> Result<Steps<'b>, AllocError>
+        ensures steps { IfOk result (λ steps. AreNamedSteps (count_of self.now.load) (name_at self.now.load)
+            (Named (steps_from steps)) (LeadsBy self.now.edges kinds.now)) }
+        ensures within { IfOk result (λ steps. AreStepsOf (count_of self.now.load) steps) }
     {
-        let mut rows = Vec::new(alloc);
-        'numbers: for number in 0..self.loaded.names().len() {
-            rows.push(self.row(alloc, kinds, number)?)?;
+        let mut steps = Steps::new(alloc);
+        'kinds: for kind in kinds {
+            steps.push(self.table(*kind))?;
         }
-        Ok(rows)
+        Ok(steps)
     }
 
-    // The steps of these kinds from a unit.
-    fn row(&self, alloc: Global, kinds: &[DepKind], number: usize) -> Result<Vec<usize>, AllocError>
-        requires number { number < count_of self.now.load }
-        ensures steps { IfOk result (λ numbers. AreNames (count_of self.now.load) (name_at self.now.load)
-            (Listed numbers.items) (LeadsBy self.now.edges kinds.now (name_at self.now.load number))) }
+    /// From each unit the steps of one kind, by numbers: a row for each name, which rises, and is empty for an alias. It takes no
+    /// memory.
+    pub fn rows(&self, kind: DepKind) -> &[Vec<usize>]
+        ensures steps { AreNamedSteps (count_of self.now.load) (name_at self.now.load) (Named (row_of result.now))
+            (LeadsBy self.now.edges (kind ∷ [])) }
+        ensures rows { AreRowsOf (count_of self.now.load) result.now }
+        ensures rising { (u : ℕ) → IsStrictlySortedBy nat_cmp (row_of result.now u) }
     {
-        let mut numbers = Vec::new(alloc);
-        'kinds: for kind in kinds {
-            numbers.extend_from_slice(row(self.table(*kind), number))?;
-        }
-        Ok(numbers)
+        self.table(kind)
     }
 
     // The rows of a kind.

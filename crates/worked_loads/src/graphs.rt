@@ -5,7 +5,7 @@ use crate::edits::store_of;
 use crate::tellings::{append_names, append_status, begin};
 use crate::words::{LineFault, Words};
 use inverse_deps::edges;
-use parallel_load::load_here;
+use parallel_load::{LoadFault, load_here};
 use setting_rules::DepKind;
 use std::alloc::{AllocError, Global};
 use unit_graph::Graph;
@@ -105,8 +105,13 @@ pub fn graph(alloc: Global, words: &mut Words) -> Result<Vec<u8>, LineFault> {
     let names = words.names()?;
     words.end()?;
     let mut out = Vec::new(alloc);
-    let Ok(load) = load_here(alloc, &store, &asked) else {
-        return Err(LineFault::Memory);
+    let load = match load_here(alloc, &store, &asked) {
+        Ok(load) => load,
+        Err(LoadFault::Memory) => return Err(LineFault::Memory),
+        Err(fault) => {
+            begin(&mut out, format!(in alloc; "{fault}")?.as_bytes())?;
+            return Ok(out);
+        }
     };
     let edges = edges(alloc, &load)?;
     let graph = Graph::build(alloc, &load, &edges)?;

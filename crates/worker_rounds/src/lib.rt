@@ -10,4 +10,5 @@ mod workers;
 
 pub use faults::LoadFault;
 pub use gates::{Gate, TURNS, pass_gate};
+pub use pieces::{Piece, cut, put_together};
 pub use rounds::{MOST_WORKERS, close_loaded_by_workers};

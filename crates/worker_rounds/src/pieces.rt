@@ -1,4 +1,4 @@
-//! The pieces of a round: its nodes cut for the workers, and what they loaded put together.
+//! Pieces of a list: elements cut for workers, and what was made of them put together.
 ghost use Rattle.std.specs.Prelude.{◌≡◌, ◌<◌, length, map, min, All, IfOk};
 ghost use Rattle.std.specs.List.{flat_map, range_with_len};
 ghost use Rattle.worker_rounds.specs.Joined.{IsJoined};
@@ -6,15 +6,15 @@ ghost use Rattle.worker_rounds.specs.Joined.{IsJoined};
 use std::alloc::{AllocError, Global};
 use std::collections::VecDeque;
 
-/// Nodes of a round that stand one behind the other, for one worker.
+/// Nodes that stand one behind the other, for one worker.
 #[derive(Drop)]
 pub struct Piece<K> {
-    /// The piece's place in its round, from 0.
+    /// The piece's place among the pieces, from 0.
     pub number: usize,
     pub nodes: Vec<K>,
 }
 
-// The nodes cut into pieces, as many as the lesser of the workers and the nodes. Linear.
+/// The nodes cut into pieces, as many as the lesser of the workers and the nodes. Linear, without a copy of a node.
 pub fn cut<K: Drop>(
     alloc: Global,
     nodes: Vec<K>,
@@ -41,17 +41,29 @@ pub fn cut<K: Drop>(
     Ok(Vec::from(pieces))
 }
 
-// All that the parts hold, one behind the other, where none was refused. Linear.
+/// All that the parts hold, one behind the other. `AllocError` where a part was refused, or for want of memory. Linear, without a
+/// copy of an element.
 pub fn put_together<X: Drop>(
     alloc: Global,
     parts: Vec<Result<Vec<X>, AllocError>>,
 ) -> Result<Vec<X>, AllocError>
     ensures joined { IfOk result (λ all. IsJoined parts.items all.items) }
 {
-    let mut all = Vec::new(alloc);
+    let mut all = Vec::with_capacity(alloc, room_for(&parts))?;
     for part in parts {
         let mut more = part?;
         all.append(&mut more)?;
     }
     Ok(all)
+}
+
+// How many elements the parts hold, so that room is made once. Linear in the parts.
+fn room_for<X>(parts: &[Result<Vec<X>, AllocError>]) -> usize {
+    let mut room = 0usize;
+    for each in parts {
+        if let Ok(held) = each {
+            room = room.saturating_add(held.len());
+        }
+    }
+    room
 }

@@ -4,7 +4,7 @@ ghost use Rattle.std.specs.BTreeMap.{keys};
 ghost use Rattle.std.specs.List.Sorted.{IsStrictlySortedBy};
 ghost use Rattle.name_closure.specs.Chains.{IsClosure, HasOver};
 ghost use Rattle.name_closure.specs.ListedLaws.{Listed};
-ghost use Rattle.name_closure.specs.Loading.{LeadsByLoad, AreLoaded, AreLoads};
+ghost use Rattle.name_closure.specs.Loading.{LeadsByLoad, AreLoaded, IsRound};
 ghost use Rattle.worker_rounds.specs.Refusals.{OnTooMany};
 ghost use Rattle.worker_rounds.specs.declared.faults.LoadFault.TheVariants.{Workers};
 
@@ -12,7 +12,7 @@ use crate::faults::LoadFault;
 use crate::gates::Gate;
 use crate::workers::load_by_workers;
 use join_law::Key;
-use name_closure::{Loads, close_by_rounds};
+use name_closure::{Loads, Round, close_by_rounds};
 use std::alloc::{AllocError, Global};
 use std::collections::BTreeMap;
 use std::thread::Threads;
@@ -29,10 +29,11 @@ pub const MOST_WORKERS: usize = 64;
 ///
 /// The new nodes of a round are cut in their order into pieces, none empty, as many as the lesser of
 /// the workers and the nodes, numbered from 0 in that round. Each piece has a worker of its own, which
-/// asks the gate first. One for which no thread can be made works in its caller's.
+/// asks the gate first. One for which no thread can be made works in its caller's. What the round names is
+/// then gathered by so many workers at most, who ask no gate.
 pub fn close_loaded_by_workers<
     R: Threads + Sync,
-    K: Key + Send,
+    K: Key + Send + Sync,
     L: Loads<K> + Sync,
     G: Gate + Sync,
 >(
@@ -45,7 +46,7 @@ pub fn close_loaded_by_workers<
     gate: &G,
 ) -> Result<BTreeMap<K, L::Loaded>, LoadFault>
 where
-    L::Loaded: Send,
+    L::Loaded: Send + Sync,
     requires sources { All (L.is_node loader.now) sources.now }
     ensures workers { (result ≡ Err Workers) ↔ ((workers ≡ 0) ⊎ (64 < workers)) }
     ensures closure { IfOk result (λ found. IsClosure (Listed sources.now)
@@ -61,11 +62,12 @@ where
     if workers == 0 || workers > MOST_WORKERS {
         return Err(LoadFault::Workers);
     }
-    let load_round = |fresh: Vec<K>| -> Result<Vec<(K, L::Loaded)>, AllocError>
+    let load_round = |fresh: Vec<K>| -> Result<Round<K, L::Loaded>, AllocError>
         requires some { 0 < workers }
         requires rising { IsStrictlySortedBy K.cmp fresh.items }
         requires nodes { All (L.is_node loader.now) fresh.items }
-        ensures pairs { IfOk result (λ pairs. AreLoads (L.is_loaded loader.entry.now) fresh.items pairs.items) }
+        ensures round { IfOk result (λ round. IsRound (L.is_node loader.entry.now) (L.is_loaded loader.entry.now)
+            (L.named loader.entry.now) fresh.items round.pairs.items round.names.items) }
     { load_by_workers(rt, alloc, loader, workers, gate, fresh) };
     let found = close_by_rounds(alloc, loader, sources, limit, load_round)?;
     Ok(found)

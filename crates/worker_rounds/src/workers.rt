@@ -1,12 +1,14 @@
 //! Workers: each loads a piece of a round.
-ghost use Rattle.std.specs.Prelude.{◌≡◌, ℕ, ◌<◌, length, slice_index_or, All, IfOk};
+ghost use Rattle.std.specs.Prelude.{◌≡◌, ℕ, ◌<◌, ◌≤◌, ◌*◌, length, take, drop, slice_index_or, All, IfOk};
+ghost use Rattle.std.specs.List.{flat_map};
 ghost use Rattle.std.specs.List.Sorted.{IsStrictlySortedBy};
-ghost use Rattle.name_closure.specs.Loading.{AreLoads};
+ghost use Rattle.std.specs.Map.{keys_of};
+ghost use Rattle.name_closure.specs.Loading.{AreLoaded, AreLoads, AreOthers, IsRound};
 
 use crate::gates::{Gate, pass_gate};
 use crate::pieces::{Piece, cut, put_together};
 use join_law::Key;
-use name_closure::{Loads, load_each};
+use name_closure::{Loads, Round, load_each, names_of};
 use std::alloc::{AllocError, Global};
 use std::thread;
 use std::thread::Threads;
@@ -48,8 +50,84 @@ where
     thread::map_vec(rt, pieces, &load)
 }
 
+// What is named in each part of what a round loaded and isn't the round's own. So many workers take parts of the same size, but
+// for the last.
+fn name_parts<R: Threads + Sync, K: Key + Send + Sync, L: Loads<K> + Sync>(
+    rt: &R,
+    alloc: Global,
+    loader: &L,
+    size: usize,
+    pairs: &[(K, L::Loaded)],
+) -> Result<Vec<Result<Vec<K>, AllocError>>, AllocError>
+where
+    L::Loaded: Sync,
+    requires some { 0 < size }
+    requires nodes { All (L.is_node loader.now) (keys_of pairs.now) }
+    requires loaded { AreLoaded (L.is_loaded loader.now) pairs.now }
+    ensures len { IfOk result (λ parts. length pairs.now ≤ length parts.items * size) }
+    ensures others { IfOk result (λ parts. (i : ℕ) (part : _) → i < length parts.items
+        → IfOk (slice_index_or parts.items i part) (λ names. AreOthers (keys_of pairs.now)
+        (flat_map (λ pair. L.named loader.now pair.1) (take size (drop (i * size) pairs.now))) names.items)) }
+    ensures nodes { IfOk result (λ parts. (i : ℕ) (part : _) → i < length parts.items
+        → IfOk (slice_index_or parts.items i part) (λ names. All (L.is_node loader.now) names.items)) }
+{
+    let name = |_start: usize, part: &[(K, L::Loaded)]| -> Result<Vec<K>, AllocError>
+        requires nodes { All (L.is_node loader.now) (keys_of part.now) }
+        requires loaded { AreLoaded (L.is_loaded loader.now) part.now }
+        ensures others { IfOk result (λ names. AreOthers (keys_of pairs.entry.now)
+            (flat_map (λ pair. L.named loader.entry.now pair.1) part.entry.now) names.items) }
+        ensures nodes { IfOk result (λ names. All (L.is_node loader.entry.now) names.items) }
+    { names_of(alloc, loader, pairs, part) };
+    thread::map_chunks(rt, alloc, pairs, size, &name)
+}
+
+// What is named in what a round loaded and isn't the round's own, by so many workers; what several of them name, more than once.
+fn name_by_workers<R: Threads + Sync, K: Key + Send + Sync, L: Loads<K> + Sync>(
+    rt: &R,
+    alloc: Global,
+    loader: &L,
+    workers: usize,
+    pairs: &[(K, L::Loaded)],
+) -> Result<Vec<K>, AllocError>
+where
+    L::Loaded: Sync,
+    requires some { 0 < workers }
+    requires nodes { All (L.is_node loader.now) (keys_of pairs.now) }
+    requires loaded { AreLoaded (L.is_loaded loader.now) pairs.now }
+    ensures others { IfOk result (λ names. AreOthers (keys_of pairs.now)
+        (flat_map (λ pair. L.named loader.now pair.1) pairs.now) names.items) }
+    ensures nodes { IfOk result (λ names. All (L.is_node loader.now) names.items) }
+{
+    let size = pairs.len().div_ceil(workers).max(1);
+    let named = name_parts(rt, alloc, loader, size, pairs)?;
+    put_together(alloc, named)
+}
+
+// What a round of new nodes loads, by so many workers: each of them with what is loaded for it, and the other nodes that are
+// named there.
+pub fn load_by_workers<R: Threads + Sync, K: Key + Send + Sync, L: Loads<K> + Sync, G: Gate + Sync>(
+    rt: &R,
+    alloc: Global,
+    loader: &L,
+    workers: usize,
+    gate: &G,
+    fresh: Vec<K>,
+) -> Result<Round<K, L::Loaded>, AllocError>
+where
+    L::Loaded: Send + Sync,
+    requires some { 0 < workers }
+    requires rising { IsStrictlySortedBy K.cmp fresh.items }
+    requires nodes { All (L.is_node loader.now) fresh.items }
+    ensures round { IfOk result (λ round. IsRound (L.is_node loader.now) (L.is_loaded loader.now) (L.named loader.now)
+        fresh.items round.pairs.items round.names.items) }
+{
+    let pairs = pairs_by_workers(rt, alloc, loader, workers, gate, fresh)?;
+    let names = name_by_workers(rt, alloc, loader, workers, &pairs)?;
+    Ok(Round { pairs, names })
+}
+
 // Each of the new nodes of a round with what is loaded for it, by so many workers.
-pub fn load_by_workers<R: Threads + Sync, K: Key + Send, L: Loads<K> + Sync, G: Gate + Sync>(
+fn pairs_by_workers<R: Threads + Sync, K: Key + Send, L: Loads<K> + Sync, G: Gate + Sync>(
     rt: &R,
     alloc: Global,
     loader: &L,
@@ -60,7 +138,6 @@ pub fn load_by_workers<R: Threads + Sync, K: Key + Send, L: Loads<K> + Sync, G: 
 where
     L::Loaded: Send,
     requires some { 0 < workers }
-    requires rising { IsStrictlySortedBy K.cmp fresh.items }
     requires nodes { All (L.is_node loader.now) fresh.items }
     ensures pairs { IfOk result (λ pairs. AreLoads (L.is_loaded loader.now) fresh.items pairs.items) }
 {

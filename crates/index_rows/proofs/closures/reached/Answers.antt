@@ -1,40 +1,49 @@
-use Rattle.std.proofs.Common.{◌<◌, ℕ, List, ◌++◌, ◌∷◌, [], length, subst, sym, arith, vec_len}
+use Rattle.std.proofs.Common.{◌≡◌, ◌<◌, ◌↔◌, ℕ, true, Bool, List, length, replicate, subst, sym, ap, ◌∙◌}
+use Rattle.std.specs.Prelude.{Result, Ok, Err, IfOk}
 use Rattle.std.specs.List.{All}
-use Rattle.index_rows.specs.Rows.{row as row_of}
-use Rattle.index_rows.specs.MarkLaws.{Marked-within}
-use Rattle.index_rows.specs.ListLaws.{empty_list, IsAmong-push}
-use Rattle.index_rows.specs.RowLaws.{All-row}
-use Rattle.index_rows.specs.Spreads.{IsSpread}
-use Rattle.index_rows.proofs.Works.{IsWork, IsWork-init, IsWork-step, IsWork-done}
+use Rattle.std.specs.declared.vec.Vec.{Vec}
+use Rattle.std.specs.declared.alloc.Global.{Global}
+use Rattle.name_closure.specs.Chains.{IsReached}
+use Rattle.name_closure.specs.ListedLaws.{Listed, Named}
+use Rattle.name_closure.specs.SourceLaws.{same_reached}
+use Rattle.index_rows.specs.Rows.{Marked}
+use Rattle.index_rows.specs.StepLaws.{Marked-all, steps-below}
+use Rattle.index_rows.specs.Steps.{AreStepsOf, LeadsInside, steps_from}
 use Rattle.index_rows.proofs.closures.reached.Goals as goal
 
-pub todo-init : goal.todo-init
-todo-init c = IsWork-init c.args.rows.now c.args.sources.now _ _ _ _ c.in_ok-seen.ensures.none c.new-todo.ensures.items c.in_ok-spread.ensures
+pub reached_inside-requires : goal.reached_inside-requires
+reached_inside-requires c =
+    let same : length c.deref.result.now ≡ c.args.count = ap (λ l. length l) c.deref.ensures.value ∙ c.in_ok-all.ensures.units in
+    let P : ℕ → Type 0 = λ n. AreStepsOf n c.args.steps.now in
+    let Q : ℕ → Type 0 = λ n. All (λ v. v < n) c.args.sources.now in
+    record { steps = subst P (sym same) c.requires.steps; sources = subst Q (sym same) c.requires.sources }
 
-work : (c : goal.After-todo-in-Some-1) → IsWork c.args.rows.now c.args.sources.now c.todo.seen.items (c.pop.new.self.items ++ c.in-Some.node ∷ [])
-work c =
-    let P : List ℕ → Type 0 = λ t. IsWork c.args.rows.now c.args.sources.now c.todo.seen.items t in
-    subst P c.in-Some.ensures.items c.todo.invariant
+-- where all are marked, the marked steps are all steps
+module _ (n m : ℕ) (kinds : List (List (Vec ℕ Global))) (sources : List ℕ) (inside : List Bool) (all : inside ≡ replicate n true) (same : m ≡ n) (steps : AreStepsOf n kinds) where
+  both : (u v : ℕ) → LeadsInside inside kinds u v ↔ Named (steps_from kinds) u v
+  both u v = (
+    λ h. h.step,
+    λ h. record { step = h; marked = (let P : List Bool → Type 0 = λ l. Marked l v in subst P (sym all) (Marked-all n v (steps-below n kinds u v steps h))) },
+  )
 
-pub row-requires : goal.row-requires
-row-requires c =
-    let w = work c in
-    let lt : c.in-Some.node < length c.todo.seen.items = Marked-within _ _ (w.noted c.in-Some.node (IsAmong-push c.in-Some.node c.pop.new.self.items)) in
-    omega (arith, w.units, lt)
+  over_all : {E : Type 0} → (r : Result (Vec Bool Global) E) → IfOk r (λ marks. (v : ℕ) → Marked marks.items v ↔ IsReached (Listed sources) (LeadsInside inside kinds) v)
+      → IfOk r (λ marks. (v : ℕ) → Marked marks.items v ↔ IsReached (Listed sources) (Named (steps_from kinds)) v)
+  over_all (Err e) h = tt
+  over_all (Ok marks) h = λ v. (
+    λ k. (same_reached (Listed sources) (Listed sources) (LeadsInside inside kinds) (Named (steps_from kinds)) (λ u. (λ a. a, λ a. a)) both v).0 ((h v).0 k),
+    λ k. (h v).1 ((same_reached (Listed sources) (Listed sources) (LeadsInside inside kinds) (Named (steps_from kinds)) (λ u. (λ a. a, λ a. a)) both v).1 k),
+  )
 
-pub spread-requires-in-Some : goal.spread-requires-in-Some
-spread-requires-in-Some c =
-    let P : List ℕ → Type 0 = λ r. All (λ v. v < length c.todo.seen.items) r in
-    let Q : ℕ → Type 0 = λ n. All (λ v. v < n) (row_of c.args.rows.now c.in-Some.node) in
-    subst P (sym c.row.ensures) (subst Q (sym c.todo.invariant.units) (All-row _ _ c.in-Some.node c.requires.rows))
+  so_many : {E : Type 0} → (r : Result (Vec Bool Global) E) → IfOk r (λ marks. length marks.items ≡ m) → IfOk r (λ marks. length marks.items ≡ n)
+  so_many (Err e) h = tt
+  so_many (Ok marks) h = h ∙ same
 
-pub todo-preserved : goal.todo-preserved
-todo-preserved c =
-    let P : List ℕ → Type 0 = λ r. IsSpread c.todo.seen.items c.spread-in-Some.new.seen.items c.pop.new.self.items c.spread-in-Some.new.noted.items r in
-    let Q : List ℕ → Type 0 = λ t. IsWork c.args.rows.now c.args.sources.now c.todo.seen.items t in
-    IsWork-step _ _ _ _ _ _ _ (subst Q c.in-Some.ensures.items c.todo.invariant) (subst P c.row.ensures c.in_ok-spread-2.ensures)
-
-pub returns-clause-reached : goal.returns-clause-reached
-returns-clause-reached c =
-    let out : ¬ (0 < vec_len c.todo.todo) = λ l. cc (c.in_default.ensures.variant.1 l) in
-    IsWork-done c.args.rows.now c.args.sources.now c.todo.seen.items c.todo.todo.items (empty_list _ (omega (arith, c.todo.todo.ok))) c.todo.invariant
+pub returns : goal.returns
+returns c =
+    let value = c.deref.ensures.value in
+    let all : c.deref.result.now ≡ replicate c.args.count true = value ∙ c.in_ok-all.ensures.all in
+    let same : length c.deref.result.now ≡ c.args.count = ap (λ l. length l) value ∙ c.in_ok-all.ensures.units in
+    record {
+      units = so_many c.args.count (length c.deref.result.now) c.args.steps.now c.args.sources.now c.deref.result.now all same c.requires.steps c.reached_inside.result c.reached_inside.ensures.units;
+      reached = over_all c.args.count (length c.deref.result.now) c.args.steps.now c.args.sources.now c.deref.result.now all same c.requires.steps c.reached_inside.result c.reached_inside.ensures.reached;
+    }

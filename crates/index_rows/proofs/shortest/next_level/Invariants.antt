@@ -1,8 +1,8 @@
 use Rattle.std.proofs.Common.{[], take}
 use Rattle.std.specs.List.{flat_map}
-use Rattle.index_rows.specs.Rows.{row}
 use Rattle.index_rows.specs.Spreads.{IsSpread}
+use Rattle.index_rows.specs.Steps.{steps_from}
 use Rattle.index_rows.proofs.shortest.next_level.Given as goal
 
 abbrev pub invariant-level : goal.invariant-level
-invariant-level l = IsSpread l.fn.seen.items l.seen.items [] l.next.items (flat_map (row l.rows) (take l.node-index l.level))
+invariant-level l = IsSpread l.fn.seen.items l.seen.items [] l.next.items (flat_map (steps_from l.steps) (take l.node-index l.level))

@@ -29,23 +29,18 @@ load_round-requires g c = c.requires.ready c.rounds.fresh c.rounds.invariant.way
 pub add_loaded-requires-clause-found : goal.add_loaded-requires-clause-found
 add_loaded-requires-clause-found g c = c.rounds.invariant.way.loaded
 
-pub add_loaded-requires-clause-nodes : goal.add_loaded-requires-clause-nodes
-add_loaded-requires-clause-nodes g c =
-    let loads = rw c.in_ok-pairs.was at (c.requires.loads c.rounds.fresh c.load_round.result c.load_round.ensures) in
-    rw loads.in_order c.rounds.invariant.way.fresh_nodes
-
 pub add_loaded-requires-clause-pairs : goal.add_loaded-requires-clause-pairs
 add_loaded-requires-clause-pairs g c =
-    let loads = rw c.in_ok-pairs.was at (c.requires.loads c.rounds.fresh c.load_round.result c.load_round.ensures) in
-    loads.loaded
+    let round = rw c.in_ok-pairs.was at (c.requires.loads c.rounds.fresh c.load_round.result c.load_round.ensures) in
+    round.loads.loaded
 
 pub rounds-smaller : goal.rounds-smaller
 rounds-smaller g c =
     let loader = c.args.loader.now in
-    let loads = rw c.in_ok-pairs.was at (c.requires.loads c.rounds.fresh c.load_round.result c.load_round.ensures) in
+    let round = rw c.in_ok-pairs.was at (c.requires.loads c.rounds.fresh c.load_round.result c.load_round.ensures) in
     let long =
     length-found g.K.Ord.cmp (g.L.Loads.is_node loader) (g.L.Loads.is_loaded loader) (g.L.Loads.named loader) c.args.sources.now _ _ _ _
-    c.rounds.invariant.way loads c.in_ok-names.ensures.joined g.met.K.Ord.total g.met.K.Key.exact c.add_loaded.ensures.rising in
+    c.rounds.invariant.way round.loads c.in_ok-add_loaded.ensures.joined g.met.K.Ord.total g.met.K.Key.exact c.add_loaded.ensures.rising in
     let some : 0 < length c.rounds.fresh.items = search rules in
     let fits : length c.rounds.fresh.items ≤ c.args.limit - length c.rounds.found.entries = search rules in
     omega arith
@@ -53,17 +48,17 @@ rounds-smaller g c =
 pub rounds-preserved : goal.rounds-preserved
 rounds-preserved g c =
     let loader = c.args.loader.now in
-    let loads = rw c.in_ok-pairs.was at (c.requires.loads c.rounds.fresh c.load_round.result c.load_round.ensures) in
-    let said = c.in_ok-names.ensures in
+    let round = rw c.in_ok-pairs.was at (c.requires.loads c.rounds.fresh c.load_round.result c.load_round.ensures) in
+    let said = c.in_ok-add_loaded.ensures in
     let long =
     length-found g.K.Ord.cmp (g.L.Loads.is_node loader) (g.L.Loads.is_loaded loader) (g.L.Loads.named loader) c.args.sources.now _ _ _ _
-    c.rounds.invariant.way loads said.joined g.met.K.Ord.total g.met.K.Key.exact c.add_loaded.ensures.rising in
+    c.rounds.invariant.way round.loads said.joined g.met.K.Ord.total g.met.K.Key.exact c.add_loaded.ensures.rising in
     let fits : length c.rounds.fresh.items ≤ c.args.limit - length c.rounds.found.entries = search rules in
     let room : length c.rounds.found.entries ≤ c.args.limit = c.rounds.invariant.room in
     record {
       way =
           under_way_more g.K.Ord.cmp (g.L.Loads.is_node loader) (g.L.Loads.is_loaded loader) (g.L.Loads.named loader) c.args.sources.now _ _ _ _
-          c.rounds.invariant.way loads said.joined (g.met.L.Loads.one loader) _ _ said.entries c.add_loaded.ensures.rising said.names said.nodes
+          c.rounds.invariant.way round.loads said.joined (g.met.L.Loads.one loader) _ _ said.entries c.add_loaded.ensures.rising round.others round.can_load
           c.new_of-fresh-in-rounds.ensures.fresh;
       room = omega arith;
     }

@@ -3,7 +3,6 @@ use Rattle.std.specs.List.{list_any}
 use Rattle.std.specs.Prelude.{not}
 use Rattle.std.proofs.Common.{rules}
 use Rattle.std.proofs.lemmas.Fn.{filter_same}
-use Rattle.std.proofs.lemmas.List.Filters.{dedup_is}
 use Rattle.std.proofs.lemmas.Map.Made.{is_some-lookup}
 use Rattle.name_closure.proofs.News.{news_are}
 use Rattle.name_closure.proofs.rounds.new_of.Goals as goal
@@ -11,8 +10,7 @@ use Rattle.name_closure.proofs.rounds.new_of.Goals as goal
 pub returns : goal.returns
 returns g c = record {
   fresh =
-      news_are g.K.Ord.cmp g.met.K.Ord.total g.met.K.Key.exact g.K.PartialEq.eq g.met.K.Eq.laws g.met.K.Ord.matches_eq (keys c.args.found.now) c.args.nodes.items
-      c.retain.new.self.items c.sort_unstable.new.self.items c.dedup.new.self.items
+      news_are g.K.Ord.cmp g.met.K.Ord.total g.met.K.Key.exact (keys c.args.found.now) c.args.nodes.items c.retain.new.self.items c.each_once.result.items
       (filter_same _ (λ n. not (list_any (is_at (g.K.Ord.cmp n)) (keys c.args.found.now))) _ (λ x b f' k. search (rules, is_some-lookup)) _ _ c.retain.ensures.filtered)
-      c.sort_unstable.ensures.permutation c.sort_unstable.ensures.sorted (dedup_is g.K.PartialEq.eq _ _ c.dedup.ensures.filtered);
+      c.each_once.ensures.rising c.each_once.ensures.members;
 }

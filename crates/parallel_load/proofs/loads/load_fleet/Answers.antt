@@ -31,7 +31,7 @@ returns-clause-load g c =
     (both (λ ns t. IsClosure (Listed ns) (LeadsByLoad (IsLoadAlone t) named_in) name_cmp (keys_of c.in_ok-found.found.entries))
     c.as_slice-names.result.now c.in_ok-sources.sources.items c.in_ok-loader.loader.index c.args.store.now c.as_slice-names.ensures.value c.in_ok-loader.ensures.store c.in_ok-found.ensures.closure)
     (subst (λ (t : EntryMap). AreLoaded (IsLoadAlone t) c.in_ok-found.found.entries) c.in_ok-loader.ensures.store c.in_ok-found.ensures.loaded)
-    c.in_ok-settled.field-0 c.in_ok-settled.ensures.extra c.in_ok-settled.ensures.names
+    c.in_ok-settled_by_workers.field-0 c.in_ok-settled_by_workers.ensures.extra c.in_ok-settled_by_workers.ensures.names
 
 pub returns-clause-not_over : goal.returns-clause-not_over
 returns-clause-not_over g c =

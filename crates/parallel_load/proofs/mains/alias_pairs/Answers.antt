@@ -1,4 +1,4 @@
-use Rattle.std.proofs.Common.{◌++◌, ◌∷◌, [], ap, ◌∙◌}
+use Rattle.std.proofs.Common.{◌++◌, ◌∷◌, [], ap, sym, ◌∙◌}
 use Rattle.unit_name.specs.Names.{Name}
 use Rattle.parallel_load.specs.Mains.{alias_pair}
 use Rattle.parallel_load.proofs.Steps.{made_none, made_one}
@@ -12,9 +12,9 @@ loop-name-preserved c = elim c.match-load.branch [
       ∙ ap (λ (n : Name). c.loop-name.pairs.items ++ (n, w.in_ok-try_clone-2.field-0) ∷ []) w.in_ok-try_clone.ensures.copy
       ∙ ap (λ (m : Name). c.loop-name.pairs.items ++ (c.loop-name-item.result.0, m) ∷ []) w.in_ok-try_clone-2.ensures.copy
       ∙ made_one alias_pair c.args.names.now c.loop-name.name-index c.loop-name-item.result c.loop-name-item.result c.loop-name-test.true c.loop-name-item.is
-      c.loop-name.pairs.items (c.loop-name-item.result.0, w.in-Alias.main) (ap (λ o. alias_pair (c.loop-name-item.result.0, o)) w.in-Alias.is) c.loop-name.invariant
+      c.loop-name.pairs.items (c.loop-name-item.result.0, w.in-Alias.main) (ap (λ o. alias_pair (c.loop-name-item.result.0, o)) (sym c.load.ensures.load ∙ w.in-Alias.is)) c.loop-name.invariant
   | in_default w ↦
       ap (λ ps. ps.items) w.pairs-is
       ∙ made_none alias_pair c.args.names.now c.loop-name.name-index c.loop-name-item.result c.loop-name-item.result c.loop-name-test.true c.loop-name-item.is
-      c.loop-name.pairs.items (ap (λ o. alias_pair (c.loop-name-item.result.0, o)) w.in_default.is) c.loop-name.invariant
+      c.loop-name.pairs.items (ap (λ o. alias_pair (c.loop-name-item.result.0, o)) (sym c.load.ensures.load ∙ w.in_default.is)) c.loop-name.invariant
 ]

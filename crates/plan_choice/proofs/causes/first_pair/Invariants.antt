@@ -1,7 +1,8 @@
 use Rattle.std.proofs.Common.{ℕ, ◌<◌}
 use Rattle.list_laws.specs.Members.{IsAmong}
-use Rattle.index_rows.specs.Rows.{Marked, row as row_of}
+use Rattle.index_rows.specs.Rows.{Marked}
+use Rattle.index_rows.specs.Steps.{steps_from}
 use Rattle.plan_choice.proofs.causes.first_pair.Given as goal
 
 abbrev pub invariant-sources : goal.invariant-sources
-invariant-sources l = (u v : ℕ) → u < l.unit → ¬ (Marked l.sources u × IsAmong v (row_of l.rows u) × Marked l.marks v)
+invariant-sources l = (u v : ℕ) → u < l.unit → ¬ (Marked l.sources u × IsAmong v (steps_from l.steps u) × Marked l.marks v)

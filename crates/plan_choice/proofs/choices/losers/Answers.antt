@@ -24,40 +24,35 @@ units-init c = record {
 
 pub set_marks-requires : goal.set_marks-requires
 set_marks-requires c =
-    row_fits (length c.units.named.items) (count_of c.args.case.now) c.args.case.now.conflicts.items c.units.unit c.row.result.now
-    (c.row.ensures ∙ ap (λ l. row_of l c.units.unit) c.deref-in-units.ensures.value) c.args.case.now.lawful_conflicts (c.units.invariant.marks ∙ c.requires.units)
+    row_fits (length c.units.named.items) (count_of c.args.case.now) c.args.case.now.conflicts.now c.units.unit c.row.result.now c.row.ensures c.args.case.now.lawful_conflicts (c.units.invariant.marks ∙ c.requires.units)
 
 pub loses-lost-requires-clause-namers : goal.loses-lost-requires-clause-namers
 loses-lost-requires-clause-namers c =
-    let rows = rw c.deref.ensures.value at c.in_ok-named_by.ensures.rows in
-    row_fits (length c.args.extra.now) (length c.args.case.now.conflicts.items) c.in_ok-named_by.named_by.items c.units.unit c.row-in-units.result.now
-    (c.row-in-units.ensures ∙ ap (λ l. row_of l c.units.unit) c.deref-in-units-3.ensures.value) rows (c.requires.units ∙ sym c.args.case.now.lawful_conflicts.one_each)
+    row_fits (length c.args.extra.now) (count_of c.args.case.now) c.args.case.now.conflicted_by.now c.units.unit c.row-in-units.result.now c.row-in-units.ensures c.args.case.now.lawful_conflicted_by c.requires.units
 
 pub set_marks-requires-in-units : goal.set_marks-requires-in-units
 set_marks-requires-in-units c =
-    row_fits (length c.set_marks.new.marks.items) (count_of c.args.case.now) c.args.case.now.conflicts.items c.units.unit c.row-in-units-2.result.now
-    (c.row-in-units-2.ensures ∙ ap (λ l. row_of l c.units.unit) c.deref-in-units-4.ensures.value) c.args.case.now.lawful_conflicts (c.set_marks.ensures.units ∙ c.units.invariant.marks ∙ c.requires.units)
+    row_fits (length c.set_marks.new.marks.items) (count_of c.args.case.now) c.args.case.now.conflicts.now c.units.unit c.row-in-units-2.result.now
+    c.row-in-units-2.ensures c.args.case.now.lawful_conflicts (c.set_marks.ensures.units ∙ c.units.invariant.marks ∙ c.requires.units)
 
 pub units-preserved : goal.units-preserved
 units-preserved c =
-    let conflicts : List ℕ = row_of c.args.case.now.conflicts.items c.units.unit in
-    let first : c.row.result.now ≡ row_of c.args.case.now.conflicts.items c.units.unit = c.row.ensures ∙ ap (λ l. row_of l c.units.unit) c.deref-in-units.ensures.value in
-    let second : c.row-in-units-2.result.now ≡ row_of c.args.case.now.conflicts.items c.units.unit = c.row-in-units-2.ensures ∙ ap (λ l. row_of l c.units.unit) c.deref-in-units-4.ensures.value in
-    let namers : c.row-in-units.result.now ≡ row_of c.in_ok-named_by.named_by.items c.units.unit = c.row-in-units.ensures ∙ ap (λ l. row_of l c.units.unit) c.deref-in-units-3.ensures.value in
+    let first : c.row.result.now ≡ row_of c.args.case.now.conflicts.now c.units.unit = c.row.ensures in
+    let second : c.row-in-units-2.result.now ≡ row_of c.args.case.now.conflicts.now c.units.unit = c.row-in-units-2.ensures in
+    let namers : c.row-in-units.result.now ≡ row_of c.args.case.now.conflicted_by.now c.units.unit = c.row-in-units.ensures in
     let set = subst (λ l. SetsMarks c.units.named.items c.set_marks.new.marks.items l true) first c.set_marks.ensures in
     let cleared = subst (λ l. SetsMarks c.set_marks.new.marks.items c.set_marks-in-units.new.marks.items l false) second c.set_marks-in-units.ensures in
-    let marked = marks_of_row c.units.named.items c.set_marks.new.marks.items (row_of c.args.case.now.conflicts.items c.units.unit) c.units.invariant.clean set in
-    let back = rw c.deref.ensures.value at c.in_ok-named_by.ensures.steps in
+    let marked = marks_of_row c.units.named.items c.set_marks.new.marks.items (row_of c.args.case.now.conflicts.now c.units.unit) c.units.invariant.clean set in
     let L : List ℕ → List Bool → Type 0 = λ l m. IsTrue c.loses-lost.result ↔ ((v : ℕ) × (IsAmong v l × Marked c.args.extra.now v × (Marked m v → v < c.units.unit))) in
-    let lost = subst (λ m. L (row_of c.in_ok-named_by.named_by.items c.units.unit) m) c.deref-in-units-2.ensures.value (subst (λ l. L l c.deref-in-units-2.result.now) namers c.loses-lost.ensures) in
-    let was = loser_was c.args.case.now c.args.extra.now c.set_marks.new.marks.items c.in_ok-named_by.named_by.items c.units.unit c.requires back marked in
+    let lost = subst (λ m. L (row_of c.args.case.now.conflicted_by.now c.units.unit) m) c.deref.ensures.value (subst (λ l. L l c.deref.result.now) namers c.loses-lost.ensures) in
+    let was = loser_was c.args.case.now c.args.extra.now c.set_marks.new.marks.items c.units.unit c.requires marked in
     record {
       marks = c.set_marks-in-units.ensures.units ∙ c.set_marks.ensures.units ∙ c.units.invariant.marks;
-      clean = clean_again c.units.named.items c.set_marks.new.marks.items c.set_marks-in-units.new.marks.items (row_of c.args.case.now.conflicts.items c.units.unit) c.units.invariant.clean set cleared;
+      clean = clean_again c.units.named.items c.set_marks.new.marks.items c.set_marks-in-units.new.marks.items (row_of c.args.case.now.conflicts.now c.units.unit) c.units.invariant.clean set cleared;
       listed = elim c.if-lost.branch [
         | then-lost+then-extra-unit+in_ok-push w ↦
             listed_more (IsLoser (case_of c.args.case.now)) _ _ _ c.units.invariant.listed
-            (loser_is c.args.case.now c.args.extra.now c.set_marks.new.marks.items c.in_ok-named_by.named_by.items c.units.unit c.requires back marked w.if-extra-unit.true (lost.0 w.if-lost.true))
+            (loser_is c.args.case.now c.args.extra.now c.set_marks.new.marks.items c.units.unit c.requires marked w.if-extra-unit.true (lost.0 w.if-lost.true))
             (ap (λ (v : Vec ℕ Global). v.items) w.units-is ∙ w.in_ok-push.ensures.items)
         | else-lost w ↦ elim w.else-lost.branch [
           | else-lost-via-then-lost+else-extra-unit v ↦

@@ -1,31 +1,33 @@
-use Rattle.std.proofs.Common.{◌<◌, ℕ, length, refl, arith, ap, subst, sym, ◌∙◌}
+use Rattle.std.proofs.Common.{◌<◌, ℕ, arith, ap, sym, ◌∙◌}
 use Rattle.std.specs.Ordering.{nat_cmp}
 use Rattle.std.specs.declared.vec.Vec.{Vec}
 use Rattle.std.specs.declared.alloc.Global.{Global}
 use Rattle.list_laws.specs.Members.{IsAmong}
 use Rattle.index_rows.specs.Least.{IsLeast}
-use Rattle.index_rows.specs.Rows.{Marked, row as row_of}
+use Rattle.index_rows.specs.Rows.{Marked}
 use Rattle.index_rows.specs.MarkLaws.{Marked-within}
-use Rattle.plan_choice.proofs.Fitting.{row_fits, tested_none, tested_some, untrue}
+use Rattle.index_rows.specs.Steps.{steps_from}
+use Rattle.plan_choice.proofs.Fitting.{tested_none, tested_some, untrue}
 use Rattle.plan_choice.proofs.WishLemmas.{listed_more, listed_still}
 use Rattle.plan_choice.proofs.plans.ousted.Goals as goal
 use Rattle.plan_choice.proofs.plans.ousted.Goals.{then-outside-unit+then-is_some+in_ok-push, else-outside-unit, else-outside-unit-via-then-outside-unit+else-is_some, else-outside-unit-via-else-outside-unit}
 
 pub least_marked-requires : goal.least_marked-requires
-least_marked-requires c = row_fits (length c.args.chosen.now) (length c.args.chosen.now) c.args.rivals.now c.units.unit c.row.result.now c.row.ensures c.requires.rivals refl
+least_marked-requires c = record { steps = c.requires.rivals; node = (let l = c.units-test.true in omega (arith, l, c.requires.units)) }
 
 pub units-preserved : goal.units-preserved
 units-preserved c =
-    let P : ℕ → Type 0 = λ u. Marked c.args.outside.now u × ((v : ℕ) × (IsAmong v (row_of c.args.rivals.now u) × Marked c.args.chosen.now v)) in
+    let there : ℕ → Type 0 = λ v. IsAmong v (steps_from c.args.rivals.now c.units.unit) in
+    let P : ℕ → Type 0 = λ u. Marked c.args.outside.now u × ((v : ℕ) × (IsAmong v (steps_from c.args.rivals.now u) × Marked c.args.chosen.now v)) in
     elim c.if-outside-unit.branch [
       | then-outside-unit+then-is_some+in_ok-push w ↦
-          (let found = tested_some ((v : ℕ) → IsAmong v w.row.result.now → ¬ Marked c.args.chosen.now v) (IsLeast nat_cmp (λ v. IsAmong v w.row.result.now × Marked c.args.chosen.now v)) w.least_marked.result w.least_marked.ensures (sym w.is_some.ensures ∙ w.if-is_some.true) in
-          listed_more P _ _ _ c.units.invariant (w.if-outside-unit.true, (found.0, (subst (λ l. IsAmong found.0 l) w.row.ensures found.1.member.0, found.1.member.1)))
+          (let found = tested_some ((v : ℕ) → there v → ¬ Marked c.args.chosen.now v) (IsLeast nat_cmp (λ v. there v × Marked c.args.chosen.now v)) w.least_marked.result w.least_marked.ensures.least (sym w.is_some.ensures ∙ w.if-is_some.true) in
+          listed_more P _ _ _ c.units.invariant (w.if-outside-unit.true, (found.0, (found.1.member.0, found.1.member.1)))
           (ap (λ (v : Vec ℕ Global). v.items) w.units-is ∙ w.in_ok-push.ensures.items))
       | else-outside-unit w ↦ elim w.else-outside-unit.branch [
         | else-outside-unit-via-then-outside-unit+else-is_some v ↦
-            (let none = tested_none ((x : ℕ) → IsAmong x v.row.result.now → ¬ Marked c.args.chosen.now x) (IsLeast nat_cmp (λ x. IsAmong x v.row.result.now × Marked c.args.chosen.now x)) v.least_marked.result v.least_marked.ensures (sym v.is_some.ensures ∙ v.if-is_some.false) in
-            listed_still P _ _ _ c.units.invariant (λ h. none h.1.0 (subst (λ l. IsAmong h.1.0 l) (sym v.row.ensures) h.1.1.0) h.1.1.1) (ap (λ (x : Vec ℕ Global). x.items) w.units-is))
+            (let none = tested_none ((x : ℕ) → there x → ¬ Marked c.args.chosen.now x) (IsLeast nat_cmp (λ x. there x × Marked c.args.chosen.now x)) v.least_marked.result v.least_marked.ensures.least (sym v.is_some.ensures ∙ v.if-is_some.false) in
+            listed_still P _ _ _ c.units.invariant (λ h. none h.1.0 h.1.1.0 h.1.1.1) (ap (λ (x : Vec ℕ Global). x.items) w.units-is))
         | else-outside-unit-via-else-outside-unit v ↦
             listed_still P _ _ _ c.units.invariant (λ h. untrue _ v.if-outside-unit.false h.0) (ap (λ (x : Vec ℕ Global). x.items) w.units-is)
       ]

@@ -1,7 +1,8 @@
 use Rattle.std.proofs.Common.{ℕ, ◌<◌, ◌↔◌}
 use Rattle.list_laws.specs.Members.{IsAmong}
-use Rattle.index_rows.specs.Rows.{Marked, row as row_of}
+use Rattle.index_rows.specs.Rows.{Marked}
+use Rattle.index_rows.specs.Steps.{steps_from}
 use Rattle.plan_choice.proofs.plans.ousted.Given as goal
 
 abbrev pub invariant-units : goal.invariant-units
-invariant-units l = (u : ℕ) → IsAmong u l.units.items ↔ ((u < l.unit) × (Marked l.outside u × ((v : ℕ) × (IsAmong v (row_of l.rivals u) × Marked l.chosen v))))
+invariant-units l = (u : ℕ) → IsAmong u l.units.items ↔ ((u < l.unit) × (Marked l.outside u × ((v : ℕ) × (IsAmong v (steps_from l.rivals u) × Marked l.chosen v))))

@@ -14,10 +14,9 @@ returns-in-Err-clause-refusal c =
     let left = rw (c.deref.ensures.value, c.deref-2.ensures.value) at c.in_ok-starting.ensures.left in
     let same = starting_is c.args.case.now c.in_ok-chosen.chosen.items c.in_ok-chosen.ensures c.in_ok-starting.starting.items left in
     let cycle = rw c.in-Err.is at c.in_ok-cycle.ensures.cycle in
-    let there = subst (λ m. IsCycle nat_cmp (IsStuck (Marked m) (Precedes c.deref-4.result.now)) (Precedes c.deref-4.result.now) c.in-Err.cycle.items) c.deref-3.ensures.value cycle in
-    let here = subst (λ r. IsCycle nat_cmp (IsStuck (Marked c.in_ok-starting.starting.items) (Precedes r)) (Precedes r) c.in-Err.cycle.items) c.deref-4.ensures.value there in
+    let there = subst (λ m. IsCycle nat_cmp (IsStuck (Marked m) (Precedes c.args.case.now.predecessors.now)) (Precedes c.args.case.now.predecessors.now) c.in-Err.cycle.items) c.deref-3.ensures.value cycle in
     record {
-      stands = cycle_same (Marked c.in_ok-starting.starting.items) (Starts nat_cmp (case_of c.args.case.now)) (Precedes c.args.case.now.predecessors.items) same c.in-Err.cycle.items here;
+      stands = cycle_same (Marked c.in_ok-starting.starting.items) (Starts nat_cmp (case_of c.args.case.now)) (Precedes c.args.case.now.predecessors.now) same c.in-Err.cycle.items there;
       clear = c.requires.clear;
     }
 
@@ -26,18 +25,16 @@ returns c =
     let left = rw (c.deref.ensures.value, c.deref-2.ensures.value) at c.in_ok-starting.ensures.left in
     let same = starting_is c.args.case.now c.in_ok-chosen.chosen.items c.in_ok-chosen.ensures c.in_ok-starting.starting.items left in
     let list = rw c.in-Ok.is at c.in_ok-cycle.ensures.list in
-    let list_there = subst (λ m. IsStartList nat_cmp (Marked m) (Precedes c.deref-4.result.now) c.in-Ok.starts.items) c.deref-3.ensures.value list in
-    let list_here = subst (λ r. IsStartList nat_cmp (Marked c.in_ok-starting.starting.items) (Precedes r) c.in-Ok.starts.items) c.deref-4.ensures.value list_there in
+    let list_there = subst (λ m. IsStartList nat_cmp (Marked m) (Precedes c.args.case.now.predecessors.now) c.in-Ok.starts.items) c.deref-3.ensures.value list in
     let all = rw c.in-Ok.is at c.in_ok-cycle.ensures.all in
     let all_here = subst (λ m. (u : ℕ) → Marked m u → IsAmong u c.in-Ok.starts.items) c.deref-3.ensures.value all in
     let none = rw c.in-Ok.is at c.in_ok-cycle.ensures.none_stuck in
-    let none_there = subst (λ m. (u : ℕ) → ¬ IsStuck (Marked m) (Precedes c.deref-4.result.now) u) c.deref-3.ensures.value none in
-    let none_here = subst (λ r. (u : ℕ) → ¬ IsStuck (Marked c.in_ok-starting.starting.items) (Precedes r) u) c.deref-4.ensures.value none_there in
+    let none_there = subst (λ m. (u : ℕ) → ¬ IsStuck (Marked m) (Precedes c.args.case.now.predecessors.now) u) c.deref-3.ensures.value none in
     record {
       plan = record {
-        clear = clear_7 c.args.case.now c.requires.clear (λ u s. none_here u (stuck_back (Marked c.in_ok-starting.starting.items) (Starts nat_cmp (case_of c.args.case.now)) (Precedes c.args.case.now.predecessors.items) same u s));
+        clear = clear_7 c.args.case.now c.requires.clear (λ u s. none_there u (stuck_back (Marked c.in_ok-starting.starting.items) (Starts nat_cmp (case_of c.args.case.now)) (Precedes c.args.case.now.predecessors.now) same u s));
         stopped = c.in_ok-stops-in-Ok.ensures;
-        started = start_list_same (Marked c.in_ok-starting.starting.items) (Starts nat_cmp (case_of c.args.case.now)) (Precedes c.args.case.now.predecessors.items) same c.in-Ok.starts.items list_here;
+        started = start_list_same (Marked c.in_ok-starting.starting.items) (Starts nat_cmp (case_of c.args.case.now)) (Precedes c.args.case.now.predecessors.now) same c.in-Ok.starts.items list_there;
       };
       all = λ u s. all_here u ((same u).1 s);
       refusal = tt;

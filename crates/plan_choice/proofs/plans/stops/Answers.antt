@@ -1,28 +1,43 @@
-use Rattle.std.proofs.Common.{◌≡◌, ◌<◌, ◌↔◌, ℕ, length, ap, subst, sym, ◌∙◌}
+use Rattle.std.proofs.Common.{◌≡◌, ◌<◌, ◌↔◌, ℕ, Bool, List, length, ap, subst, sym, ◌∙◌}
 use Rattle.std.specs.List.{All}
+use Rattle.std.specs.List.Sorted.{IsStrictlySortedBy}
+use Rattle.std.specs.Ordering.{nat_cmp}
 use Rattle.list_laws.specs.Members.{IsAmong}
-use Rattle.index_rows.specs.Rows.{Marked, row as row_of}
+use Rattle.name_closure.specs.Chains.{IsClosure, IsReached}
+use Rattle.name_closure.specs.ListedLaws.{Listed}
+use Rattle.index_rows.specs.Rows.{Marked}
+use Rattle.index_rows.specs.Steps.{LeadsInside, steps_from}
 use Rattle.plan_choice.specs.RowCases.{count_of}
-use Rattle.plan_choice.proofs.Fitting.{all_places}
+use Rattle.plan_choice.proofs.Fitting.{all_places, steps_fit}
 use Rattle.plan_choice.proofs.PlanLemmas.{stopped_is}
 use Rattle.plan_choice.proofs.plans.stops.Goals as goal
 
-pub closure-requires-clause-sources : goal.closure-requires-clause-sources
-closure-requires-clause-sources c =
-    let outside : length c.in_ok-outside.outside.items ≡ count_of c.args.case.now =
-    c.in_ok-outside.ensures.units ∙ ap (λ l. length l) c.deref.ensures.value ∙ c.args.case.now.lawful_running in
-    let same : length c.deref-6.result.now ≡ length c.args.chosen.now =
-    ap (λ l. length l) c.deref-6.ensures.value ∙ c.in_ok-takes.ensures.rows.one_each ∙ ap (λ l. length l) c.deref-5.ensures.value ∙ outside ∙ sym c.requires.chosen.units in
+pub reached_inside-requires : goal.reached_inside-requires
+reached_inside-requires c =
+    let case = c.args.case.now in
+    let same : length c.deref-3.result.now ≡ count_of case = ap (λ l. length l) c.deref-3.ensures.value ∙ c.in_ok-outside.ensures.units ∙ ap (λ l. length l) c.deref.ensures.value ∙ case.lawful_running in
     let all : All (λ v. v < length c.args.chosen.now) c.in_ok-ousted.ousted.items = all_places (λ v. v < length c.args.chosen.now) c.in_ok-ousted.ousted.items c.in_ok-ousted.ensures.below in
-    subst (λ n. All (λ v. v < n) c.deref-7.result.now) (sym same) (subst (λ l. All (λ v. v < length c.args.chosen.now) l) (sym c.deref-7.ensures.value) all)
+    let P : ℕ → Type 0 = λ n. All (λ v. v < n) c.deref-4.result.now in
+    record {
+      steps = steps_fit (length c.deref-3.result.now) (count_of case) case.takes_along case.lawful_takes same;
+      sources = subst P (c.requires.chosen.units ∙ sym same) (subst (λ l. All (λ v. v < length c.args.chosen.now) l) (sym c.deref-4.ensures.value) all);
+    }
+
+-- the marks that are reached, listed
+listed : (S : ℕ → Type 0) (L : ℕ → ℕ → Type 0) (marks read : List Bool) (nodes : List ℕ) → read ≡ marks → ((v : ℕ) → Marked marks v ↔ IsReached S L v)
+    → IsStrictlySortedBy nat_cmp nodes → ((v : ℕ) → IsAmong v nodes ↔ Marked read v) → IsClosure S L nat_cmp nodes
+listed S L marks read nodes same reached rising members =
+    let P : List Bool → Type 0 = λ l. (v : ℕ) → IsAmong v nodes ↔ Marked l v in
+    let m = subst P same members in
+    record { rising = rising; members = λ v. (λ h. (reached v).0 ((m v).0 h), λ r. (m v).1 ((reached v).1 r)) }
 
 pub returns : goal.returns
 returns c =
+    let case = c.args.case.now in
     let left = rw c.deref.ensures.value at c.in_ok-outside.ensures.left in
-    let ousted = subst (λ l. (u : ℕ) → IsAmong u c.in_ok-ousted.ousted.items ↔ (Marked l u × ((v : ℕ) × (IsAmong v (row_of c.args.rivals.now u) × Marked c.args.chosen.now v))))
+    let ousted = subst (λ l. (u : ℕ) → IsAmong u c.in_ok-ousted.ousted.items ↔ (Marked l u × ((v : ℕ) × (IsAmong v (steps_from c.args.rivals.now u) × Marked c.args.chosen.now v))))
     c.deref-2.ensures.value c.in_ok-ousted.ensures.members in
-    let tied = rw c.deref-3.ensures.value at c.in_ok-tied.ensures.steps in
-    let takes = rw (c.deref-4.ensures.value, c.deref-5.ensures.value) at c.in_ok-takes.ensures.steps in
-    let stops = rw (c.deref-6.ensures.value, c.deref-7.ensures.value) at c.in_ok-closure.ensures in
-    stopped_is c.args.case.now c.args.chosen.now c.requires.chosen c.in_ok-outside.outside.items left c.args.rivals.now c.in_ok-tied.tied.items c.in_ok-takes.takes.items
-    c.in_ok-ousted.ousted.items c.in_ok-closure.field-0.items c.requires.rivals ousted tied takes stops
+    let reached = rw (c.deref-3.ensures.value, c.deref-4.ensures.value) at c.in_ok-stopped.ensures.reached in
+    stopped_is case c.args.chosen.now c.requires.chosen c.in_ok-outside.outside.items left c.args.rivals.now c.in_ok-ousted.ousted.items c.in_ok-marked_nodes.field-0.items c.requires.rivals ousted
+    (listed (Listed c.in_ok-ousted.ousted.items) (LeadsInside c.in_ok-outside.outside.items case.takes_along) c.in_ok-stopped.stopped.items c.deref-5.result.now c.in_ok-marked_nodes.field-0.items c.deref-5.ensures.value reached
+    c.in_ok-marked_nodes.ensures.rising c.in_ok-marked_nodes.ensures.members)

@@ -1,38 +1,34 @@
-use Rattle.std.proofs.Common.{◌≡◌, ◌⊎◌, ◌↔◌, ℕ, List, length, inl, inr, subst, sym, ap, ◌∙◌}
+use Rattle.std.proofs.Common.{◌≡◌, ◌∷◌, [], ◌++◌, ℕ, List, inl, inr, ap, subst, sym, ◌∙◌}
 use Rattle.std.specs.declared.vec.Vec.{Vec}
 use Rattle.std.specs.declared.alloc.Global.{Global}
-use Rattle.list_laws.specs.Members.{IsAmong}
-use Rattle.index_rows.specs.Rows.{AreRowsOf, row as row_of}
-use Rattle.plan_choice.specs.RowCases.{count_of}
+use Rattle.index_rows.specs.Rows.{row}
+use Rattle.index_rows.specs.StepLaws.{more_kinds, one_kind, opposite_is, within-both, within-one}
+use Rattle.plan_choice.specs.declared.cases.PlanRows.{PlanRows}
+use Rattle.plan_choice.specs.Marking.{ArePairsOf}
+use Rattle.plan_choice.specs.RowCases.{case_of, count_of}
+use Rattle.plan_choice.specs.Sets.{AreInConflict}
 use Rattle.plan_choice.proofs.wishes.rivals.Goals as goal
 
-pub joined-requires : goal.joined-requires
-joined-requires c =
-    let law = c.args.case.now.lawful_conflicts in
-    let P : List (Vec ℕ Global) → Type 0 = λ l. AreRowsOf (length l) l in
-    let Q : ℕ → Type 0 = λ n. AreRowsOf n c.args.case.now.conflicts.items in
-    let R : List (Vec ℕ Global) → Type 0 = λ l. AreRowsOf (length c.deref-2.result.now) l in
-    let same : length c.deref-2.result.now ≡ count_of c.args.case.now = ap (λ (l : List (Vec ℕ Global)). length l) c.deref-2.ensures.value ∙ law.one_each in
-    let turned : AreRowsOf (length c.deref.result.now) c.in_ok-named_by.named_by.items = c.in_ok-named_by.ensures.rows in
-    let T : List (Vec ℕ Global) → Type 0 = λ l. AreRowsOf (length l) c.in_ok-named_by.named_by.items in
-    record {
-      first = subst P (sym c.deref-2.ensures.value) (subst Q (sym law.one_each) law);
-      second = subst R (sym c.deref-3.ensures.value) (subst T (sym c.deref-2.ensures.value) (subst T c.deref.ensures.value turned));
-    }
+-- two units are in conflict where one of them names the other
+are_rivals : (p : PlanRows) → ArePairsOf (count_of p) (AreInConflict (case_of p)) (p.conflicts.now ∷ p.conflicted_by.now ∷ [])
+are_rivals p = record {
+  lawful = within-both (count_of p) (p.conflicts.now ∷ []) (p.conflicted_by.now ∷ []) (within-one (count_of p) p.conflicts.now p.lawful_conflicts) (within-one (count_of p) p.conflicted_by.now p.lawful_conflicted_by);
+  pairs = λ u v. (
+    λ h. elim ((more_kinds (p.conflicts.now ∷ []) (p.conflicted_by.now ∷ []) u v).0 h) [
+      | inl a ↦ inl ((one_kind p.conflicts.now u v).0 a)
+      | inr a ↦ inr ((opposite_is (row p.conflicts.now) (row p.conflicted_by.now) p.conflicts_turned u v).0 ((one_kind p.conflicted_by.now u v).0 a))
+    ],
+    λ k. (more_kinds (p.conflicts.now ∷ []) (p.conflicted_by.now ∷ []) u v).1 (elim k [
+      | inl a ↦ inl ((one_kind p.conflicts.now u v).1 a)
+      | inr a ↦ inr ((one_kind p.conflicted_by.now u v).1 ((opposite_is (row p.conflicts.now) (row p.conflicted_by.now) p.conflicts_turned u v).1 a))
+    ]),
+  );
+}
 
 pub returns : goal.returns
 returns c =
-    let law = c.args.case.now.lawful_conflicts in
-    let same : length c.deref-2.result.now ≡ count_of c.args.case.now = ap (λ (l : List (Vec ℕ Global)). length l) c.deref-2.ensures.value ∙ law.one_each in
-    let S : List (Vec ℕ Global) → Type 0 = λ l. (u v : ℕ) → IsAmong v (row_of c.in_ok-named_by.named_by.items u) ↔ IsAmong u (row_of l v) in
-    let turned = subst S c.deref.ensures.value c.in_ok-named_by.ensures.steps in
-    let A : List (Vec ℕ Global) → Type 0 = λ l. (u v : ℕ) → IsAmong v (row_of c.in_ok-joined.field-0.items u) ↔ (IsAmong v (row_of l u) ⊎ IsAmong v (row_of c.deref-3.result.now u)) in
-    let B : List (Vec ℕ Global) → Type 0 = λ l. (u v : ℕ) → IsAmong v (row_of c.in_ok-joined.field-0.items u) ↔ (IsAmong v (row_of c.args.case.now.conflicts.items u) ⊎ IsAmong v (row_of l u)) in
-    let joined = subst B c.deref-3.ensures.value (subst A c.deref-2.ensures.value c.in_ok-joined.ensures.steps) in
-    record {
-      lawful = subst (λ n. AreRowsOf n c.in_ok-joined.field-0.items) same c.in_ok-joined.ensures.rows;
-      pairs = λ u v. (
-        λ h. elim ((joined u v).0 h) [ inl a ↦ inl a | inr b ↦ inr ((turned u v).0 b) ],
-        λ k. (joined u v).1 (elim k [ inl a ↦ inl a | inr b ↦ inr ((turned u v).1 b) ]),
-      );
-    }
+    let p = c.args.case.now in
+    let P : List (List (Vec ℕ Global)) → Type 0 = λ ks. ArePairsOf (count_of p) (AreInConflict (case_of p)) ks in
+    let first : c.push.new.self ≡ p.conflicts.now ∷ [] = c.in_ok-push.ensures.added ∙ ap (λ ks. ks ++ p.conflicts.now ∷ []) c.new-rivals.ensures.none in
+    let both : c.push-2.new.self ≡ p.conflicts.now ∷ p.conflicted_by.now ∷ [] = c.in_ok-push-2.ensures.added ∙ ap (λ ks. ks ++ p.conflicted_by.now ∷ []) first in
+    subst P (sym both) (are_rivals p)

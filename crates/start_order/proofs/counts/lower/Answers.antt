@@ -1,5 +1,4 @@
-use Rattle.std.proofs.Common.{◌≡◌, ◌+◌, ◌-◌, ◌<◌, ℕ, Bool, true, false, arith, ap, length, get_or, ◌∙◌}
-use Rattle.std.specs.BTreeSet.{BTreeSet}
+use Rattle.std.proofs.Common.{◌≡◌, ◌+◌, ◌-◌, ◌<◌, ℕ, Bool, true, false, arith, length, get_or, ◌∙◌}
 use Rattle.std.proofs.lemmas.List.{get_or_default, take_more}
 use Rattle.index_rows.specs.RowLaws.{times_room}
 use Rattle.start_order.proofs.Waiting.{IsLowered-more, IsLowered-at, later_yes, later_no}
@@ -32,11 +31,11 @@ nodes-preserved c =
     (IsLowered-more _ _ _ _ _ _ _ _ _ c.nodes.invariant within at
     (elim c.if-chosen-other.branch [
       | then-chosen-other+then-count-eq0+in_ok-add w ↦
-          later_yes _ _ _ _ _ _ w.if-chosen-other.true w.if-count-eq0.true (ap (λ (s : BTreeSet ℕ). s.keys) w.free-is) w.in_ok-add.ensures
+          later_yes _ _ _ _ _ _ w.if-chosen-other.true w.if-count-eq0.true w.free-is w.in_ok-add.ensures.added
       | else-chosen-other w ↦ elim w.else-chosen-other.branch [
         | else-chosen-other-via-then-chosen-other+else-count-eq0 v ↦
-            later_no _ _ _ _ _ (λ m z. v.if-count-eq0.false z) (ap (λ (s : BTreeSet ℕ). s.keys) w.free-is)
+            later_no _ _ _ _ _ (λ m z. v.if-count-eq0.false z) w.free-is
         | else-chosen-other-via-else-chosen-other v ↦
-            later_no _ _ _ _ _ (λ m z. unset_here _ v.if-chosen-other.false m) (ap (λ (s : BTreeSet ℕ). s.keys) w.free-is)
+            later_no _ _ _ _ _ (λ m z. unset_here _ v.if-chosen-other.false m) w.free-is
       ]
     ]))

@@ -3,4 +3,4 @@ use Rattle.start_order.specs.Counts.{IsLowered}
 use Rattle.start_order.proofs.counts.lower.Given as goal
 
 abbrev pub invariant-nodes : goal.invariant-nodes
-invariant-nodes l = IsLowered l.chosen (take l.other-index l.nodes) l.fn.counts.items l.counts.items l.fn.free.keys l.free.keys
+invariant-nodes l = IsLowered l.chosen (take l.other-index l.nodes) l.fn.counts.items l.counts.items l.fn.free l.free

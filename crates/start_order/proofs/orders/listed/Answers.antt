@@ -1,15 +1,25 @@
-use Rattle.std.proofs.Common.{◌≡◌, ◌<◌, ◌≤◌, ℕ, true, List, [], ◌∷◌, ◌++◌, arith, length, get_or, set, subst, sym}
+use Rattle.std.proofs.Common.{◌≡◌, ◌<◌, ◌≤◌, ◌↔◌, ℕ, Bool, true, List, [], ◌∷◌, ◌++◌, arith, length, get_or, set, subst, sym}
 use Rattle.std.specs.List.{All}
-use Rattle.index_rows.specs.Rows.{times, row as row_of}
+use Rattle.list_laws.specs.Members.{IsAmong}
+use Rattle.index_rows.specs.Rows.{Marked, times, row as row_of}
 use Rattle.index_rows.specs.MarkLaws.{unset-set}
 use Rattle.index_rows.specs.RowLaws.{All-row}
 use Rattle.start_order.proofs.States.{IsState, IsState-begin, step, done, unmarked_of, within_of, enough_of}
 use Rattle.start_order.proofs.orders.listed.Goals as goal
 
+-- what can start at first
+free_at_first : (chosen : List Bool) (counts : List ℕ) (ready read : List Bool) (free : List ℕ) → read ≡ ready → ((v : ℕ) → IsAmong v free ↔ Marked read v)
+    → ((v : ℕ) → Marked ready v ↔ (Marked chosen v × (get_or counts v 0 ≡ 0))) → (v : ℕ) → IsAmong v free ↔ (Marked chosen v × (get_or counts v 0 ≡ 0))
+free_at_first chosen counts ready read free e f r v =
+    let P : List Bool → Type 0 = λ m. IsAmong v free ↔ Marked m v in
+    let g = subst P e (f v) in
+    (λ h. (r v).0 (g.0 h), λ h. g.1 ((r v).1 h))
+
 pub starts-init : goal.starts-init
 starts-init c =
     IsState-begin _ _ _ _ _ _ _ _ c.in_ok-standing.ensures.none c.deref.ensures.value c.deref-2.ensures.value c.new-list.ensures.items c.requires.before.one_each
-    c.in_ok-counts.ensures.units c.in_ok-counts.ensures.counts c.in_ok-free.ensures
+    c.in_ok-counts.ensures.units c.in_ok-counts.ensures.counts
+    (free_at_first c.args.chosen.now c.deref-2.result.now c.in_ok-ready.field-0.items c.deref-3.result.now c.in_ok-free.free c.deref-3.ensures.value c.in_ok-free.ensures.free c.in_ok-ready.ensures)
 
 pub index_mut-requires : goal.index_mut-requires
 index_mut-requires c = let a = within_of _ _ _ _ _ _ c.starts.invariant c.in-Some.node c.in-Some.ensures.least.0 in omega (arith, a, c.starts.invariant.units, c.starts.standing.ok)
@@ -37,7 +47,7 @@ starts-smaller c =
 pub starts-preserved : goal.starts-preserved
 starts-preserved c =
     let items : c.push.new.self.items ≡ c.starts.list.items ++ c.in-Some.node ∷ [] = c.in_ok-push.ensures.items in
-    let P : List ℕ → Type 0 = λ l. IsState c.args.chosen.now c.args.before.now (set c.starts.standing.items c.in-Some.node true) c.lower.new.counts.items l c.lower.new.free.keys in
+    let P : List ℕ → Type 0 = λ l. IsState c.args.chosen.now c.args.before.now (set c.starts.standing.items c.in-Some.node true) c.lower.new.counts.items l c.lower.new.free in
     let Q : List ℕ → Type 0 = λ r. (v : ℕ) → times v r ≡ times c.in-Some.node (row_of c.args.before.now v) in
     let turned = subst Q (sym c.row.ensures) (c.requires.turned c.in-Some.node) in
     subst P (sym items)

@@ -1,4 +1,5 @@
 use Rattle.std.proofs.Common.{◌≡◌, true, false, ap, sym, ◌∙◌, subst}
+use Rattle.std.proofs.lemmas.Result.{IfOk-weaker}
 use Rattle.edit_sums.specs.Sums.{EntryMap}
 use Rattle.unit_name.specs.Names.{Name}
 use Rattle.unit_name.specs.NameLaws.{name_eq-Decides}
@@ -6,6 +7,9 @@ use Rattle.fragment_choice.specs.declared.resolutions.Resolution.{Resolution}
 use Rattle.fragment_choice.specs.Resolutions.{resolution}
 use Rattle.fragment_choice.specs.ResolutionLaws.{mains_are_their_own}
 use Rattle.unit_loads.specs.Units.{IsUnit}
+use Rattle.parallel_load.specs.declared.loaded.NameLoad.TheVariants.{Unit as OfUnit, Alias as OfAlias}
+use Rattle.parallel_load.specs.Alone.{IsLoadAlone}
+use Rattle.parallel_load.specs.Loads.{IsAliasOf}
 use Rattle.parallel_load.proofs.loader.UnitLoaderLoadsUnitName.load.Goals as goal
 
 differ : false ≡ true → ⊥
@@ -18,19 +22,28 @@ load_resolved-requires c =
     c.in_ok-resolved.ensures.resolution ∙ ap (λ (t : EntryMap). resolution t c.args.node.now) c.store.ensures.store in
     record { resolved = ap (λ (r : Resolution). resolution s r.main) e ∙ (mains_are_their_own s c.args.node.now).1 ∙ sym e }
 
-pub returns-in_ok-load_resolved : goal.returns-in_ok-load_resolved
-returns-in_ok-load_resolved c =
+pub returns-in_ok-unit : goal.returns-in_ok-unit
+returns-in_ok-unit c =
+    let s = c.args.self.now.index in
     let same : c.in_ok-resolved.resolved.main ≡ c.args.node.now = (name_eq-Decides c.in_ok-resolved.resolved.main c.args.node.now).0 (sym c.eq.ensures ∙ c.if-eq.true) in
-    record { loaded = subst (λ (n : Name). IsUnit c.args.self.now.index n c.in_ok-load_resolved.field-0) same c.in_ok-load_resolved.ensures.unit }
+    let is = subst (λ (n : Name). IsUnit s n c.in_ok-unit.unit) same c.in_ok-unit.ensures.unit in
+    record {
+      loaded =
+          IfOk-weaker c.new.result (λ one. one ≡ OfUnit c.in_ok-unit.unit) (λ one. IsLoadAlone s c.args.node.now one)
+          (λ one e. subst (IsLoadAlone s c.args.node.now) (sym e) is) c.new.ensures.kept;
+    }
 
 pub returns-else-eq : goal.returns-else-eq
 returns-else-eq c =
     let s = c.args.self.now.index in
     let e : c.in_ok-resolved.resolved ≡ resolution s c.args.node.now =
     c.in_ok-resolved.ensures.resolution ∙ ap (λ (t : EntryMap). resolution t c.args.node.now) c.store.ensures.store in
+    let is : IsAliasOf s c.args.node.now c.in_ok-resolved.resolved.main = record {
+      main_is = sym (ap (λ (r : Resolution). r.main) e);
+      other = λ f. differ (sym c.if-eq.false ∙ c.eq.ensures ∙ (name_eq-Decides c.in_ok-resolved.resolved.main c.args.node.now).1 f);
+    } in
     record {
-      loaded = record {
-        main_is = sym (ap (λ (r : Resolution). r.main) e);
-        other = λ f. differ (sym c.if-eq.false ∙ c.eq.ensures ∙ (name_eq-Decides c.in_ok-resolved.resolved.main c.args.node.now).1 f);
-      };
+      loaded =
+          IfOk-weaker c.new-else-eq.result (λ one. one ≡ OfAlias c.in_ok-resolved.resolved.main) (λ one. IsLoadAlone s c.args.node.now one)
+          (λ one e. subst (IsLoadAlone s c.args.node.now) (sym e) is) c.new-else-eq.ensures.kept;
     }

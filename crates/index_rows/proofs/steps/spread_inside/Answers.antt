@@ -1,0 +1,23 @@
+use Rattle.std.proofs.Common.{List, get_or, refl, ap}
+use Rattle.std.specs.declared.vec.Vec.{Vec}
+use Rattle.std.specs.declared.alloc.Global.{Global}
+use Rattle.std.proofs.lemmas.List.{take_more}
+use Rattle.index_rows.proofs.Insides.{spread_marked, spread_unmarked}
+use Rattle.index_rows.proofs.Spreading.{IsSpread-at}
+use Rattle.index_rows.proofs.steps.spread_inside.Goals as goal
+use Rattle.index_rows.proofs.steps.spread_inside.Goals.{then-inside-node+in_ok-mark, else-inside-node}
+
+abbrev items : {A : Type 0} → Vec A Global → List A
+items v = v.items
+
+pub nodes-preserved : goal.nodes-preserved
+nodes-preserved c =
+    let more = take_more c.args.nodes.now c.nodes.node-index 0 c.nodes-test.true in
+    elim c.if-inside-node.branch [
+      | then-inside-node+in_ok-mark w ↦
+          IsSpread-at _ _ _ _ _ _ _ _ (ap items w.seen-is) (ap items w.noted-is) refl
+          (spread_marked _ _ _ _ c.args.inside.now _ _ (get_or c.args.nodes.now c.nodes.node-index 0) more c.nodes.invariant _ _ w.if-inside-node.true w.in_ok-mark.ensures)
+      | else-inside-node w ↦
+          IsSpread-at _ _ _ _ _ _ _ _ (ap items w.seen-is) (ap items w.noted-is) refl
+          (spread_unmarked _ _ _ _ c.args.inside.now _ _ (get_or c.args.nodes.now c.nodes.node-index 0) more c.nodes.invariant w.if-inside-node.false)
+    ]

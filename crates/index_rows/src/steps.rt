@@ -1,0 +1,139 @@
+//! Steps of one or more kinds.
+ghost use Rattle.std.specs.Prelude.{◌≡◌, ◌<◌, ◌++◌, ◌∷◌, [], ℕ, length, filter, IfOk, OnOk, MatchOption};
+ghost use Rattle.std.specs.List.{All};
+ghost use Rattle.std.specs.Ordering.{nat_cmp};
+ghost use Rattle.list_laws.specs.Members.{IsAmong};
+ghost use Rattle.index_rows.specs.Least.{IsLeast};
+ghost use Rattle.index_rows.specs.Rows.{Marked};
+ghost use Rattle.index_rows.specs.Spreads.{IsSpread, lesser_of};
+ghost use Rattle.index_rows.specs.Steps.{AreStepsOf, is_marked, steps_from, steps_inside};
+
+use crate::marks::least_marked;
+use crate::rows::row;
+use std::alloc::{AllocError, Global};
+use std::marker::Model;
+
+/// Steps between nodes, of one or more kinds, each by the rows of that kind, which are lent.
+#[derive(Drop)]
+pub struct Steps<'a> {
+    kinds: Vec<&'a [Vec<usize>]>,
+}
+
+impl<'a> Model for Steps<'a> {
+    ghost use Rattle.std.specs.Prelude.{ℕ, List, map};
+    ghost use Rattle.std.specs.declared.vec.Vec.{Vec};
+    ghost use Rattle.std.specs.declared.alloc.Global.{Global};
+
+    ghost Value = { List (List (Vec ℕ Global)) };
+
+    ghost view = { λ s. map (λ rows. rows.now) s.kinds.items };
+}
+
+impl<'a> Steps<'a> {
+    /// No steps.
+    pub fn new(alloc: Global) -> Steps<'a>
+        ensures none { result ≡ [] }
+    {
+        Steps {
+            kinds: Vec::new(alloc),
+        }
+    }
+
+    /// Adds the steps of one more kind.
+    pub fn push(&mut self, rows: &'a [Vec<usize>]) -> Result<(), AllocError>
+        ensures added { OnOk result (self.new ≡ self.old ++ rows.now ∷ []) }
+    {
+        self.kinds.push(rows)?;
+        Ok(())
+    }
+
+    /// The steps of both.
+    pub fn both(
+        alloc: Global,
+        first: &Steps<'a>,
+        second: &Steps<'a>,
+    ) -> Result<Steps<'a>, AllocError>
+        ensures both { IfOk result (λ steps. steps ≡ first.now ++ second.now) }
+    {
+        let mut kinds = Vec::from_slice(alloc, &first.kinds)?;
+        kinds.extend_from_slice(&second.kinds)?;
+        Ok(Steps { kinds })
+    }
+
+    /// The least marked node to which a step leads from a node. O(the node's steps), without memory.
+    pub fn least_marked(&self, node: usize, marks: &[bool]) -> Option<usize>
+        requires steps { AreStepsOf (length marks.now) self.now }
+        requires node { node < length marks.now }
+        ensures least { MatchOption result ((v : ℕ) → IsAmong v (steps_from self.now node) → ¬ Marked marks.now v)
+            (IsLeast nat_cmp (λ v. IsAmong v (steps_from self.now node) × Marked marks.now v)) }
+    {
+        let mut least = None;
+        'kinds: for rows in &self.kinds {
+            least = lesser(least, least_marked(row(rows, node), marks));
+        }
+        least
+    }
+
+    // Marks the marked ones of the nodes to which steps lead from a node, and notes those that weren't seen.
+    pub(crate) fn spread(
+        &self,
+        seen: &mut Vec<bool>,
+        noted: &mut Vec<usize>,
+        inside: &[bool],
+        node: usize,
+    ) -> Result<(), AllocError>
+        requires steps { AreStepsOf (length seen.old.items) self.now }
+        requires inside { length inside.now ≡ length seen.old.items }
+        requires node { node < length seen.old.items }
+        ensures spread { OnOk result (IsSpread seen.old.items seen.new.items noted.old.items noted.new.items
+            (steps_inside inside.now self.now node)) }
+    {
+        'kinds: for rows in &self.kinds {
+            spread_inside(seen, noted, inside, row(rows, node))?;
+        }
+        Ok(())
+    }
+}
+
+// The lesser of two numbers, of which each may be missing.
+fn lesser(first: Option<usize>, second: Option<usize>) -> Option<usize>
+    ensures { result ≡ lesser_of first second }
+{
+    match (first, second) {
+        (Some(one), Some(other)) => Some(one.min(other)),
+        (one, None) => one,
+        (None, other) => other,
+    }
+}
+
+// Marks the marked ones of the nodes as seen, and notes those that weren't.
+fn spread_inside(
+    seen: &mut Vec<bool>,
+    noted: &mut Vec<usize>,
+    inside: &[bool],
+    nodes: &[usize],
+) -> Result<(), AllocError>
+    requires nodes { All (λ v. v < length seen.old.items) nodes.now }
+    requires inside { length inside.now ≡ length seen.old.items }
+    ensures { OnOk result (IsSpread seen.old.items seen.new.items noted.old.items noted.new.items
+        (filter (is_marked inside.now) nodes.now)) }
+{
+    'nodes: for node in nodes {
+        if inside[*node] {
+            mark(seen, noted, *node)?;
+        }
+    }
+    Ok(())
+}
+
+// Marks a node, and notes it where it wasn't marked.
+fn mark(seen: &mut Vec<bool>, noted: &mut Vec<usize>, node: usize) -> Result<(), AllocError>
+    requires { node < length seen.old.items }
+    ensures { OnOk result (IsSpread seen.old.items seen.new.items noted.old.items noted.new.items (node ∷ [])) }
+{
+    if !seen[node] {
+        seen[node] = true;
+        noted.push(node)?;
+    }
+    Ok(())
+}

@@ -1,0 +1,88 @@
+//! The nodes that a round names and that aren't its own.
+ghost use Rattle.std.specs.Prelude.{◌↔◌, ◌++◌, All, IfOk, OnOk, IsTrue};
+ghost use Rattle.std.specs.List.{flat_map};
+ghost use Rattle.std.specs.List.Sorted.{IsStrictlySortedBy};
+ghost use Rattle.std.specs.Map.{keys_of};
+ghost use Rattle.list_laws.specs.Members.{IsAmong};
+ghost use Rattle.name_closure.specs.Loading.{AreLoaded, AreOthers, IsRound};
+
+use crate::loads::{Loads, Round, load_each};
+use join_law::Key;
+use std::alloc::{AllocError, Global};
+
+/// What a round loads, by one thread: each of its nodes with what is loaded for it, and the other nodes that are named
+/// there, each once, in order. `AllocError` for want of memory. Besides the loads a search for each node that is named, and
+/// O(m log m) for m of them that aren't the round's own.
+pub(crate) fn load_round<K: Key, L: Loads<K>>(
+    alloc: Global,
+    loader: &L,
+    fresh: Vec<K>,
+) -> Result<Round<K, L::Loaded>, AllocError>
+    requires nodes { All (L.is_node loader.now) fresh.items }
+    ensures round { IfOk result (λ round. IsRound (L.is_node loader.now) (L.is_loaded loader.now) (L.named loader.now)
+        fresh.items round.pairs.items round.names.items) }
+{
+    let pairs = load_each(alloc, loader, fresh)?;
+    let names = names_of(alloc, loader, &pairs, &pairs)?;
+    Ok(Round { pairs, names })
+}
+
+/// The nodes that are named in a part of what a round loaded and aren't the round's own, each once, in order; where its
+/// nodes don't rise, some of its own too. `AllocError` for want of memory. A search for each node that is named, and
+/// O(m log m) for m that are given.
+pub fn names_of<K: Key, L: Loads<K>>(
+    alloc: Global,
+    loader: &L,
+    pairs: &[(K, L::Loaded)],
+    part: &[(K, L::Loaded)],
+) -> Result<Vec<K>, AllocError>
+    requires nodes { All (L.is_node loader.now) (keys_of part.now) }
+    requires loaded { AreLoaded (L.is_loaded loader.now) part.now }
+    ensures others { IfOk result (λ names. AreOthers (keys_of pairs.now)
+        (flat_map (λ pair. L.named loader.now pair.1) part.now) names.items) }
+    ensures nodes { IfOk result (λ names. All (L.is_node loader.now) names.items) }
+{
+    let mut names = Vec::new(alloc);
+    for (_, one) in part {
+        let more = loader.names(alloc, one)?;
+        add_others(pairs, &mut names, more)?;
+    }
+    Ok(each_once(names))
+}
+
+// Adds those of the nodes that aren't the round's own.
+fn add_others<K: Key, U>(
+    pairs: &[(K, U)],
+    names: &mut Vec<K>,
+    more: Vec<K>,
+) -> Result<(), AllocError>
+    ensures added { OnOk result (AreOthers (keys_of pairs.now) (names.old.items ++ more.items) names.new.items) }
+{
+    for node in more {
+        if !is_own(pairs, &node) {
+            names.push(node)?;
+        }
+    }
+    Ok(())
+}
+
+// Whether a node is seen to be one of the round's own: always where these rise. O(log n).
+fn is_own<K: Key, U>(pairs: &[(K, U)], node: &K) -> bool
+    ensures own { IsTrue result → IsAmong node.now (keys_of pairs.now) }
+{
+    match pairs.binary_search_by(|pair| pair.0.cmp(node)) {
+        Ok(at) => pairs[at].0 == *node,
+        Err(_) => false,
+    }
+}
+
+// The nodes, each once, in order. In place, without memory; O(m log m) for m nodes.
+pub fn each_once<K: Key>(nodes: Vec<K>) -> Vec<K>
+    ensures rising { IsStrictlySortedBy K.cmp result.items }
+    ensures members { (n : K) → IsAmong n result.items ↔ IsAmong n nodes.items }
+{
+    let mut once = nodes;
+    once.sort_unstable();
+    once.dedup();
+    once
+}

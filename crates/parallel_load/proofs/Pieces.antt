@@ -1,0 +1,26 @@
+-- What is made of each element of pieces, put together.
+use Rattle.std.specs.Prelude.{◌≡◌, ◌<◌, ℕ, suc, List, [], ◌∷◌, ◌++◌, length, map, Result, Ok, IfOk}
+use Rattle.std.specs.List.{flat_map}
+use Rattle.std.specs.Global.{Vec}
+use Rattle.std.proofs.Common.{arith, ap, refl, sym, ◌∙◌, get_or}
+use Rattle.std.proofs.lemmas.List.{map-append, length-map}
+use Rattle.worker_rounds.specs.Joined.{IsJoined}
+
+module _ {X Y P E : Type 0} (f : X → Y) (nodes_of : P → List X) where
+  maps_are : (pieces : List P) (lists : List (Vec Y)) → length lists ≡ length pieces
+      → ((i : ℕ) (piece : P) (part : Result (Vec Y) E) → i < length pieces → IfOk (get_or (map Ok lists) i part) (λ v. v.items ≡ map f (nodes_of (get_or pieces i piece))))
+      → flat_map (λ v. v.items) lists ≡ map f (flat_map nodes_of pieces)
+  maps_are [] [] e each = refl
+  maps_are [] (v ∷ vs) e each = absurd (omega arith)
+  maps_are (p ∷ ps) [] e each = absurd (omega arith)
+  maps_are (p ∷ ps) (v ∷ vs) e each =
+      ap (λ xs. xs ++ flat_map (λ (w : Vec Y). w.items) vs) (each 0 p (Ok v) (omega arith))
+      ∙ ap (λ ys. map f (nodes_of p) ++ ys) (maps_are ps vs (omega arith) (λ i piece part l. each (suc i) piece part (omega arith)))
+      ∙ sym (map-append f (nodes_of p) (flat_map nodes_of ps))
+
+  -- what is made of all pieces, put together, is what is made of all
+  pub joined_maps : (pieces : List P) (parts : List (Result (Vec Y) E)) (nodes : List X) (all : List Y) → flat_map nodes_of pieces ≡ nodes → length parts ≡ length pieces
+      → ((i : ℕ) (piece : P) (part : Result (Vec Y) E) → i < length pieces → IfOk (get_or parts i part) (λ v. v.items ≡ map f (nodes_of (get_or pieces i piece))))
+      → IsJoined parts all → all ≡ map f nodes
+  joined_maps pieces parts nodes all whole long each j =
+      j.whole ∙ maps_are pieces j.loads (sym (length-map j.loads Ok) ∙ ap length (sym j.each) ∙ long) (rw j.each at each) ∙ ap (map f) whole

@@ -1,0 +1,18 @@
+use Rattle.std.proofs.Common.{◌∙◌, List, IsTrue, ap, subst, sym}
+use Rattle.std.specs.FinMap.{is_sorted}
+use Rattle.std.specs.List.{filter_map}
+use Rattle.unit_name.specs.Names.{Name, name_cmp}
+use Rattle.parallel_load.specs.declared.loaded.NameLoad.{NameLoad}
+use Rattle.parallel_load.specs.Mains.{alias_pair}
+use Rattle.parallel_load.specs.UniverseLaws.{sorted_from}
+use Rattle.parallel_load.proofs.finishing.found_of.Goals as goal
+
+pub of-requires : goal.of-requires
+of-requires c = record {
+  sorted =
+      subst (λ (ps : List (Name × NameLoad)). IsTrue (is_sorted name_cmp ps)) (sym (c.as_slice.ensures.value ∙ c.in_ok-pairs.ensures.pairs))
+      (sorted_from c.args.found.entries c.requires.rising);
+}
+
+pub returns-clause-aliases : goal.returns-clause-aliases
+returns-clause-aliases c = c.in_ok-aliases.ensures.aliases ∙ ap (filter_map alias_pair) (c.as_slice.ensures.value ∙ c.in_ok-pairs.ensures.pairs)

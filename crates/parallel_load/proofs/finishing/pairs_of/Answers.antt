@@ -1,0 +1,12 @@
+use Rattle.std.proofs.Common.{◌≡◌, map, sym, ◌∙◌}
+use Rattle.std.proofs.lemmas.List.{map-id}
+use Rattle.std.proofs.lemmas.Map.Iter.{iter_end}
+use Rattle.unit_name.specs.Names.{Name}
+use Rattle.parallel_load.specs.declared.loaded.NameLoad.{NameLoad}
+use Rattle.parallel_load.proofs.finishing.pairs_of.Goals as goal
+
+pub returns : goal.returns
+returns c =
+    let all : map (λ (x : Name × NameLoad). x) c.loop-pair.yielded ≡ c.args.found.entries =
+    (iter_end (λ (x : Name × NameLoad). x) c.args.found.entries c.loop-pair.yielded c.into_iter-pair-iterator.result c.loop-pair.pair-iterator c.next.new.self c.next.result c.into_iter-pair-iterator.ensures.into_iter_gives.0 c.loop-pair.yielded_by c.in-None.is c.next.ensures.steps).0 in
+    record { pairs = c.loop-pair.invariant ∙ sym (map-id c.loop-pair.yielded) ∙ all }
