@@ -1,34 +1,44 @@
--- What is taken is put into a map where its file name isn't taken.
-use Rattle.std.proofs.Common.{◌≡◌, ℕ, Bool, true, false, cond, Option, Some, None, is_some, List, refl, ap, sym, ◌∙◌}
+-- What is found is put behind what was found, and of each file name the first is taken.
+use Rattle.std.proofs.Common.{◌≡◌, ℕ, Bool, true, false, cond, Option, Some, None, List, [], ◌∷◌, ◌++◌, reverse, refl, ap, sym, ◌∙◌}
 use Rattle.std.specs.Option.{option_or}
-use Rattle.std.specs.Ordering.{is_eq}
 use Rattle.std.specs.Str.{bytes_eq}
-use Rattle.std.specs.BTreeMap.{BTreeMap, get}
+use Rattle.std.specs.Ordering.{eq_by_cmp}
+use Rattle.std.specs.Map.{update_all}
+use Rattle.std.proofs.lemmas.List.{reverse-append}
+use Rattle.std.proofs.lemmas.Map.{update_all_push}
 use Rattle.std.proofs.lemmas.Map.Text.{is_eq-slice_cmp}
-use Rattle.std.proofs.lemmas.Slice.Eq.{bytes_eq-Decides}
 use Rattle.unit_name.specs.Names.{name_cmp}
 use Rattle.dropins.specs.declared.precedence.Take.{Take}
-use Rattle.list_laws.specs.FirstSaid.{or_none}
+use Rattle.dropins.specs.Walks.{first_for}
+use Rattle.list_laws.specs.FirstSaid.{or_assoc, or_none}
 
-none_is : (o : Option Take) → is_some o ≡ false → o ≡ None
-none_is None h = refl
-none_is (Some x) h = cc (h)
+-- what a candidate gives for a file name
+abbrev gives : List ℕ → List ℕ × Take → Option Take
+gives f c = cond (bytes_eq c.0 f) (Some c.1) None
 
-pub placed : (m : BTreeMap (List ℕ) Take) (k f : List ℕ) (new : Option Take) (v : Take) (w : Option Take) → new ≡ cond (is_eq (name_cmp k f)) (Some v) (get name_cmp m f) → is_some (get name_cmp m k) ≡ false → w ≡ Some v → new ≡ option_or (get name_cmp m f) (cond (bytes_eq k f) w None)
-placed m k f new v w n a e = n ∙ ap (λ b. cond b (Some v) (get name_cmp m f)) (is_eq-slice_cmp k f) ∙ step (bytes_eq k f) refl
-  where
-    step : (b : Bool) → bytes_eq k f ≡ b → cond b (Some v) (get name_cmp m f) ≡ option_or (get name_cmp m f) (cond b w None)
-    step true h = sym e ∙ sym (ap (λ o. option_or o w) (none_is (get name_cmp m f) (ap (λ x. is_some (get name_cmp m x)) (sym ((bytes_eq-Decides k f).0 h)) ∙ a)))
-    step false h = sym (or_none (get name_cmp m f))
+behind : (cs : List (List ℕ × Take)) (c : List ℕ × Take) (f : List ℕ) → first_for (cs ++ c ∷ []) f ≡ option_or (first_for cs f) (gives f c)
+behind [] c f = or_none (gives f c)
+behind (d ∷ ds) c f = ap (option_or (gives f d)) (behind ds c f) ∙ sym (or_assoc (gives f d) (first_for ds f) (gives f c))
 
-some_is : (o w : Option Take) → is_some o ≡ true → o ≡ option_or o w
-some_is None w h = cc (h)
-some_is (Some x) w h = refl
+-- one more candidate is behind those before it
+pub placed : (cs : List (List ℕ × Take)) (k f : List ℕ) (v : Take) (w : Option Take) → w ≡ Some v
+    → first_for (cs ++ (k, v) ∷ []) f ≡ option_or (first_for cs f) (cond (bytes_eq k f) w None)
+placed cs k f v w e = behind cs (k, v) f ∙ ap (λ o. option_or (first_for cs f) (cond (bytes_eq k f) o None)) (sym e)
 
--- what is taken stays
-pub stays : (m : BTreeMap (List ℕ) Take) (k f : List ℕ) (w : Option Take) → is_some (get name_cmp m k) ≡ true → get name_cmp m f ≡ option_or (get name_cmp m f) (cond (bytes_eq k f) w None)
-stays m k f w a = step (bytes_eq k f) refl
-  where
-    step : (b : Bool) → bytes_eq k f ≡ b → get name_cmp m f ≡ option_or (get name_cmp m f) (cond b w None)
-    step true h = some_is (get name_cmp m f) w (ap (λ x. is_some (get name_cmp m x)) (sym ((bytes_eq-Decides k f).0 h)) ∙ a)
-    step false h = sym (or_none (get name_cmp m f))
+-- what says nothing changes nothing
+pub nothing_said : (o : Option Take) (b : Bool) (w : Option Take) → w ≡ None → o ≡ option_or o (cond b w None)
+nothing_said o true w e = sym (or_none o) ∙ ap (option_or o) (sym e)
+nothing_said o false w e = sym (or_none o)
+
+same_or : (b : Bool) (v : Take) (rest : Option Take) → cond b (Some v) rest ≡ option_or (cond b (Some v) None) rest
+same_or true v rest = refl
+same_or false v rest = refl
+
+-- candidates put into a map from behind: of each file name the first stays
+pub firsts_stay : (cs : List (List ℕ × Take)) (f : List ℕ) → update_all (eq_by_cmp name_cmp) (λ _. None) (reverse cs) f ≡ first_for cs f
+firsts_stay [] f = refl
+firsts_stay (c ∷ cs) f =
+    ap (λ ps. update_all (eq_by_cmp name_cmp) (λ _. None) ps f) (reverse-append (c ∷ []) cs)
+    ∙ sym (update_all_push (eq_by_cmp name_cmp) (λ _. None) (first_for cs) (reverse cs) c f (sym (firsts_stay cs f)))
+    ∙ ap (λ b. cond b (Some c.1) (first_for cs f)) (is_eq-slice_cmp c.0 f)
+    ∙ same_or (bytes_eq c.0 f) c.1 (first_for cs f)

@@ -1,6 +1,6 @@
 -- What is taken for a file name, found by walking through levels and folders: words for private clauses.
 -- Source: this project's own.
-use Rattle.std.specs.Prelude.{ℕ, Option, None, if◌then◌else◌, List, [], ◌∷◌, ◌++◌}
+use Rattle.std.specs.Prelude.{ℕ, Option, Some, None, if◌then◌else◌, List, [], ◌∷◌, ◌++◌}
 use Rattle.std.specs.Option.{option_and_then, option_map}
 use Rattle.std.specs.FinMap as finmap
 use Rattle.std.specs.Str.{bytes_eq}
@@ -34,6 +34,10 @@ said_for x f p = if bytes_eq p.0.name f then take_of x p else None
 -- the same of the entry at a path
 abbrev pub take_at : EntryMap → Search → PathParts → Option Take
 take_at s x q = option_and_then (λ e. take_of x (q, e)) (finmap.get s q)
+
+-- what candidates give for a file name: the first that has it
+abbrev pub first_for : List (List ℕ × Take) → List ℕ → Option Take
+first_for cs f = first_said (λ c. if bytes_eq c.0 f then Some c.1 else None) cs
 
 -- what is taken for a file name in a directory's first folder that has something
 abbrev pub took_in : EntryMap → Search → List (List ℕ) → List ℕ → ℕ → Option Take

@@ -40,8 +40,8 @@ impl UnitFolders {
     /// link of the least rank counts, and there that of the first folder of the list; where it leads to
     /// `/dev/null`, or where the file name is no unit name, it gives nothing.
     ///
-    /// A search in the store for each folder in each rank, and one among what is taken for each path
-    /// that stands there. It fails for want of memory alone.
+    /// A search in the store for each folder in each rank, and one sort by file name of the paths that
+    /// stand there. It fails for want of memory alone.
     pub fn links(
         &self,
         alloc: Global,

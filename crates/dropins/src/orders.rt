@@ -21,8 +21,8 @@ impl UnitFolders {
     /// where it is empty, or is a link to `/dev/null`, there is none of this file name. Other links
     /// don't count.
     ///
-    /// A search in the store for each folder in each rank, and one among what is taken for each path
-    /// that stands there. It fails for want of memory alone, and copies no bytes of an entry.
+    /// A search in the store for each folder in each rank, and one sort by file name of the paths that
+    /// stand there. It fails for want of memory alone, and copies no bytes of an entry.
     pub fn drop_ins<'a>(
         &self,
         alloc: Global,

@@ -11,7 +11,7 @@ ghost use Rattle.unit_name.specs.Names.{name_cmp};
 ghost use Rattle.dropins.specs.Taken.{is_conf, is_null, dirs_with, IsTaken, entry_name, entry_path};
 ghost use Rattle.dropins.specs.Taken.Candidate.{At};
 ghost use Rattle.dropins.specs.declared.precedence.Search.TheVariants.{DropIns, Links};
-ghost use Rattle.dropins.specs.Walks.{path, said_for, take_at, take_of, took, took_in, unmasked};
+ghost use Rattle.dropins.specs.Walks.{first_for, path, said_for, take_at, take_of, took, took_in, unmasked};
 
 use byte_strings::Bytes;
 use load_levels::LEVELS;
@@ -37,6 +37,9 @@ pub enum Take<'a> {
     /// This entry.
     Placed(Placed<'a>),
 }
+
+// What may be taken, by file name, in the order in which it is looked for: of one name the first is taken.
+type Candidates<'a> = Vec<(Bytes, Take<'a>)>;
 
 // What is taken, by file name.
 type Takes<'a> = BTreeMap<Bytes, Take<'a>>;
@@ -72,8 +75,8 @@ pub fn paths_of(alloc: Global, entries: &[Placed]) -> Result<Vec<Path>, AllocErr
 
 // For each file name what is taken at the least level, and there in the first of the folders.
 //
-// A search in the store for each folder in each rank, then for each path that stands there one in
-// what is taken: O((r + p) log n) with p paths in r such folders.
+// A search in the store for each folder in each rank, and then one sort of all that stands there, which comes in runs:
+// O(r log n + p log p) with p paths in r such folders.
 fn taken<'a>(
     alloc: Global,
     store: &'a Store,
@@ -83,63 +86,69 @@ fn taken<'a>(
     ensures taken { IfOk result (λ takes. (f : List ℕ) → get name_cmp takes f ≡ took store.now search
         dirs.now f) }
 {
-    let mut takes = BTreeMap::new(alloc);
+    let mut found = Vec::new(alloc);
     for level in 0..LEVELS {
-        take_rank(store, &mut takes, search, level, dirs)?;
+        add_rank(store, &mut found, search, level, dirs)?;
     }
-    Ok(takes)
+    firsts(alloc, found)
 }
 
-// Takes what stands at one rank.
-fn take_rank<'a>(
+// Of each file name the first candidate. The last of several stays in a map, so they are given from behind.
+fn firsts<'a>(alloc: Global, found: Candidates<'a>) -> Result<Takes<'a>, AllocError>
+    ensures firsts { IfOk result (λ takes. (f : List ℕ) → get name_cmp takes f ≡ first_for found.entry.items f) }
+{
+    let mut found = found;
+    found.reverse();
+    found.into_iter().collect(alloc)
+}
+
+// Adds what stands at one rank.
+fn add_rank<'a>(
     store: &'a Store,
-    takes: &mut Takes<'a>,
+    found: &mut Candidates<'a>,
     search: Search,
     rank: u8,
     dirs: &[Bytes],
 ) -> Result<(), AllocError>
-    ensures taken { OnOk result ((f : List ℕ) → get name_cmp takes.new f ≡ option_or
-        (get name_cmp takes.old f) (took_in store.now search dirs.now f rank)) }
+    ensures added { OnOk result ((f : List ℕ) → first_for found.new.items f ≡ option_or
+        (first_for found.old.items f) (took_in store.now search dirs.now f rank)) }
 {
     for dir in dirs {
-        take_folder(store, takes, search, rank, dir.as_slice())?;
+        add_folder(store, found, search, rank, dir.as_slice())?;
     }
     Ok(())
 }
 
-// Takes what stands in one folder.
-fn take_folder<'a>(
+// Adds what stands in one folder.
+fn add_folder<'a>(
     store: &'a Store,
-    takes: &mut Takes<'a>,
+    found: &mut Candidates<'a>,
     search: Search,
     rank: u8,
     dir: &[u8],
 ) -> Result<(), AllocError>
-    ensures taken { OnOk result ((f : List ℕ) → get name_cmp takes.new f ≡ option_or
-        (get name_cmp takes.old f) (take_at store.now search (path rank dir.now f))) }
+    ensures added { OnOk result ((f : List ℕ) → first_for found.new.items f ≡ option_or
+        (first_for found.old.items f) (take_at store.now search (path rank dir.now f))) }
 {
     let mut entries = store.entries_in(rank, dir);
     while let Some(placed) = entries.next_entry() {
-        take_entry(takes, search, placed)?;
+        add_entry(found, search, placed)?;
     }
     Ok(())
 }
 
-// Takes an entry, unless its file name is taken.
-fn take_entry<'a>(
-    takes: &mut Takes<'a>,
+// Adds an entry, unless it says nothing.
+fn add_entry<'a>(
+    found: &mut Candidates<'a>,
     search: Search,
     placed: Placed<'a>,
 ) -> Result<(), AllocError>
-    ensures taken { OnOk result ((f : List ℕ) → get name_cmp takes.new f ≡ option_or
-        (get name_cmp takes.old f) (said_for search f placed.entry)) }
+    ensures added { OnOk result ((f : List ℕ) → first_for found.new.items f ≡ option_or
+        (first_for found.old.items f) (said_for search f placed.entry)) }
 {
     let name = placed.name();
-    if takes.contains_key(name) {
-        return Ok(());
-    }
     if let Some(take) = take_of(search, placed) {
-        takes.insert(name.try_clone()?, take)?;
+        found.push((name.try_clone()?, take))?;
     }
     Ok(())
 }

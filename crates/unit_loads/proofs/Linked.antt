@@ -1,5 +1,5 @@
 -- Links added to the lists of words.
-use Rattle.std.proofs.Common.{◌≡◌, refl, ap, sym, ◌∙◌, List, [], ◌∷◌, ◌++◌, map, inl, inr}
+use Rattle.std.proofs.Common.{◌≡◌, refl, ap, sym, ◌∙◌, List, [], ◌∷◌, ◌++◌, get_or, length, map, set, inl, inr}
 use Rattle.std.specs.Prelude.{◌⊎◌}
 use Rattle.std.specs.Cmp.Lexicographic.{nat_list_cmp_total}
 use Rattle.std.proofs.lemmas.List.{append-nil}
@@ -38,56 +38,50 @@ ordered_again xs ys = one_rising_list name_cmp nat_list_cmp_total (in_byte_order
     back n (inl a) = IsAmong-append_left n (in_byte_order xs) ys (ordered_among n xs a)
     back n (inr b) = IsAmong-append_right n (in_byte_order xs) ys b
 
--- the units that a unit means by link names
-meant : Name → LinkNames → LinkNames
-meant unit links = record { wanted = linked_by unit links.wanted; required = linked_by unit links.required }
-
-meant_for : (unit : Name) (links : LinkNames) (dep : DepKind) → links_for (meant unit links) dep ≡ linked_by unit (links_for links dep)
-unfolding meant
-meant_for unit links Wants = refl
-meant_for unit links Requires = refl
-meant_for unit links other = refl
+-- names that were in order before links added others are in order with them
+all_ordered : (xs ys : List Name) → with_linked (in_byte_order xs) ys ≡ in_byte_order (xs ++ ys)
+all_ordered xs [] = ap in_byte_order (sym (append-nil xs))
+all_ordered xs (y ∷ ys) = ordered_again xs (y ∷ ys)
 
 module _ (entries : SettingMap) (unit : Name) (links : LinkNames) where
-  one_list : (dep : DepKind) → with_linked (meant unit links) (list_for entries unit dep) ≡ list_with entries unit links dep
-  one_list dep = ap (λ (ns : List Name). let r : DependencyList = record { kind = dep; names = ns } in r)
-      (ap (λ ns. in_byte_order (in_byte_order (names_by unit (words_for entries dep)) ++ ns)) (meant_for unit links dep)
-      ∙ ordered_again (names_by unit (words_for entries dep)) (linked_by unit (links_for links dep)))
+  -- the list of words for a kind, with the units that links add
+  added : DepKind → DependencyList
+  added dep = record { kind = dep; names = with_linked (in_byte_order (names_by unit (words_for entries dep))) (linked_by unit (links_for links dep)) }
 
-  each_list : (deps : List DepKind) → map (with_linked (meant unit links)) (map (list_for entries unit) deps) ≡ map (list_with entries unit links) deps
+  each_list : (deps : List DepKind) → map added deps ≡ map (list_with entries unit links) deps
+  unfolding added
   each_list [] = refl
   each_list (dep ∷ deps) =
-      ap (λ l. l ∷ map (with_linked (meant unit links)) (map (list_for entries unit) deps)) (one_list dep)
+      ap (λ (ns : List Name). let r : DependencyList = record { kind = dep; names = ns } in r ∷ map added deps)
+      (all_ordered (names_by unit (words_for entries dep)) (linked_by unit (links_for links dep)))
       ∙ ap (λ ls. list_with entries unit links dep ∷ ls) (each_list deps)
 
-  pub lists_linked : (linked : LinkNames) (lists : List DependencyList) → linked.wanted ≡ linked_by unit links.wanted → linked.required ≡ linked_by unit links.required → lists ≡ lists_of entries unit → map (with_linked linked) lists ≡ lists_with entries unit links
-  unfolding lists_of meant
-  lists_linked linked lists wanted required e =
-      ap (λ (l : List Name). map (with_linked (record { wanted = l; required = linked.required })) lists) wanted
-      ∙ ap (λ (l : List Name). map (with_linked (record { wanted = linked_by unit links.wanted; required = l })) lists) required
-      ∙ ap (map (with_linked (meant unit links))) e ∙ each_list settable
-
-  -- where nothing is linked the lists are those of words
-  none_for : (dep : DepKind) → links_for (record { wanted = []; required = [] }) dep ≡ []
-  none_for Wants = refl
-  none_for Requires = refl
-  none_for other = refl
-
-  one_unlinked : (dep : DepKind) → list_for entries unit dep ≡ with_linked (record { wanted = []; required = [] }) (list_for entries unit dep)
-  one_unlinked dep = ap (λ (ns : List Name). let r : DependencyList = record { kind = dep; names = ns } in r)
-      (sym (ap (λ ns. in_byte_order (in_byte_order (names_by unit (words_for entries dep)) ++ ns)) (none_for dep)
-      ∙ ordered_again (names_by unit (words_for entries dep)) []
-      ∙ ap in_byte_order (append-nil (names_by unit (words_for entries dep)))))
-
-  each_unlinked : (deps : List DepKind) → map (list_for entries unit) deps ≡ map (with_linked (record { wanted = []; required = [] })) (map (list_for entries unit) deps)
-  each_unlinked [] = refl
-  each_unlinked (dep ∷ deps) =
-      ap (λ l. l ∷ map (list_for entries unit) deps) (one_unlinked dep)
-      ∙ ap (λ ls. with_linked (record { wanted = []; required = [] }) (list_for entries unit dep) ∷ ls) (each_unlinked deps)
-
-  pub lists_unlinked : (linked : LinkNames) (lists : List DependencyList) → linked.wanted ≡ [] → linked.required ≡ [] → lists ≡ lists_of entries unit → lists ≡ map (with_linked linked) lists
+  -- how many lists of words there are
+  pub list_count : (lists : List DependencyList) → lists ≡ lists_of entries unit → length lists ≡ 11
   unfolding lists_of
-  lists_unlinked linked lists wanted required e =
-      e ∙ each_unlinked settable ∙ ap (map (with_linked (record { wanted = []; required = [] }))) (sym e)
-      ∙ ap (λ (l : List Name). map (with_linked (record { wanted = l; required = [] })) lists) (sym wanted)
-      ∙ ap (λ (l : List Name). map (with_linked (record { wanted = linked.wanted; required = l })) lists) (sym required)
+  list_count lists is = ap length is
+
+  -- a list of words, once it has the names that links add
+  one_list : (dep : DepKind) (list : DependencyList) (names linked : List Name) → list ≡ list_for entries unit dep → names ≡ with_linked list.names linked → linked ≡ linked_by unit (links_for links dep) → (record list { names = names }) ≡ added dep
+  unfolding added
+  one_list dep list names linked is all from =
+      ap (λ (l : DependencyList). let r : DependencyList = record l { names = names } in r) is
+      ∙ ap (λ (ns : List Name). let r : DependencyList = record { kind = dep; names = ns } in r)
+      (all ∙ ap (λ (l : DependencyList). with_linked l.names linked) is ∙ ap (with_linked (in_byte_order (names_by unit (words_for entries dep)))) from)
+
+  -- the lists of words, once the two of `Wants` and `Requires` have the names that links add
+  module _ (lists : List DependencyList) (is : lists ≡ lists_of entries unit) (wants needs : DependencyList) (wanted required to_want to_need : List Name) where
+    pub lists_linked : wants ≡ get_or lists 2 wants → wanted ≡ with_linked wants.names to_want → to_want ≡ linked_by unit links.wanted → needs ≡ get_or (set lists 2 (record wants { names = wanted })) 3 needs → required ≡ with_linked needs.names to_need → to_need ≡ linked_by unit links.required → set (set lists 2 (record wants { names = wanted })) 3 (record needs { names = required }) ≡ lists_with entries unit links
+    unfolding lists_of added
+    lists_linked third wants_all wants_from fourth needs_all needs_from =
+        ap (λ (l : DependencyList). set (set lists 2 (record wants { names = wanted })) 3 l) needs_added
+        ∙ ap (λ (ls : List DependencyList). set ls 3 (added Requires)) wants_set ∙ each_list settable
+      where
+        wants_added : (record wants { names = wanted }) ≡ added Wants
+        wants_added = one_list Wants wants wanted to_want (third ∙ ap (λ ls. get_or ls 2 wants) is) wants_all wants_from
+
+        wants_set : set lists 2 (record wants { names = wanted }) ≡ set (lists_of entries unit) 2 (added Wants)
+        wants_set = ap (λ ls. set ls 2 (record wants { names = wanted })) is ∙ ap (λ (l : DependencyList). set (lists_of entries unit) 2 l) wants_added
+
+        needs_added : (record needs { names = required }) ≡ added Requires
+        needs_added = one_list Requires needs required to_need (fourth ∙ ap (λ ls. get_or ls 3 needs) wants_set) needs_all needs_from

@@ -1,6 +1,6 @@
 -- Lists that are made element by element.
-use Rattle.std.proofs.Common.{◌≡◌, ℕ, ◌+◌, ◌<◌, is_none, List, [], ◌∷◌, ◌++◌, map, filter, length, take, get_or, ap, sym, ◌∙◌, append_assoc}
-use Rattle.std.proofs.lemmas.List.{map-append, take_more}
+use Rattle.std.proofs.Common.{◌≡◌, is_none, List, [], ◌∷◌, ◌++◌, map, filter, ap, sym, ◌∙◌, append_assoc}
+use Rattle.std.proofs.lemmas.List.{map-append}
 use Rattle.std.proofs.lemmas.List.Elements.{filter-append, filter_map-append}
 use Rattle.unit_name.specs.Names.{Name}
 use Rattle.setting_rules.specs.declared.kinds.DepKind.{DepKind}
@@ -12,10 +12,10 @@ use Rattle.unit_loads.specs.Units.{linked_by, link_notes}
 
 -- one more element
 module _ {X B : Type 0} (made : List X → List B) (made-append : (xs ys : List X) → made (xs ++ ys) ≡ made xs ++ made ys) where
-  pub made_more : (l : List X) (i : ℕ) (d x : X) (was now new : List B) → i < length l → x ≡ get_or l i d → now ≡ was ++ made (take i l) → new ≡ now ++ made (x ∷ []) → new ≡ was ++ made (take (i + 1) l)
-  made_more l i d x was now new h is w n =
-      n ∙ ap (λ m. m ++ made (x ∷ [])) w ∙ append_assoc was (made (take i l)) (made (x ∷ []))
-      ∙ ap (λ m. was ++ m) (sym (made-append (take i l) (x ∷ [])) ∙ ap made (sym (take_more l i d h ∙ ap (λ y. take i l ++ y ∷ []) (sym is))))
+  pub made_more : (items : List X) (x : X) (was now new : List B) → now ≡ was ++ made items → new ≡ now ++ made (x ∷ []) → new ≡ was ++ made (items ++ x ∷ [])
+  made_more items x was now new w n =
+      n ∙ ap (λ m. m ++ made (x ∷ [])) w ∙ append_assoc was (made items) (made (x ∷ []))
+      ∙ ap (λ m. was ++ m) (sym (made-append items (x ∷ [])))
 
 pub linked_by-append : (unit : Name) (xs ys : List Name) → linked_by unit (xs ++ ys) ≡ linked_by unit xs ++ linked_by unit ys
 linked_by-append unit xs ys = filter_map-append (for_unit unit) xs ys

@@ -1,6 +1,6 @@
 -- How files and links are put together: words for private clauses.
 -- Source: this project's own.
-use Rattle.std.specs.Prelude.{◌↔◌, List, ◌++◌, map}
+use Rattle.std.specs.Prelude.{◌↔◌, List, [], ◌++◌, map}
 use Rattle.std.specs.List.{Contains, flat_map}
 use Rattle.std.specs.List.Sorted.{IsStrictlySortedBy}
 use Rattle.load_path.specs.Paths.{PathParts}
@@ -9,7 +9,6 @@ use Rattle.edit_sums.specs.Sums.{EntryMap, shown}
 use Rattle.unit_name.specs.Names.{Name, name_cmp}
 use Rattle.section_reader.specs.declared.assignments.Assignment.{Assignment}
 use Rattle.section_reader.specs.Sections.{assignments_of, notes_of}
-use Rattle.setting_rules.specs.declared.dependency_lists.DependencyList.{DependencyList}
 use Rattle.setting_rules.specs.Dependencies.{in_byte_order}
 use Rattle.dropins.specs.declared.link_names.Folder.{Folder}
 use Rattle.dropins.specs.declared.link_names.Folder.TheVariants.{Wants, Requires}
@@ -17,7 +16,7 @@ use Rattle.dropins.specs.Taken.{IsLinkedOf}
 use Rattle.unit_loads.specs.declared.links.LinkNames.{LinkNames}
 use Rattle.unit_loads.specs.declared.units.UnitNote.{UnitNote}
 use Rattle.unit_loads.specs.declared.units.UnitNote.TheVariants as note
-use Rattle.unit_loads.specs.Units.{file_bytes, links_for}
+use Rattle.unit_loads.specs.Units.{file_bytes}
 
 -- the assignments of files that are lent, one file behind another
 abbrev pub lent_items : List (PathParts × Entry) → List Assignment
@@ -37,6 +36,7 @@ pub record AreLinkNamesFrom (s : EntryMap) (folders : List Name) (links : LinkNa
   pub wanted_are : AreLinksFrom s folders Wants links.wanted
   pub required_are : AreLinksFrom s folders Requires links.required
 
--- a list of dependencies with the names that links add to its kind
-abbrev pub with_linked : LinkNames → DependencyList → DependencyList
-with_linked linked list = record { kind = list.kind; names = in_byte_order (list.names ++ links_for linked list.kind) }
+-- names with those that links add, all in byte order; as they are where links add none
+abbrev pub with_linked : List Name → List Name → List Name
+with_linked names [] = names
+with_linked names linked = in_byte_order (names ++ linked)

@@ -1,5 +1,5 @@
 //! The units that a unit names, by words and by links.
-ghost use Rattle.std.specs.Prelude.{◌≡◌, ◌++◌, ◌∷◌, [], IfOk, OnOk, map};
+ghost use Rattle.std.specs.Prelude.{◌≡◌, ◌++◌, ◌∷◌, [], IfOk, OnOk};
 ghost use Rattle.setting_rules.specs.Dependencies.{key_for};
 ghost use Rattle.setting_rules.specs.Settings.{note_on};
 ghost use Rattle.unit_loads.specs.Steps.{with_linked};
@@ -10,40 +10,45 @@ use crate::links::LinkNames;
 use byte_strings::Bytes;
 use section_reader::Items;
 use setting_rules::{
-    DepKind, Dependencies, DependencyList, SettingNote, SettingNoteKind, Settings, dependencies,
-    for_unit, in_byte_order,
+    DepKind, Dependencies, SettingNote, SettingNoteKind, Settings, dependencies, for_unit,
+    in_byte_order,
 };
 use std::alloc::{AllocError, Global};
+use std::mem;
 use unit_name::UnitName;
 
+// The place of `Wants` among the kinds that a unit file may set: with another `named_units` isn't proved.
+const WANTS: usize = 2;
+
+// The place of `Requires` among them.
+const REQUIRES: usize = 3;
+
 /// The units that a unit names by the words of its settings and by its links, and notes on words and then on links, those
-/// in `.wants` first. It fails for want of memory alone.
+/// in `.wants` first. It fails for want of memory alone, and copies no link's name.
 pub(crate) fn named_units(
     alloc: Global,
     settings: &Settings,
     unit: &UnitName,
-    links: &LinkNames,
+    links: LinkNames,
 ) -> Result<Dependencies, AllocError>
-    ensures lists { IfOk result (λ all. all.lists ≡ lists_with settings.now.map unit.now links.now) }
-    ensures notes { IfOk result (λ all. all.notes ≡ dependency_notes settings.now.map unit.now links.now) }
+    ensures lists { IfOk result (λ all. all.lists ≡ lists_with settings.now.map unit.now links) }
+    ensures notes { IfOk result (λ all. all.notes ≡ dependency_notes settings.now.map unit.now links) }
 {
     let Dependencies { lists, mut notes } = dependencies(alloc, settings, unit)?;
+    let LinkNames { wanted, required } = links;
     let mut wants = LinkedUnits::new(alloc);
-    wants.add_all(alloc, unit, DepKind::Wants, links.wanted.as_slice())?;
+    wants.add_all(alloc, unit, DepKind::Wants, wanted)?;
     let mut needs = LinkedUnits::new(alloc);
-    needs.add_all(alloc, unit, DepKind::Requires, links.required.as_slice())?;
+    needs.add_all(alloc, unit, DepKind::Requires, required)?;
     notes.append(wants.notes)?;
     notes.append(needs.notes)?;
-    let linked = LinkNames {
-        wanted: wants.names,
-        required: needs.names,
-    };
-    let lists = if linked.is_empty() {
-        lists
-    } else {
-        with_links(alloc, lists, &linked)?
-    };
-    Ok(Dependencies { lists, notes })
+    let mut lists = lists.into_vec();
+    add_names(alloc, &mut lists[WANTS].names, wants.names)?;
+    add_names(alloc, &mut lists[REQUIRES].names, needs.names)?;
+    Ok(Dependencies {
+        lists: Items::from_vec(lists),
+        notes,
+    })
 }
 
 // The units that a unit means by the names of links, and notes on those by which it means none.
@@ -70,12 +75,12 @@ impl LinkedUnits {
         alloc: Global,
         unit: &UnitName,
         dep: DepKind,
-        links: &[UnitName],
+        links: Items<UnitName>,
     ) -> Result<(), AllocError>
-        ensures names { OnOk result (self.new.names ≡ self.old.names ++ linked_by unit.now links.now) }
-        ensures notes { OnOk result (self.new.notes ≡ self.old.notes ++ link_notes unit.now dep links.now) }
+        ensures names { OnOk result (self.new.names ≡ self.old.names ++ linked_by unit.now links) }
+        ensures notes { OnOk result (self.new.notes ≡ self.old.notes ++ link_notes unit.now dep links) }
     {
-        for link in links {
+        for link in links.into_vec() {
             self.add(alloc, unit, dep, link)?;
         }
         Ok(())
@@ -87,12 +92,12 @@ impl LinkedUnits {
         alloc: Global,
         unit: &UnitName,
         dep: DepKind,
-        link: &UnitName,
+        link: UnitName,
     ) -> Result<(), AllocError>
-        ensures names { OnOk result (self.new.names ≡ self.old.names ++ linked_by unit.now (link.now ∷ [])) }
-        ensures notes { OnOk result (self.new.notes ≡ self.old.notes ++ link_notes unit.now dep (link.now ∷ [])) }
+        ensures names { OnOk result (self.new.names ≡ self.old.names ++ linked_by unit.now (link ∷ [])) }
+        ensures notes { OnOk result (self.new.notes ≡ self.old.notes ++ link_notes unit.now dep (link ∷ [])) }
     {
-        match for_unit(unit, link.try_clone()?)? {
+        match for_unit(unit, link)? {
             Some(name) => self.names.push(name),
             None => self.notes.push(bad_link(alloc, dep)?),
         }
@@ -110,40 +115,19 @@ fn bad_link(alloc: Global, dep: DepKind) -> Result<SettingNote, AllocError>
     })
 }
 
-// Lists of dependencies with the units that links add.
-fn with_links(
+// Puts names that links give among those of a list, all in byte order. It does nothing where there are none.
+fn add_names(
     alloc: Global,
-    lists: Items<DependencyList>,
-    linked: &LinkNames,
-) -> Result<Items<DependencyList>, AllocError>
-    ensures lists { IfOk result (λ all. all ≡ map (with_linked linked.now) lists) }
+    names: &mut Items<UnitName>,
+    linked: Items<UnitName>,
+) -> Result<(), AllocError>
+    ensures added { OnOk result (names.new ≡ with_linked names.old linked) }
 {
-    let mut all = Items::new(alloc);
-    for list in lists.into_vec() {
-        all.push(with_linked(list, linked)?)?;
+    if linked.as_slice().is_empty() {
+        return Ok(());
     }
-    Ok(all)
-}
-
-// A list of dependencies with the units that links add.
-fn with_linked(list: DependencyList, linked: &LinkNames) -> Result<DependencyList, AllocError>
-    ensures list { IfOk result (λ it. it ≡ with_linked linked.now list) }
-{
-    let DependencyList { kind, names } = list;
-    let mut names = names.into_vec();
-    add_names(&mut names, linked.of_kind(kind))?;
-    Ok(DependencyList {
-        kind,
-        names: in_byte_order(names),
-    })
-}
-
-// Adds names to names.
-fn add_names(names: &mut Vec<UnitName>, more: &[UnitName]) -> Result<(), AllocError>
-    ensures added { OnOk result (names.new.items ≡ names.old.items ++ more.now) }
-{
-    for name in more {
-        names.push(name.try_clone()?)?;
-    }
+    let mut all = mem::replace(names, Items::new(alloc));
+    all.append(linked)?;
+    *names = in_byte_order(all.into_vec());
     Ok(())
 }

@@ -1,12 +1,10 @@
 //! The names that a unit's link folders give.
-ghost use Rattle.std.specs.Prelude.{◌≡◌, ◌↔◌, [], IfOk, IsTrue};
+ghost use Rattle.std.specs.Prelude.{IfOk};
 ghost use Rattle.unit_loads.specs.Steps.{AreLinkNamesFrom};
-ghost use Rattle.unit_loads.specs.Units.{links_for};
 
 use dropins::{Folder, UnitFolders};
 use replica_store::Store;
 use section_reader::Items;
-use setting_rules::DepKind;
 use std::alloc::{AllocError, Global};
 use unit_name::UnitName;
 
@@ -30,23 +28,5 @@ impl LinkNames {
             wanted: Items::from_vec(wanted),
             required: Items::from_vec(required),
         })
-    }
-
-    /// Whether there are none. It takes no memory.
-    pub fn is_empty(&self) -> bool
-        ensures test { IsTrue result ↔ ((self.now.wanted ≡ []) × (self.now.required ≡ [])) }
-    {
-        self.wanted.as_slice().is_empty() && self.required.as_slice().is_empty()
-    }
-
-    /// Those that add to the dependencies of a kind. It takes no memory.
-    pub fn of_kind(&self, dep: DepKind) -> &[UnitName]
-        ensures names { result.now ≡ links_for self.now dep }
-    {
-        match dep {
-            DepKind::Wants => self.wanted.as_slice(),
-            DepKind::Requires => self.required.as_slice(),
-            _ => &[],
-        }
     }
 }

@@ -78,7 +78,7 @@ fn loaded(
     let dropins = folders.drop_ins(alloc, store)?;
     let links = LinkNames::of(alloc, store, &folders)?;
     let text = UnitText::of(alloc, store, &fragment, &dropins)?;
-    let settled = Settled::of(alloc, &name, text, &links)?;
+    let settled = Settled::of(alloc, &name, text, links)?;
     let dropins = paths_of(alloc, &dropins)?;
     Ok(Unit {
         name,

@@ -35,12 +35,12 @@ impl Settled {
         alloc: Global,
         unit: &UnitName,
         text: UnitText,
-        links: &LinkNames,
+        links: LinkNames,
     ) -> Result<Settled, AllocError>
         ensures values { IfOk result (λ it. it.values ≡ rows_of (settings_of text.items) unit.now) }
-        ensures deps { IfOk result (λ it. it.deps ≡ lists_with (settings_of text.items) unit.now links.now) }
+        ensures deps { IfOk result (λ it. it.deps ≡ lists_with (settings_of text.items) unit.now links) }
         ensures notes { IfOk result (λ it. it.notes
-            ≡ text.notes ++ map UnitNote.Setting (setting_notes text.items unit.now links.now)) }
+            ≡ text.notes ++ map UnitNote.Setting (setting_notes text.items unit.now links)) }
         ensures manual { IfOk result (λ it. it.manual ≡ refuses (settings_of text.items)) }
     {
         let UnitText { items, mut notes } = text;

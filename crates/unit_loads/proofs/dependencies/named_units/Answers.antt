@@ -1,21 +1,24 @@
-use Rattle.std.proofs.Common.{◌≡◌, ◌++◌, ◌∙◌, ap, map}
-use Rattle.unit_loads.specs.declared.links.LinkNames.{LinkNames}
-use Rattle.unit_loads.specs.Steps.{with_linked}
+use Rattle.std.proofs.Common.{◌++◌, ◌∙◌, ap, arith}
 use Rattle.unit_loads.specs.Units.{linked_by}
-use Rattle.unit_loads.proofs.Linked.{lists_linked, lists_unlinked}
+use Rattle.unit_loads.proofs.Linked.{list_count, lists_linked}
 use Rattle.unit_loads.proofs.dependencies.named_units.Goals as goal
-use Rattle.unit_loads.proofs.dependencies.named_units.Goals.{then-is_empty, else-is_empty+in_ok-lists-2}
+
+pub index_mut-requires : goal.index_mut-requires
+index_mut-requires c =
+    let count = list_count c.args.settings.now.map c.args.unit.now c.args.links _ (c.into_vec-lists.ensures.elements ∙ c.in_ok-lists.ensures.lists) in
+    omega arith
+
+pub index_mut-requires-2 : goal.index_mut-requires-2
+index_mut-requires-2 c =
+    let count = list_count c.args.settings.now.map c.args.unit.now c.args.links _ (c.into_vec-lists.ensures.elements ∙ c.in_ok-lists.ensures.lists) in
+    omega arith
 
 pub returns-clause-lists : goal.returns-clause-lists
 returns-clause-lists c =
     let entries = c.args.settings.now.map in
     let unit = c.args.unit.now in
-    let linked : LinkNames = record { wanted = c.add_all.new.self.names; required = c.add_all-2.new.self.names } in
-    let lists = c.in_ok-lists.field-0.lists in
-    let wanted = c.in_ok-add_all.ensures.names ∙ ap (λ ns. ns ++ linked_by unit c.as_slice.result.now) c.new-wants.ensures.names ∙ ap (linked_by unit) c.as_slice.ensures.elements in
-    let required = c.in_ok-add_all-2.ensures.names ∙ ap (λ ns. ns ++ linked_by unit c.as_slice-2.result.now) c.new-needs.ensures.names ∙ ap (linked_by unit) c.as_slice-2.ensures.elements in
-    let added : c.if-is_empty.lists ≡ map (with_linked linked) lists = elim c.if-is_empty.branch [
-      | then-is_empty w ↦ (let none = c.is_empty.ensures.test.0 w.if-is_empty.true in w.lists-is ∙ lists_unlinked entries unit c.args.links.now linked lists none.0 none.1 c.in_ok-lists.ensures.lists)
-      | else-is_empty+in_ok-lists-2 w ↦ (w.lists-is ∙ w.in_ok-lists-2.ensures.lists)
-    ] in
-    added ∙ lists_linked entries unit c.args.links.now linked lists wanted required c.in_ok-lists.ensures.lists
+    let wanted = c.in_ok-add_all.ensures.names ∙ ap (λ ns. ns ++ linked_by unit c.args.links.wanted) c.new-wants.ensures.names in
+    let required = c.in_ok-add_all-2.ensures.names ∙ ap (λ ns. ns ++ linked_by unit c.args.links.required) c.new-needs.ensures.names in
+    c.from_vec.ensures.elements
+    ∙ lists_linked entries unit c.args.links _ (c.into_vec-lists.ensures.elements ∙ c.in_ok-lists.ensures.lists) _ _ _ _ _ _
+    c.index_mut.ensures.value c.in_ok-add_names.ensures.added wanted c.index_mut-2.ensures.value c.in_ok-add_names-2.ensures.added required

@@ -6,6 +6,6 @@ pub loop-link-preserved : goal.loop-link-preserved
 loop-link-preserved c =
     let unit = c.args.unit.now in
     let dep = c.args.dep in (
-      made_more (linked_by unit) (linked_by-append unit) c.args.links.now c.loop-link.link-index _ _ c.args.self.now.names c.loop-link.self.names c.add.new.self.names c.loop-link-test.true c.link-item.is c.loop-link.invariant.0 c.in_ok-add.ensures.names,
-      made_more (link_notes unit dep) (link_notes-append unit dep) c.args.links.now c.loop-link.link-index _ _ c.args.self.now.notes c.loop-link.self.notes c.add.new.self.notes c.loop-link-test.true c.link-item.is c.loop-link.invariant.1 c.in_ok-add.ensures.notes,
+      made_more (linked_by unit) (linked_by-append unit) c.loop-link.yielded c.in-Some.link c.args.self.now.names c.loop-link.self.names c.add.new.self.names c.loop-link.invariant.0 c.in_ok-add.ensures.names,
+      made_more (link_notes unit dep) (link_notes-append unit dep) c.loop-link.yielded c.in-Some.link c.args.self.now.notes c.loop-link.self.notes c.add.new.self.notes c.loop-link.invariant.1 c.in_ok-add.ensures.notes,
     )

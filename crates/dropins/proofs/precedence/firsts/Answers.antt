@@ -1,0 +1,19 @@
+use Rattle.std.proofs.Common.{◌≡◌, ◌∙◌, ℕ, List, ap, None}
+use Rattle.std.specs.BTreeMap.{get, IsFromIterResult}
+use Rattle.std.specs.Map.{update_all}
+use Rattle.std.specs.Ordering.{eq_by_cmp}
+use Rattle.std.proofs.lemmas.Iterator.Adapters.{fact_from_collect, YieldsList-from_vec}
+use Rattle.std.proofs.lemmas.Result.{IfOk-weaker}
+use Rattle.unit_name.specs.Names.{name_cmp}
+use Rattle.dropins.specs.Walks.{first_for}
+use Rattle.dropins.proofs.Placed.{firsts_stay}
+use Rattle.dropins.proofs.precedence.firsts.Goals as goal
+
+pub returns : goal.returns
+returns c =
+    record {
+      firsts =
+          IfOk-weaker c.collect.result (λ takes. IsFromIterResult name_cmp c.reverse.new.self.items takes) (λ takes. (f : List ℕ) → get name_cmp takes f ≡ first_for c.args.found.items f)
+          (λ takes made f. made.0 f ∙ ap (λ ps. update_all (eq_by_cmp name_cmp) (λ _. None) ps f) c.reverse.ensures.items ∙ firsts_stay c.args.found.items f)
+          (fact_from_collect (λ xs n. IsFromIterResult name_cmp xs n) c.collect.result c.collect.ensures.ran (YieldsList-from_vec c.reverse.new.self.items (cc) (cc)));
+    }
