@@ -1,4 +1,6 @@
-//! What is told of a crowd: a relation on a node's store, and a function that meets it.
+//! What is told of a crowd, for `crowd`. A relation on a node's store, and a function that meets it.
+//!
+//! Promise: the script's answers.
 #![tactic(auto)]
 
 mod laws;

@@ -1,7 +1,10 @@
-//! Crowds: so many workers at one node, in a thread each, that edit it side by side.
+//! Crowds: so many workers at one node, in a thread each, that edit it side by side. `crowd` tells how many takes
+//! the node had and how many paths it held, and nothing else is left of it.
 //!
-//! `crowd` opens a node over a copy of a replica, gives a seat to each worker, lets each make its edits, closes the node
-//! with all seats, and tells how many takes it had and how many paths it held. Nothing else is left of it.
+//! Promise: the count at close is exact.
+//!
+//! `crowd` opens a node over a copy of a replica, gives a seat to each worker, lets each make its edits, and closes
+//! the node with all seats.
 #![tactic(auto)]
 
 mod crowding;

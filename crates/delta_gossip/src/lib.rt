@@ -1,9 +1,11 @@
-//! Replicas that learn from one another: by whole stores, and by asks and the pieces cut for them.
+//! Replicas that learn from one another: by whole stores, and by asks and the pieces cut for them. `exchange`
+//! brings two together, `sweep` any number, and `run_world` runs a list of events among nodes.
 //!
-//! Two replicas are brought together by `exchange`, any number of them by `sweep`. `run_world` runs
-//! a list of events among nodes that put edits, ask, cut what was asked for, and are given pieces
-//! in any order, late, twice or never; its contract says that nodes that took the same edits hold
-//! the same (Shapiro, Preguica, Baquero, Zawirski, "Conflict-free Replicated Data Types", 2011).
+//! Promise: every world converges; a sweep joins all.
+//!
+//! Nodes of a world put edits, ask, cut what was asked for, and are given pieces in any order, late, twice or
+//! never; the contract of `run_world` says that nodes that took the same edits hold the same (Shapiro, Preguica,
+//! Baquero, Zawirski, "Conflict-free Replicated Data Types", 2011).
 #![tactic(auto)]
 
 mod exchanges;

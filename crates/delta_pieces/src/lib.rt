@@ -1,10 +1,12 @@
-//! What replicas send each other: digests, which tell the version at each path, and pieces, which
-//! carry entries.
+//! What replicas send each other: digests, which tell the version at each path, and pieces, which carry entries. A
+//! piece that is cut for a digest carries the entries whose version is greater than the digest's, or whose path the
+//! digest lacks.
 //!
-//! A piece that is cut for a digest carries the entries whose version is greater than the digest's,
-//! or whose path the digest lacks. Both are plain values: a digest may be old, and a piece may be
-//! split, late, lost or taken twice, since taking it joins it, as stores are joined (Shapiro,
-//! Preguica, Baquero, Zawirski, "Conflict-free Replicated Data Types", 2011).
+//! Promise: pieces are exact; a refused merge lies between; what was consumed comes back.
+//!
+//! Both are plain values: a digest may be old, and a piece may be split, late, lost or taken twice, since taking it
+//! joins it, as stores are joined (Shapiro, Preguica, Baquero, Zawirski, "Conflict-free Replicated Data Types",
+//! 2011).
 #![tactic(auto)]
 
 mod asks;

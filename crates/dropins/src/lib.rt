@@ -1,8 +1,11 @@
-//! The drop-ins and the link folders of units (systemd.unit(5), "Description").
+//! The drop-ins and the link folders of units (systemd.unit(5), "Description"). For each file name the one that
+//! counts among all folders that speak for a unit.
 //!
-//! A unit's drop-ins stand in the folders of its names: `NAME.d`, those of the template of an
-//! instance, and those of prefixes that are cut behind a dash. The same folders with `.wants` and
-//! `.requires` have links to units that it depends on.
+//! Promise: units are exact.
+//!
+//! A unit's drop-ins stand in the folders of its names: `NAME.d`, those of the template of an instance, and those
+//! of prefixes that are cut behind a dash. The same folders with `.wants` and `.requires` have links to units that
+//! it depends on.
 #![tactic(auto)]
 
 mod folder_lists;

@@ -1,6 +1,8 @@
-//! Edits of unit files, the sum of a list of edits, and the laws of sums.
+//! Edits of unit files, the sum of a list of edits, and the laws of sums. What a store holds is the sum of the
+//! edits that it took: at each path the greatest of them.
 //!
-//! What a store holds is the sum of the edits that it took: at each path the greatest of them.
+//! Promise: merge is the least upper bound; the store is its map.
+//!
 //! Sums are defined here from the list of edits, without any store.
 #![tactic(auto)]
 

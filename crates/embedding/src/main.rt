@@ -1,4 +1,7 @@
-//! How a program of one's own takes these libraries in: one that answers scripts, and one whose replicas merge.
+//! How a program of one's own takes these libraries in. One function answers scripts, and in one two replicas
+//! merge.
+//!
+//! Promise: none of its own; the README shows it.
 #![tactic(auto)]
 
 use fleet_script::{ShellFault, run};

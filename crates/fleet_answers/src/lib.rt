@@ -1,8 +1,10 @@
-//! What a fleet answers: the units that must be loaded at a node and the plan of a request, as a function of the edits that
-//! the node took.
+//! What a fleet answers: the units that must be loaded at a node and the plan of a request, as a function of the
+//! edits that the node took. Two nodes that took the same edits give the same units, and for every request the same
+//! plan or refusal, with any number of workers.
 //!
-//! Whatever is put, asked, cut and given, in whatever order: two nodes that took the same edits give the same units with
-//! the same settings, and for every request the same plan or refusal, with any number of workers.
+//! Promise: convergence.
+//!
+//! Whatever is put, asked, cut and given, in whatever order.
 #![tactic(auto)]
 
 mod answers;

@@ -1,7 +1,8 @@
-//! Scripts over named nodes: from the bytes of a script to the bytes of its answers.
+//! Scripts over named nodes: from the bytes of a script to the bytes of its answers. What a script is answered by
+//! is a relation between scripts and answers over worlds of nodes and events (`specs/Scripts.antt`), and `run` is
+//! proved against it.
 //!
-//! What a script is answered by is defined apart from the code, as a relation between scripts and
-//! answers over worlds of nodes and events (`specs/Scripts.antt`); `run` is proved against it.
+//! Promise: the script's answers; convergence.
 #![tactic(auto)]
 
 mod exchanges;

@@ -1,7 +1,9 @@
-//! Answers the script on standard input on standard output.
+//! Answers the script on standard input on standard output. The exit status is 0 for a script that was answered to
+//! its end, 1 where a read or a write failed or the script is too long, and 2 where memory was refused.
 //!
-//! The exit status is 0 for a script that was answered to its end, 1 where a read or a write failed or the script
-//! is too long, and 2 where memory was refused; a line on standard error then says which.
+//! Promise: the script's answers.
+//!
+//! A line on standard error says which of these it was.
 #![tactic(auto)]
 
 ghost use Rattle.std.specs.Prelude.{◌≡◌, ◌⊎◌, ◌≤◌};

@@ -1,5 +1,7 @@
-//! Which file stands for a unit: its fragment, its masks, its aliases, and the names that it has.
-//! The rules are those of systemd.unit(5), "Unit File Load Path" and "Description".
+//! Which file stands for a unit: its fragment, its masks, its aliases, and the names that it has. The rules are
+//! those of systemd.unit(5), "Unit File Load Path" and "Description".
+//!
+//! Promise: units are exact.
 #![tactic(auto)]
 
 mod aliases;

@@ -1,7 +1,10 @@
-//! Nodes numbered from 0: sets of them by marks, steps between them by rows, and what is reached.
+//! Nodes numbered from 0: sets of them by marks, steps between them by rows, and what is reached. What is reached
+//! and how far it is are those of `name_closure`, for numbers.
 //!
-//! A set of nodes is a slice of marks, one for each node. Steps are rows: the row of a node has the
-//! nodes to which a step leads from it, in any order, and a node may stand there more than once.
+//! Promise: the universe and its graph are exact.
+//!
+//! A set of nodes is a slice of marks, one for each node. Steps are rows: the row of a node has the nodes to which
+//! a step leads from it, in any order, and a node may stand there more than once.
 #![tactic(auto)]
 
 mod closures;

@@ -1,7 +1,9 @@
-//! The dependencies between the units of a load, as either side has them.
+//! The dependencies between the units of a load, as either side has them. What a unit has of a kind is what it
+//! names by it, and all that name it by the inverse, whether or not they are planned for.
 //!
-//! A unit's files name others by a kind, and the other unit then has the inverse of that kind. What a unit has of a kind
-//! is what it names by it, and all that name it by the inverse, whether or not they are planned for.
+//! Promise: the universe and its graph are exact.
+//!
+//! A unit's files name others by a kind, and the other unit then has the inverse of that kind.
 #![tactic(auto)]
 
 mod building;

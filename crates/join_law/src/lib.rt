@@ -1,9 +1,11 @@
-//! Values that are joined: the traits of keys and of joins with their laws, entries with versions,
-//! and maps of joins.
+//! Values that are joined: the traits of keys and of joins with their laws, entries with versions, and maps of
+//! joins. What is joined comes to the same value in whatever order it is heard of.
 //!
-//! A join semilattice is an order in which any two values have a least upper bound, their join.
-//! Replicas whose states form one come to the same state in whatever order they hear of each
-//! other (Shapiro, Preguica, Baquero, Zawirski, "Conflict-free Replicated Data Types", 2011).
+//! Promise: merge is the least upper bound; a refused merge lies between.
+//!
+//! A join semilattice is an order in which any two values have a least upper bound, their join. Replicas whose
+//! states form one come to the same state in whatever order they hear of each other (Shapiro, Preguica, Baquero,
+//! Zawirski, "Conflict-free Replicated Data Types", 2011).
 #![tactic(auto)]
 
 mod copies;

@@ -1,5 +1,7 @@
-//! What is told of a load: for each command that loads a node's units, a relation on the node's store, and a function that
+//! What is told of a load, for `show` and `list`. A relation on the node's store for each, and a function that
 //! meets it.
+//!
+//! Promise: the script's answers.
 #![tactic(auto)]
 
 mod asks;

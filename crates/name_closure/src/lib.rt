@@ -1,12 +1,13 @@
-//! Least closed sets and distances: what is reached from sources by steps, for any nodes.
+//! Least closed sets and distances: what is reached from sources by steps, for any nodes. The code is of keys,
+//! keeps what was loaded for each, and goes by rounds.
 //!
-//! The definitions and laws are of any nodes, sources and steps, so that closures over names and
-//! over indexes, and over any part of the steps, are of one kind. Each user shows what its sources
-//! and steps are, and cites the laws.
+//! Promise: the universe and its graph are exact.
 //!
-//! The code is of keys, keeps what was loaded for each, and goes by rounds: all new nodes of a round
-//! are loaded by one call, since loading takes time, and several may load at the same time. Code over
-//! indexes, which can mark what it has found, stands with its user.
+//! The definitions and laws are of any nodes, sources and steps, so that closures over names and over indexes, and
+//! over any part of the steps, are of one kind. Each user shows what its sources and steps are, and cites the laws.
+//!
+//! All new nodes of a round are loaded by one call, since loading takes time, and several may load at the same
+//! time. Code over indexes, which can mark what it has found, stands with its user.
 #![tactic(auto)]
 
 mod closures;

@@ -1,9 +1,12 @@
-//! Histories of a node that threads share: what it opened over, and then its takes, one after another.
+//! Histories of a node that threads share: what it opened over, and then its takes, one after another. A `Front` is
+//! a token of a beginning of it that was seen, and a `Page` a replica with a token of the history that its store is
+//! the sum of.
 //!
-//! A history is a list of events that exists in proofs alone, kept by a book of `logbook`. A `Front` is a
-//! token of a beginning of it that was seen. It has no more bytes than a number; copies of it take no memory, and
-//! of two fronts of one node the shorter begins the longer. A `Page` is a replica with a token of the history that
-//! its store is the sum of: whoever finds a page finds the sum of a legal history, by its type.
+//! Promise: a view is a sum of a history; an answered edit stands in the history.
+//!
+//! A history is a list of events that exists in proofs alone, kept by a book of `logbook`. A front has no more
+//! bytes than a number; copies of it take no memory, and of two fronts of one node the shorter begins the longer.
+//! Whoever finds a page finds the sum of a legal history, by its type.
 #![tactic(auto)]
 
 mod book;

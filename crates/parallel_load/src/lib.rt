@@ -1,8 +1,11 @@
-//! All units that a manager must load from one store.
+//! All units that a manager must load from one store, and for each name the unit for which it stands. What is
+//! loaded is a function of the store and of the names that are asked for, however many workers load.
 //!
-//! The names are the least set that has those that are asked for and all at which something is visible, and that is closed
-//! under what names stand for and what units name. For each name stands its unit, or the main name of which it is an alias.
-//! What is loaded is a function of the store and of the names that are asked for, however many workers load.
+//! Promise: the universe and its graph are exact; any number of workers.
+//!
+//! The names are the least set that has those that are asked for and all at which something is visible, and that is
+//! closed under what names stand for and what units name. For each name stands its unit, or the main name of which
+//! it is an alias.
 #![tactic(auto)]
 
 mod faults;

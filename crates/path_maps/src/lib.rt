@@ -1,5 +1,7 @@
-//! The entries of a node by path: maps of maps of contents with versions, by rank, folder and name, which contracts see
-//! as one map from paths to entries.
+//! The entries of a node by path: maps of maps of contents with versions, by rank, folder and name. Contracts see
+//! them as one map from paths to entries.
+//!
+//! Promise: the store is its map.
 #![tactic(auto)]
 
 mod beside;

@@ -1,4 +1,7 @@
-//! What is told of a plan: a relation on the node's store and the words of a request, and a function that meets it.
+//! What is told of a plan, for `plan`. A relation on the node's store and the words of a request, and a function
+//! that meets it.
+//!
+//! Promise: the script's answers.
 #![tactic(auto)]
 
 mod laws;

@@ -1,8 +1,10 @@
-//! Replicas: what a node holds of the edits of a whole fleet, and the number under which it writes.
+//! Replicas: what a node holds of the edits of a whole fleet, and the number under which it writes. A replica's
+//! store is a finite map from paths to entries, the sum of the edits that it took.
 //!
-//! A replica's store is a finite map from paths to entries. It is seen in contracts as that map, and is the
-//! sum of the edits that it took; stores are joined, and the join is their least upper bound
-//! (Shapiro, Preguica, Baquero, Zawirski, "Conflict-free Replicated Data Types", 2011).
+//! Promise: the store is its map; a refused edit changes nothing.
+//!
+//! Stores are joined, and the join is their least upper bound (Shapiro, Preguica, Baquero, Zawirski, "Conflict-free
+//! Replicated Data Types", 2011).
 #![tactic(auto)]
 
 mod replicas;

@@ -1,4 +1,6 @@
-//! How the answers of a script are written.
+//! How the answers of a script are written. Texts alone: what is answered is settled by the layers that call.
+//!
+//! Promise: the script's answers.
 #![tactic(auto)]
 
 mod answers;

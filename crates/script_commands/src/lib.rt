@@ -1,7 +1,9 @@
-//! Commands of a script: what a line asks for, and why one is refused.
+//! Commands of a script: what a line asks for, and why one is refused. What a line asks for is a function of the
+//! line alone (`specs/Commands.antt`).
 //!
-//! What a line asks for is a function of the line alone (`specs/Commands.antt`). Whatever a command needs of the nodes
-//! comes later.
+//! Promise: the script's answers; refusals are named.
+//!
+//! Whatever a command needs of the nodes comes later.
 #![tactic(auto)]
 
 mod commands;

@@ -1,7 +1,9 @@
-//! The lines of a script, the words of its lines, and what the words spell: numbers, names and text.
+//! The lines of a script, the words of its lines, and what the words spell: numbers, names and text. Nothing here
+//! knows a command.
 //!
-//! Nothing here knows a command. Each call takes bytes and lends a part of them, or answers a value; only
-//! `unescape` makes bytes of its own.
+//! Promise: the script's answers.
+//!
+//! Each call takes bytes and lends a part of them, or answers a value; only `unescape` makes bytes of its own.
 #![tactic(auto)]
 
 mod laws;

@@ -1,5 +1,7 @@
-//! The world behind a script: its nodes, what happened, and the pieces by name; and that no version in it stands for two
-//! edits. There is no code but laws.
+//! The world behind a script: its nodes, what happened, and the pieces by name. No version in it stands for two
+//! edits; there is no code but laws.
+//!
+//! Promise: convergence.
 #![tactic(auto)]
 
 mod laws;

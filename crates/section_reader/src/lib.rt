@@ -1,7 +1,9 @@
-//! What a unit file says: the assignments of its sections, and notes on the lines that say nothing.
+//! What a unit file says: the assignments of its sections, and notes on the lines that say nothing. The syntax is
+//! that of systemd.syntax(7), "Introduction"; what that page leaves open is this project's own.
 //!
-//! The syntax is that of systemd.syntax(7), "Introduction"; what that page leaves open is this project's own. Nothing here
-//! knows what a section or a key means. `read` takes bytes, and refuses for want of memory alone.
+//! Promise: names and files are read exactly.
+//!
+//! Nothing here knows what a section or a key means. `read` takes bytes, and refuses for want of memory alone.
 #![tactic(auto)]
 
 mod assignments;

@@ -1,7 +1,10 @@
-//! What the assignments of a unit come to: the values that count, and the units that it depends on.
+//! What the assignments of a unit come to: the values that count, and the units that it depends on. An empty value
+//! empties a list, but not one of dependencies; the last good boolean counts; specifiers are expanded by the unit's
+//! name.
 //!
-//! The rules are those of systemd.unit(5) and systemd.syntax(7): an empty value empties a list, but not one of dependencies;
-//! the last good boolean counts; specifiers are expanded by the unit's name.
+//! Promise: units are exact.
+//!
+//! The rules are those of systemd.unit(5) and systemd.syntax(7).
 #![tactic(auto)]
 
 mod booleans;

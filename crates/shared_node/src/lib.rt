@@ -1,9 +1,12 @@
-//! Running nodes: a replica that threads share, and whose readers take no lock.
+//! Running nodes: a replica that threads share, and whose readers take no lock. What each seat sees, what it was
+//! answered, and the counts at the end are said of the node's history (`node_histories`).
+//!
+//! Promise: a view is a sum of a history; an answered edit stands in the history; what a refused take leaves; the
+//! count at close is exact; equal histories, equal answers; readers take no lock.
 //!
 //! A `Node` keeps a replica behind a lock, and publishes each version of it as one of two copies, which readers
 //! enter without a lock, a wait or memory. Threads hold `Seat`s: a seat edits and absorbs under the lock, and views
-//! what is published. What each seat sees, what it was answered, and the counts at the end are said of the node's
-//! history (`node_histories`): all takes, one after another, each a seat's edit or a piece that it absorbed.
+//! what is published. A history has all takes, one after another, each a seat's edit or a piece that it absorbed.
 #![tactic(auto)]
 
 mod account;

@@ -1,5 +1,7 @@
-//! Pairs of a key and a value in the order of their keys: a search, and a pass over them that is
-//! joined with another.
+//! Pairs of a key and a value in the order of their keys. A search among them, and a pass over them that is joined
+//! with another.
+//!
+//! Promise: merge is the least upper bound.
 #![tactic(auto)]
 
 mod passes;

@@ -1,4 +1,7 @@
-//! Start plans: which units start, in which order, which stop, or exactly why not.
+//! Start plans: which units start, in which order, which stop. Or exactly why not: the first refusal whose cause
+//! stands.
+//!
+//! Promise: the plan is exact.
 #![tactic(auto)]
 
 mod cases;

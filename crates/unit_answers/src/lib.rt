@@ -1,5 +1,6 @@
-//! What is told of units: for each command that only reads a node's store, a relation on the store, and a function that
-//! meets it.
+//! What is told of units by a node's store alone, for `cat`. A relation on the store, and a function that meets it.
+//!
+//! Promise: the script's answers.
 #![tactic(auto)]
 
 mod files;

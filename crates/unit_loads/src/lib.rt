@@ -1,7 +1,9 @@
-//! One unit of a store: its names, the file that stands for it, its drop-ins, and what these files and its links come to.
+//! One unit of a store: its names, the file that stands for it, its drop-ins, and what these files and its links
+//! come to. What a unit is, is a function of the store.
 //!
-//! A load of a store's units stands on one call that makes one unit. What a unit is, is a function of the store: no two
-//! units of one name are in a store.
+//! Promise: units are exact.
+//!
+//! A load of a store's units stands on one call that makes one unit. No two units of one name are in a store.
 #![tactic(auto)]
 
 mod dependencies;

@@ -1,4 +1,7 @@
-//! The names of systemd's units: their parts, escapes and specifiers, as systemd.unit(5) has them.
+//! The names of systemd's units: their parts, escapes and specifiers, as systemd.unit(5) has them. A name is read
+//! from its bytes, or the first thing wrong with it is told.
+//!
+//! Promise: names and files are read exactly.
 #![tactic(auto)]
 
 mod escapes;

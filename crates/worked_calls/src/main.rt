@@ -1,4 +1,7 @@
-//! Works calls of the libraries: reads a call a line from standard input, and writes each line behind it with its answer.
+//! Works calls of the libraries, so that each public call was run with ample memory. It reads a call a line from
+//! standard input, and writes each line behind it with its answer.
+//!
+//! Promise: memory is refused only where it is.
 //!
 //! A line is a subject, a call and its words, parted by spaces. Lines that are empty or begin with `#` are repeated
 //! as they are. A call that is refused memory is answered by `memory`. `stdin` has the calls, and `stdout` what each

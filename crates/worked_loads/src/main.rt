@@ -1,4 +1,7 @@
-//! Works loads of stores: reads a call a line from standard input, and writes each line with its answers below it.
+//! Works loads of stores by one thread and by workers, and their graphs. It reads a call a line from standard
+//! input, and writes each line with its answers below it.
+//!
+//! Promise: memory is refused only where it is.
 //!
 //! A line is a call and lists of words, each list ended by `+` or by the line. The calls are
 //!

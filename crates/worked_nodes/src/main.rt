@@ -1,5 +1,7 @@
-//! Works calls of running nodes: reads a node a line from standard input, with what is done at it, and writes each line
-//! with its answers below it.
+//! Works calls of running nodes, by threads side by side too. It reads a node a line from standard input, with what
+//! is done at it, and writes each line with its answers below it.
+//!
+//! Promise: memory is refused only where it is.
 //!
 //! A line is `node WRITER SEATS`, and behind it steps: `seat`, `edit SEAT PATH TEXT`,
 //! `absorb SEAT PATH COUNTER WRITER TEXT`, `learn SEAT`, `view SEAT`, `serve SEAT PATH TEXT`, `short`. At the end the

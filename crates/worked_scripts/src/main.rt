@@ -1,5 +1,7 @@
-//! Works scripts: reads dialogues from standard input, runs the commands of each as one script, and says of each
-//! whether the answers are those that the dialogue tells.
+//! Works scripts: dialogues of commands and the answers that each must have. It reads dialogues from standard
+//! input, runs the commands of each as one script, and says of each whether the answers are those that it tells.
+//!
+//! Promise: memory is refused only where it is.
 //!
 //! `stdin` has the dialogues, and `stdout` a line for each; the gate compares the two. How a dialogue is written
 //! stands in `dialogues.rt`.

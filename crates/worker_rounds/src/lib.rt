@@ -1,5 +1,7 @@
-//! Closures with what is loaded for their nodes, where each round is loaded by workers: the answer is
-//! that of one thread, whatever the workers' number and in whatever order they come.
+//! Closures with what is loaded for their nodes, where each round is loaded by workers. The answer is that of one
+//! thread, whatever the workers' number and in whatever order they come.
+//!
+//! Promise: any number of workers; gates change nothing.
 #![tactic(auto)]
 
 mod faults;

@@ -1,9 +1,10 @@
-//! Worlds of nodes that put edits, ask, cut what was asked for, and are given what was cut: what
-//! happens in them, which edits each node took, and the law that each node's store is their sum.
+//! Worlds of nodes that put edits, ask, cut what was asked for, and are given what was cut. What happens in them,
+//! which edits each node took, and the law that each node's store is their sum.
 //!
-//! A world is told by its list of events alone (`specs/Worlds.antt`). Pieces of stores may be
-//! delayed, reordered, lost or repeated: any piece may be given to any node at any later time,
-//! again or never.
+//! Promise: every world converges.
+//!
+//! A world is told by its list of events alone (`specs/Worlds.antt`). Pieces of stores may be delayed, reordered,
+//! lost or repeated: any piece may be given to any node at any later time, again or never.
 #![tactic(auto)]
 
 mod events;
