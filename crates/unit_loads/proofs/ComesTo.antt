@@ -1,33 +1,37 @@
--- A unit has what its text and its links come to.
-use Rattle.std.proofs.Common.{◌≡◌, ap, ◌∙◌, List, ◌∷◌, ◌++◌, map}
+-- A unit has what its files and its links come to.
+use Rattle.std.proofs.Common.{◌≡◌, ap, sym, subst, ◌∙◌, List, ◌∷◌, ◌++◌, map}
 use Rattle.load_path.specs.Paths.{PathParts}
+use Rattle.edit_sums.specs.Entries.{Entry}
 use Rattle.edit_sums.specs.Sums.{EntryMap}
-use Rattle.section_reader.specs.declared.assignments.Assignment.{Assignment}
+use Rattle.unit_name.specs.Names.{Name}
+use Rattle.section_reader.specs.Sections.{assignments_of}
 use Rattle.setting_rules.specs.Rows.{rows_of}
 use Rattle.setting_rules.specs.Settings.{settings_of}
 use Rattle.setting_rules.specs.Switches.{refuses}
+use Rattle.dropins.specs.Taken.{entry_path}
+use Rattle.unit_loads.specs.declared.found.Found.{Found}
 use Rattle.unit_loads.specs.declared.links.LinkNames.{LinkNames}
-use Rattle.unit_loads.specs.declared.units.Unit.{Unit as LoadedUnit}
-use Rattle.unit_loads.specs.declared.units.UnitNote.{UnitNote}
 use Rattle.unit_loads.specs.declared.units.UnitNote.TheVariants as note
-use Rattle.unit_loads.specs.Units.{AreDropIns, AreLinkNames, HasSettings, file_notes, items_of, lists_with, setting_notes}
+use Rattle.unit_loads.specs.Steps.{ComesTo, found_unit, items_with, lent_notes}
+use Rattle.unit_loads.specs.Units.{AreDropIns, AreLinkNames, HasSettings, bytes_at, file_notes, items_of, lists_with, notes_at, setting_notes}
+use Rattle.unit_loads.proofs.Lent.{AreHeld, items_lent, notes_lent}
 
--- what a text and links come to for a unit
-pub record ComesTo (items : List Assignment) (lines : List UnitNote) (links : LinkNames) (unit : LoadedUnit) : Type 0 where
-  pub values : unit.values ≡ rows_of (settings_of items) unit.name
-  pub deps : unit.deps ≡ lists_with (settings_of items) unit.name links
-  pub notes : unit.notes ≡ lines ++ map note.Setting (setting_notes items unit.name links)
-  pub manual : unit.manual ≡ refuses (settings_of items)
+module _ (s : EntryMap) (fragment : PathParts) (lent : List (PathParts × Entry)) (unit : Name) (links : LinkNames) (found : Found) (held : AreHeld s lent) (it : ComesTo s fragment lent unit links found) where
+  items : items_with s fragment lent ≡ items_of s (fragment ∷ found.dropins)
+  items = ap (λ xs. assignments_of (bytes_at s fragment) ++ xs) (items_lent s lent held ∙ ap (items_of s) (sym it.dropins))
 
-pub has_settings : (s : EntryMap) (fragment : PathParts) (unit : LoadedUnit) (items : List Assignment) (lines : List UnitNote) (links : LinkNames) → AreDropIns s unit.names unit.dropins → AreLinkNames s unit.names links → items ≡ items_of s (fragment ∷ unit.dropins) → lines ≡ file_notes s (fragment ∷ unit.dropins) → ComesTo items lines links unit → HasSettings s fragment unit
-has_settings s fragment unit items lines links dropins_are links_are text noted it = record {
-  dropins_are = dropins_are;
-  links = links;
-  links_are = links_are;
-  values_are = it.values ∙ ap (λ xs. rows_of (settings_of xs) unit.name) text;
-  deps_are = it.deps ∙ ap (λ xs. lists_with (settings_of xs) unit.name links) text;
-  notes_are =
-      it.notes ∙ ap (λ ns. ns ++ map note.Setting (setting_notes items unit.name links)) noted
-      ∙ ap (λ xs. file_notes s (fragment ∷ unit.dropins) ++ map note.Setting (setting_notes xs unit.name links)) text;
-  manual_is = it.manual ∙ ap (λ xs. refuses (settings_of xs)) text;
-}
+  lines : notes_at s fragment ++ lent_notes lent ≡ file_notes s (fragment ∷ found.dropins)
+  lines = ap (λ ns. notes_at s fragment ++ ns) (notes_lent s lent held ∙ ap (file_notes s) (sym it.dropins))
+
+  pub has_settings : (names : List Name) → AreDropIns s names (map entry_path lent) → AreLinkNames s names links → HasSettings s fragment (found_unit unit names fragment found)
+  has_settings names dropins_are links_are = record {
+    dropins_are = subst (λ (ps : List PathParts). AreDropIns s names ps) (sym it.dropins) dropins_are;
+    links = links;
+    links_are = links_are;
+    values_are = it.values ∙ ap (λ xs. rows_of (settings_of xs) unit) items;
+    deps_are = it.deps ∙ ap (λ xs. lists_with (settings_of xs) unit links) items;
+    notes_are =
+        it.notes ∙ ap (λ ns. ns ++ map note.Setting (setting_notes (items_with s fragment lent) unit links)) lines
+        ∙ ap (λ xs. file_notes s (fragment ∷ found.dropins) ++ map note.Setting (setting_notes xs unit links)) items;
+    manual_is = it.manual ∙ ap (λ xs. refuses (settings_of xs)) items;
+  }

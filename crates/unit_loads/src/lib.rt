@@ -8,6 +8,7 @@
 
 mod dependencies;
 mod files;
+mod found;
 mod laws;
 mod links;
 mod loads;

@@ -3,11 +3,8 @@ ghost use Rattle.std.specs.Prelude.{◌≡◌, IfOk};
 ghost use Rattle.fragment_choice.specs.Resolutions.{main, resolution};
 ghost use Rattle.unit_loads.specs.Units.{HasNothing, HasSettings, IsUnit, no_names};
 
-use crate::files::{UnitText, paths_of};
-use crate::links::LinkNames;
-use crate::settled::Settled;
+use crate::found::Found;
 use crate::units::{Status, Unit};
-use dropins::UnitFolders;
 use fragment_choice::{AliasIndex, Choice, Resolution, resolve};
 use replica_store::{Path, Store};
 use section_reader::Items;
@@ -74,17 +71,12 @@ fn loaded(
     ensures status { IfOk result (λ unit. unit.status ≡ Status.Loaded fragment) }
     ensures settings { IfOk result (HasSettings store.now fragment) }
 {
-    let folders = UnitFolders::of(alloc, &names)?;
-    let dropins = folders.drop_ins(alloc, store)?;
-    let links = LinkNames::of(alloc, store, &folders)?;
-    let text = UnitText::of(alloc, store, &fragment, &dropins)?;
-    let settled = Settled::of(alloc, &name, text, links)?;
-    let dropins = paths_of(alloc, &dropins)?;
+    let Found { dropins, settled } = Found::of(alloc, store, &name, &names, &fragment)?;
     Ok(Unit {
         name,
         names: Items::from_vec(names),
         status: Status::Loaded(fragment),
-        dropins: Items::from_vec(dropins),
+        dropins,
         values: settled.values,
         deps: settled.deps,
         notes: settled.notes,

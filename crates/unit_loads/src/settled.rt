@@ -1,19 +1,20 @@
 //! What the files and the links of a unit come to.
 ghost use Rattle.std.specs.Prelude.{◌≡◌, ◌++◌, IfOk, OnOk, map};
-ghost use Rattle.setting_rules.specs.Rows.{rows_of};
+ghost use Rattle.setting_rules.specs.Rows.{escape_notes, rows_of};
 ghost use Rattle.setting_rules.specs.Settings.{settings_of};
 ghost use Rattle.setting_rules.specs.Switches.{refuses};
-ghost use Rattle.unit_loads.specs.Units.{lists_with, setting_notes};
+ghost use Rattle.unit_loads.specs.Units.{dependency_notes, lists_with, setting_notes};
 
 use crate::dependencies::named_units;
 use crate::files::UnitText;
 use crate::links::LinkNames;
 use crate::units::UnitNote;
-use section_reader::Items;
+use section_reader::{Assignment, Items};
 use setting_rules::{
-    Dependencies, DependencyList, Row, SettingNote, Values, apply, refuses_manual_start, values,
+    DependencyList, Row, SettingNote, Settings, apply, refuses_manual_start, values,
 };
 use std::alloc::{AllocError, Global};
+use std::mem;
 use unit_name::UnitName;
 
 /// What the files and the links of a unit come to.
@@ -44,18 +45,67 @@ impl Settled {
         ensures manual { IfOk result (λ it. it.manual ≡ refuses (settings_of text.items)) }
     {
         let UnitText { items, mut notes } = text;
-        let settings = apply(alloc, items.as_slice())?;
-        let rows = values(alloc, &settings, unit)?;
-        let named = named_units(alloc, &settings, unit, links)?;
-        let manual = refuses_manual_start(&settings);
-        add_setting_notes(&mut notes, settings.notes)?;
-        add_setting_notes(&mut notes, rows.notes)?;
-        add_setting_notes(&mut notes, named.notes)?;
+        let outcome = Outcome::of(alloc, items.as_slice(), unit, links)?;
+        add_setting_notes(&mut notes, outcome.notes)?;
         Ok(Settled {
-            values: rows.rows,
+            values: outcome.values,
+            deps: outcome.deps,
+            notes,
+            manual: outcome.manual,
+        })
+    }
+}
+
+// What assignments and links come to for a unit.
+#[derive(Drop)]
+struct Outcome {
+    values: Items<Row>,
+    deps: Items<DependencyList>,
+    notes: Items<SettingNote>,
+    manual: bool,
+}
+
+impl Outcome {
+    fn of(
+        alloc: Global,
+        items: &[Assignment],
+        unit: &UnitName,
+        links: LinkNames,
+    ) -> Result<Outcome, AllocError>
+        ensures values { IfOk result (λ it. it.values ≡ rows_of (settings_of items.now) unit.now) }
+        ensures deps { IfOk result (λ it. it.deps ≡ lists_with (settings_of items.now) unit.now links) }
+        ensures notes { IfOk result (λ it. it.notes ≡ setting_notes items.now unit.now links) }
+        ensures manual { IfOk result (λ it. it.manual ≡ refuses (settings_of items.now)) }
+    {
+        let mut settings = apply(alloc, items)?;
+        let notes = mem::replace(&mut settings.notes, Items::new(alloc));
+        Outcome::of_settings(alloc, &settings, notes, unit, links)
+    }
+
+    // What settings and links come to for a unit, with notes behind those on the settings.
+    fn of_settings(
+        alloc: Global,
+        settings: &Settings,
+        noted: Items<SettingNote>,
+        unit: &UnitName,
+        links: LinkNames,
+    ) -> Result<Outcome, AllocError>
+        ensures values { IfOk result (λ it. it.values ≡ rows_of settings.now.map unit.now) }
+        ensures deps { IfOk result (λ it. it.deps ≡ lists_with settings.now.map unit.now links) }
+        ensures notes { IfOk result (λ it. it.notes
+            ≡ noted ++ escape_notes settings.now.map unit.now ++ dependency_notes settings.now.map unit.now links) }
+        ensures manual { IfOk result (λ it. it.manual ≡ refuses settings.now.map) }
+    {
+        let mut notes = noted;
+        let values = values(alloc, settings, unit)?;
+        notes.append(values.notes)?;
+        let named = named_units(alloc, settings, unit, links)?;
+        notes.append(named.notes)?;
+        Ok(Outcome {
+            values: values.rows,
             deps: named.lists,
             notes,
-            manual,
+            manual: refuses_manual_start(settings),
         })
     }
 }

@@ -1,0 +1,62 @@
+//! What stands for a loaded unit beside its names.
+ghost use Rattle.std.specs.Prelude.{IfOk};
+ghost use Rattle.unit_loads.specs.Steps.{ComesTo, found_unit};
+ghost use Rattle.unit_loads.specs.Units.{HasSettings};
+
+use crate::files::{UnitText, paths_of};
+use crate::links::LinkNames;
+use crate::settled::Settled;
+use dropins::UnitFolders;
+use replica_store::{Path, Placed, Store};
+use section_reader::Items;
+use std::alloc::{AllocError, Global};
+use unit_name::UnitName;
+
+/// The drop-ins of a loaded unit, and what its files and its links come to.
+#[derive(Drop)]
+pub(crate) struct Found {
+    /// The drop-ins, by file name.
+    pub dropins: Items<Path>,
+    /// What the fragment, the drop-ins and the links come to.
+    pub settled: Settled,
+}
+
+impl Found {
+    /// Those of the unit of these names whose fragment is at this path. Its folders are listed once, for drop-ins and for
+    /// links. It fails for want of memory alone.
+    pub fn of(
+        alloc: Global,
+        store: &Store,
+        name: &UnitName,
+        names: &[UnitName],
+        fragment: &Path,
+    ) -> Result<Found, AllocError>
+        ensures settings { IfOk result (λ found. HasSettings store.now fragment.now
+            (found_unit name.now names.now fragment.now found)) }
+    {
+        let folders = UnitFolders::of(alloc, names)?;
+        let dropins = folders.drop_ins(alloc, store)?;
+        let links = LinkNames::of(alloc, store, &folders)?;
+        Self::of_files(alloc, store, name, fragment, &dropins, links)
+    }
+
+    // Those of the unit with these drop-ins and links.
+    fn of_files(
+        alloc: Global,
+        store: &Store,
+        name: &UnitName,
+        fragment: &Path,
+        dropins: &[Placed],
+        links: LinkNames,
+    ) -> Result<Found, AllocError>
+        ensures found { IfOk result (ComesTo store.now fragment.now dropins.now name.now links) }
+    {
+        let text = UnitText::of(alloc, store, fragment, dropins)?;
+        let settled = Settled::of(alloc, name, text, links)?;
+        let dropins = paths_of(alloc, dropins)?;
+        Ok(Found {
+            dropins: Items::from_vec(dropins),
+            settled,
+        })
+    }
+}
