@@ -62,26 +62,26 @@ module _ (entries : SettingMap) (unit : Name) (links : LinkNames) where
   list_count lists is = ap length is
 
   -- a list of words, once it has the names that links add
-  one_list : (dep : DepKind) (list : DependencyList) (names linked : List Name) → list ≡ list_for entries unit dep → names ≡ with_linked list.names linked → linked ≡ linked_by unit (links_for links dep) → (record list { names = names }) ≡ added dep
+  one_list : (dep : DepKind) (list : DependencyList) (names : List Name) → list ≡ list_for entries unit dep → names ≡ with_linked list.names (linked_by unit (links_for links dep)) → (record list { names = names }) ≡ added dep
   unfolding added
-  one_list dep list names linked is all from =
+  one_list dep list names is all =
       ap (λ (l : DependencyList). let r : DependencyList = record l { names = names } in r) is
       ∙ ap (λ (ns : List Name). let r : DependencyList = record { kind = dep; names = ns } in r)
-      (all ∙ ap (λ (l : DependencyList). with_linked l.names linked) is ∙ ap (with_linked (in_byte_order (names_by unit (words_for entries dep)))) from)
+      (all ∙ ap (λ (l : DependencyList). with_linked l.names (linked_by unit (links_for links dep))) is)
 
   -- the lists of words, once the two of `Wants` and `Requires` have the names that links add
-  module _ (lists : List DependencyList) (is : lists ≡ lists_of entries unit) (wants needs : DependencyList) (wanted required to_want to_need : List Name) where
-    pub lists_linked : wants ≡ get_or lists 2 wants → wanted ≡ with_linked wants.names to_want → to_want ≡ linked_by unit links.wanted → needs ≡ get_or (set lists 2 (record wants { names = wanted })) 3 needs → required ≡ with_linked needs.names to_need → to_need ≡ linked_by unit links.required → set (set lists 2 (record wants { names = wanted })) 3 (record needs { names = required }) ≡ lists_with entries unit links
+  module _ (lists : List DependencyList) (is : lists ≡ lists_of entries unit) (wants needs : DependencyList) (wanted required : List Name) where
+    pub lists_linked : wants ≡ get_or lists 2 wants → wanted ≡ with_linked wants.names (linked_by unit links.wanted) → needs ≡ get_or (set lists 2 (record wants { names = wanted })) 3 needs → required ≡ with_linked needs.names (linked_by unit links.required) → set (set lists 2 (record wants { names = wanted })) 3 (record needs { names = required }) ≡ lists_with entries unit links
     unfolding lists_of added
-    lists_linked third wants_all wants_from fourth needs_all needs_from =
+    lists_linked third wants_all fourth needs_all =
         ap (λ (l : DependencyList). set (set lists 2 (record wants { names = wanted })) 3 l) needs_added
         ∙ ap (λ (ls : List DependencyList). set ls 3 (added Requires)) wants_set ∙ each_list settable
       where
         wants_added : (record wants { names = wanted }) ≡ added Wants
-        wants_added = one_list Wants wants wanted to_want (third ∙ ap (λ ls. get_or ls 2 wants) is) wants_all wants_from
+        wants_added = one_list Wants wants wanted (third ∙ ap (λ ls. get_or ls 2 wants) is) wants_all
 
         wants_set : set lists 2 (record wants { names = wanted }) ≡ set (lists_of entries unit) 2 (added Wants)
         wants_set = ap (λ ls. set ls 2 (record wants { names = wanted })) is ∙ ap (λ (l : DependencyList). set (lists_of entries unit) 2 l) wants_added
 
         needs_added : (record needs { names = required }) ≡ added Requires
-        needs_added = one_list Requires needs required to_need (fourth ∙ ap (λ ls. get_or ls 3 needs) wants_set) needs_all needs_from
+        needs_added = one_list Requires needs required (fourth ∙ ap (λ ls. get_or ls 3 needs) wants_set) needs_all

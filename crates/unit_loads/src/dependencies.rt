@@ -36,19 +36,33 @@ pub(crate) fn named_units(
 {
     let Dependencies { lists, mut notes } = dependencies(alloc, settings, unit)?;
     let LinkNames { wanted, required } = links;
-    let mut wants = LinkedUnits::new(alloc);
-    wants.add_all(alloc, unit, DepKind::Wants, wanted)?;
-    let mut needs = LinkedUnits::new(alloc);
-    needs.add_all(alloc, unit, DepKind::Requires, required)?;
-    notes.append(wants.notes)?;
-    notes.append(needs.notes)?;
     let mut lists = lists.into_vec();
-    add_names(alloc, &mut lists[WANTS].names, wants.names)?;
-    add_names(alloc, &mut lists[REQUIRES].names, needs.names)?;
+    let wants = &mut lists[WANTS].names;
+    add_links(alloc, unit, DepKind::Wants, wanted, wants, &mut notes)?;
+    let needs = &mut lists[REQUIRES].names;
+    add_links(alloc, unit, DepKind::Requires, required, needs, &mut notes)?;
     Ok(Dependencies {
         lists: Items::from_vec(lists),
         notes,
     })
+}
+
+// Adds what a unit means by the names of links that add to a kind: units to names in byte order, and notes on other links.
+fn add_links(
+    alloc: Global,
+    unit: &UnitName,
+    dep: DepKind,
+    links: Items<UnitName>,
+    names: &mut Items<UnitName>,
+    notes: &mut Items<SettingNote>,
+) -> Result<(), AllocError>
+    ensures names { OnOk result (names.new ≡ with_linked names.old (linked_by unit.now links)) }
+    ensures notes { OnOk result (notes.new ≡ notes.old ++ link_notes unit.now dep links) }
+{
+    let mut linked = LinkedUnits::new(alloc);
+    linked.add_all(alloc, unit, dep, links)?;
+    notes.append(linked.notes)?;
+    add_names(alloc, names, linked.names)
 }
 
 // The units that a unit means by the names of links, and notes on those by which it means none.

@@ -56,7 +56,7 @@ impl Settled {
     }
 }
 
-// What assignments and links come to for a unit.
+// What the assignments and the links of a unit come to, with the notes on settings alone.
 #[derive(Drop)]
 struct Outcome {
     values: Items<Row>,
@@ -66,6 +66,7 @@ struct Outcome {
 }
 
 impl Outcome {
+    // What assignments and links come to for a unit.
     fn of(
         alloc: Global,
         items: &[Assignment],
