@@ -70,15 +70,22 @@ fn append_values(alloc: Global, out: &mut Vec<u8>, refusal: &Refusal) -> Result<
     }
 }
 
+// The line of a refusal that is kept.
+fn refusal_line(alloc: Global, refusal: &Refusal) -> Result<Vec<u8>, AllocError>
+    ensures line { IfOk result (λ line. line.items ≡ error_line refusal.now) }
+{
+    let mut line = Vec::from_slice(alloc, b"error: ")?;
+    line.extend_from_slice(code_and_name(refusal))?;
+    append_values(alloc, &mut line, refusal)?;
+    line.push(b'\n')?;
+    Ok(line)
+}
+
 /// The line of a refusal.
 pub fn refused(alloc: Global, refusal: Refusal) -> Result<Vec<u8>, AllocError>
     ensures line { IfOk result (λ line. line.items ≡ error_line refusal) }
 {
-    let mut line = Vec::from_slice(alloc, b"error: ")?;
-    line.extend_from_slice(code_and_name(&refusal))?;
-    append_values(alloc, &mut line, &refusal)?;
-    line.push(b'\n')?;
-    Ok(line)
+    refusal_line(alloc, &refusal)
 }
 
 /// The line of an edit that was put.
