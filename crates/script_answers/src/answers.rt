@@ -1,6 +1,7 @@
 //! How answers are written.
 ghost use Rattle.std.specs.Prelude.{◌≡◌, ◌∷◌, ◌++◌, IfOk, OnOk, codes};
 ghost use Rattle.std.specs.List.{flat_map};
+ghost use Rattle.load_path.specs.Paths.{text_of};
 ghost use Rattle.script_answers.specs.Texts.{refusal_name, refusal_values, error_line, ok_line, changed_line, crowd_line, entries_line, entry_line, files_text, content_text, version_text};
 
 use crate::names::{append_name, append_names};
@@ -156,12 +157,19 @@ fn append_version(
     out.extend_from_slice(scratch.as_bytes())
 }
 
+// Appends the path of an entry.
+fn append_path(out: &mut Vec<u8>, placed: &Placed) -> Result<(), AllocError>
+    ensures appended { OnOk result (out.new.items ≡ out.old.items ++ text_of placed.now.0) }
+{
+    placed.path()?.append_to(out)
+}
+
 // Appends the line of an entry.
 fn append_entry(out: &mut Vec<u8>, scratch: &mut String, placed: &Placed) -> Result<(), AllocError>
     ensures appended { OnOk result (out.new.items ≡ out.old.items ++ entry_line placed.now) }
 {
     let entry = placed.entry();
-    placed.path()?.append_to(out)?;
+    append_path(out, placed)?;
     out.push(b' ')?;
     append_version(out, scratch, entry.version)?;
     out.push(b' ')?;
