@@ -1,5 +1,6 @@
 //! From a line to a command.
 ghost use Rattle.std.specs.Prelude.{◌≡◌, [], ◌∷◌, MatchOption};
+ghost use Rattle.std.specs.Str.{bytes_eq};
 ghost use Rattle.script_words.specs.Words.{words_of, text_after};
 ghost use Rattle.script_commands.specs.Commands.{command_of, node_command, put_command, link_command, remove_command, merge_command, part_command, send_command, sweep_command, files_command, cat_command, list_command, plan_command, crowd_command, show_command, workers_command, same_command, question_of, AreNotOne, AreNotTwo, AreNotThree};
 
@@ -14,21 +15,21 @@ pub fn parse(line: &[u8]) -> Result<Command<'_>, Refusal>
     let Some((verb, rest)) = cut_word(line) else {
         return Err(Refusal::UnknownCommand);
     };
-    if verb == b"node".as_slice() {
+    if is_same(verb, b"node") {
         node(rest)
-    } else if verb == b"put".as_slice() {
+    } else if is_same(verb, b"put") {
         put(rest)
-    } else if verb == b"link".as_slice() {
+    } else if is_same(verb, b"link") {
         link(rest)
-    } else if verb == b"remove".as_slice() {
+    } else if is_same(verb, b"remove") {
         remove(rest)
-    } else if verb == b"merge".as_slice() {
+    } else if is_same(verb, b"merge") {
         merge(rest)
-    } else if verb == b"part".as_slice() {
+    } else if is_same(verb, b"part") {
         part(rest)
-    } else if verb == b"send".as_slice() {
+    } else if is_same(verb, b"send") {
         send(rest)
-    } else if verb == b"sweep".as_slice() {
+    } else if is_same(verb, b"sweep") {
         sweep(rest)
     } else {
         question(verb, rest)
@@ -39,25 +40,32 @@ pub fn parse(line: &[u8]) -> Result<Command<'_>, Refusal>
 fn question<'a>(verb: &[u8], rest: &'a [u8]) -> Result<Command<'a>, Refusal>
     ensures command { result ≡ question_of verb.now (words_of rest.now) }
 {
-    if verb == b"files".as_slice() {
+    if is_same(verb, b"files") {
         files(rest)
-    } else if verb == b"cat".as_slice() {
+    } else if is_same(verb, b"cat") {
         cat(rest)
-    } else if verb == b"show".as_slice() {
+    } else if is_same(verb, b"show") {
         show(rest)
-    } else if verb == b"list".as_slice() {
+    } else if is_same(verb, b"list") {
         list(rest)
-    } else if verb == b"plan".as_slice() {
+    } else if is_same(verb, b"plan") {
         plan(rest)
-    } else if verb == b"workers".as_slice() {
+    } else if is_same(verb, b"workers") {
         workers(rest)
-    } else if verb == b"same".as_slice() {
+    } else if is_same(verb, b"same") {
         same(rest)
-    } else if verb == b"crowd".as_slice() {
+    } else if is_same(verb, b"crowd") {
         crowd(rest)
     } else {
         Err(Refusal::UnknownCommand)
     }
+}
+
+// Whether a word is this one.
+fn is_same(word: &[u8], other: &[u8]) -> bool
+    ensures same { result ≡ bytes_eq word.now other.now }
+{
+    word == other
 }
 
 // The word of a line that has just one.
