@@ -1,6 +1,6 @@
 -- What a line asks for.
 -- Source: this project's own.
-use Rattle.std.specs.Prelude.{ℕ, ◌&&◌, codes, if◌then◌else◌, List, [], ◌∷◌, Option, Some, None, Result, Ok, Err, nat_le}
+use Rattle.std.specs.Prelude.{◌≡◌, ◌<◌, ℕ, false, ◌&&◌, codes, if◌then◌else◌, List, [], ◌∷◌, Option, Some, None, Result, Ok, Err, nat_le}
 use Rattle.std.specs.Str.{bytes_eq}
 use Rattle.script_words.specs.Words.{words_of, text_after}
 use Rattle.script_words.specs.Names.{is_name}
@@ -18,9 +18,27 @@ abbrev pub AreNotTwo : List (List ℕ) → Type 0
 AreNotTwo (first ∷ second ∷ []) = ⊥
 AreNotTwo words = Unit {0}
 
-abbrev pub AreNotThree : List (List ℕ) → Type 0
-AreNotThree (first ∷ second ∷ third ∷ []) = ⊥
-AreNotThree words = Unit {0}
+-- these don't begin with a name
+abbrev pub BeginsWithNoName : List (List ℕ) → Type 0
+BeginsWithNoName [] = Unit {0}
+BeginsWithNoName (first ∷ words) = is_name first ≡ false
+
+abbrev pub AreNotOneName : List (List ℕ) → Type 0
+AreNotOneName (name ∷ []) = is_name name ≡ false
+AreNotOneName words = Unit {0}
+
+abbrev pub AreNotTwoNames : List (List ℕ) → Type 0
+AreNotTwoNames (first ∷ second ∷ []) = is_name first && is_name second ≡ false
+AreNotTwoNames words = Unit {0}
+
+abbrev pub AreNotNameAndWord : List (List ℕ) → Type 0
+AreNotNameAndWord (name ∷ word ∷ []) = is_name name ≡ false
+AreNotNameAndWord words = Unit {0}
+
+-- no number of at most 1,000
+abbrev pub IsNoEditCount : Option ℕ → Type 0
+IsNoEditCount None = Unit {0}
+IsNoEditCount (Some edits) = 1000 < edits
 
 abbrev pub node_with : List ℕ → Option ℕ → Result Command Refusal
 node_with name None = Err Arguments

@@ -1,8 +1,10 @@
 //! From a line to a command.
-ghost use Rattle.std.specs.Prelude.{◌≡◌, [], ◌∷◌, MatchOption};
+ghost use Rattle.std.specs.Prelude.{◌≡◌, ◌≤◌, [], ◌∷◌, true, IfSome, MatchOption};
 ghost use Rattle.std.specs.Str.{bytes_eq};
-ghost use Rattle.script_words.specs.Words.{words_of, text_after};
-ghost use Rattle.script_commands.specs.Commands.{command_of, node_command, put_command, link_command, remove_command, merge_command, part_command, send_command, sweep_command, files_command, cat_command, list_command, plan_command, crowd_command, show_command, workers_command, same_command, question_of, AreNotOne, AreNotTwo, AreNotThree};
+ghost use Rattle.script_words.specs.Words.{words_of, after_word, text_after};
+ghost use Rattle.script_commands.specs.Commands.{command_of, node_command, put_command, link_command, remove_command, merge_command, part_command, send_command, sweep_command, files_command, cat_command, list_command, plan_command, crowd_command, show_command, workers_command, same_command, question_of, AreNotOne, AreNotTwo, AreNotOneName, AreNotTwoNames, AreNotNameAndWord, BeginsWithNoName, IsNoEditCount};
+ghost use Rattle.script_words.specs.Names.{is_name};
+ghost use Rattle.script_words.specs.Numbers.{number_of};
 
 use crate::commands::{Command, Refusal, Word, Words};
 use crate::edit_counts::EditCount;
@@ -92,138 +94,148 @@ fn two_words(line: &[u8]) -> Option<(&[u8], &[u8])>
     }
 }
 
-// The three words of a line that has just these.
-fn three_words(line: &[u8]) -> Option<(&[u8], &[u8], &[u8])>
-    ensures three { MatchOption result (AreNotThree (words_of line.now))
-        (λ three. words_of line.now ≡ three.0.now ∷ three.1.now ∷ three.2.now ∷ []) }
+// The name that a line begins with, and what follows it.
+fn cut_name(line: &[u8]) -> Option<(Word<'_>, &[u8])>
+    ensures name { MatchOption result (BeginsWithNoName (words_of line.now)) (λ cut.
+        (words_of line.now ≡ cut.0 ∷ words_of cut.1.now) × (is_name cut.0 ≡ true)) }
+    ensures rest { IfSome result (λ cut. cut.1.now ≡ after_word line.now) }
 {
     let (first, rest) = cut_word(line)?;
-    let (second, third) = two_words(rest)?;
-    Some((first, second, third))
+    if !is_name(first) {
+        return None;
+    }
+    Some((Word::new(first), rest))
+}
+
+// The name and the word of a line that has just these.
+fn name_and_word(line: &[u8]) -> Option<(Word<'_>, Word<'_>)>
+    ensures two { MatchOption result (AreNotNameAndWord (words_of line.now)) (λ two.
+        (words_of line.now ≡ two.0 ∷ two.1 ∷ []) × (is_name two.0 ≡ true)) }
+{
+    let (name, rest) = cut_name(line)?;
+    let word = one_word(rest)?;
+    Some((name, Word::new(word)))
+}
+
+// The two names of a line that has just these.
+fn two_names(line: &[u8]) -> Option<(Word<'_>, Word<'_>)>
+    ensures two { MatchOption result (AreNotTwoNames (words_of line.now)) (λ two.
+        (words_of line.now ≡ two.0 ∷ two.1 ∷ []) × (is_name two.0 ≡ true) × (is_name two.1 ≡ true)) }
+{
+    let (first, rest) = cut_name(line)?;
+    let second = one_name(rest)?;
+    Some((first, second))
+}
+
+// The name of a line that has just this.
+fn one_name(line: &[u8]) -> Option<Word<'_>>
+    ensures one { MatchOption result (AreNotOneName (words_of line.now)) (λ one.
+        (words_of line.now ≡ one ∷ []) × (is_name one ≡ true)) }
+{
+    let (name, rest) = cut_name(line)?;
+    match cut_word(rest) {
+        None => Some(name),
+        Some(_) => None,
+    }
+}
+
+// The number of edits that a word writes.
+fn parse_edit_count(word: &[u8]) -> Option<EditCount>
+    ensures edits { MatchOption result (IsNoEditCount (number_of word.now)) (λ edits.
+        (number_of word.now ≡ Some edits) × (edits ≤ 1000)) }
+{
+    EditCount::of(parse_number(word)?)
 }
 
 fn node(rest: &[u8]) -> Result<Command<'_>, Refusal>
     ensures command { result ≡ node_command (words_of rest.now) }
 {
-    let Some((name, writer)) = two_words(rest) else {
+    let Some((name, writer)) = name_and_word(rest) else {
         return Err(Refusal::Arguments);
     };
-    match parse_number(writer) {
-        Some(writer) if is_name(name) => Ok(Command::Node {
-            name: Word::new(name),
-            writer,
-        }),
-        _ => Err(Refusal::Arguments),
+    match parse_number(writer.as_slice()) {
+        Some(writer) => Ok(Command::Node { name, writer }),
+        None => Err(Refusal::Arguments),
     }
 }
 
 fn put(rest: &[u8]) -> Result<Command<'_>, Refusal>
     ensures command { result ≡ put_command (words_of rest.now) (text_after 2 rest.now) }
 {
-    let Some((node, rest)) = cut_word(rest) else {
+    let Some((node, rest)) = cut_name(rest) else {
         return Err(Refusal::Arguments);
     };
     let Some((path, rest)) = cut_word(rest) else {
         return Err(Refusal::Arguments);
     };
-    if is_name(node) {
-        Ok(Command::Put {
-            node: Word::new(node),
-            path: Word::new(path),
-            text: Word::new(text_of_rest(rest)),
-        })
-    } else {
-        Err(Refusal::Arguments)
-    }
+    Ok(Command::Put {
+        node,
+        path: Word::new(path),
+        text: Word::new(text_of_rest(rest)),
+    })
 }
 
 fn link(rest: &[u8]) -> Result<Command<'_>, Refusal>
     ensures command { result ≡ link_command (words_of rest.now) }
 {
-    let Some((node, path, target)) = three_words(rest) else {
+    let Some((node, rest)) = cut_name(rest) else {
         return Err(Refusal::Arguments);
     };
-    if is_name(node) {
-        Ok(Command::Link {
-            node: Word::new(node),
-            path: Word::new(path),
-            target: Word::new(target),
-        })
-    } else {
-        Err(Refusal::Arguments)
-    }
+    let Some((path, target)) = two_words(rest) else {
+        return Err(Refusal::Arguments);
+    };
+    Ok(Command::Link {
+        node,
+        path: Word::new(path),
+        target: Word::new(target),
+    })
 }
 
 fn remove(rest: &[u8]) -> Result<Command<'_>, Refusal>
     ensures command { result ≡ remove_command (words_of rest.now) }
 {
-    let Some((node, path)) = two_words(rest) else {
+    let Some((node, path)) = name_and_word(rest) else {
         return Err(Refusal::Arguments);
     };
-    if is_name(node) {
-        Ok(Command::Remove {
-            node: Word::new(node),
-            path: Word::new(path),
-        })
-    } else {
-        Err(Refusal::Arguments)
-    }
+    Ok(Command::Remove { node, path })
 }
 
 fn merge(rest: &[u8]) -> Result<Command<'_>, Refusal>
     ensures command { result ≡ merge_command (words_of rest.now) }
 {
-    let Some((from, to)) = two_words(rest) else {
+    let Some((from, to)) = two_names(rest) else {
         return Err(Refusal::Arguments);
     };
-    if is_name(from) && is_name(to) {
-        Ok(Command::Merge {
-            from: Word::new(from),
-            to: Word::new(to),
-        })
-    } else {
-        Err(Refusal::Arguments)
-    }
+    Ok(Command::Merge { from, to })
 }
 
 fn part(rest: &[u8]) -> Result<Command<'_>, Refusal>
     ensures command { result ≡ part_command (words_of rest.now) }
 {
-    let Some((piece, rest)) = cut_word(rest) else {
+    let Some((piece, rest)) = cut_name(rest) else {
         return Err(Refusal::Arguments);
     };
-    let Some((from, rest)) = cut_word(rest) else {
+    let Some((from, rest)) = cut_name(rest) else {
         return Err(Refusal::Arguments);
     };
-    let Some((to, rest)) = cut_word(rest) else {
+    let Some((to, rest)) = cut_name(rest) else {
         return Err(Refusal::Arguments);
     };
-    if is_name(piece) && is_name(from) && is_name(to) {
-        Ok(Command::Part {
-            piece: Word::new(piece),
-            from: Word::new(from),
-            to: Word::new(to),
-            paths: Words::new(rest),
-        })
-    } else {
-        Err(Refusal::Arguments)
-    }
+    Ok(Command::Part {
+        piece,
+        from,
+        to,
+        paths: Words::new(rest),
+    })
 }
 
 fn send(rest: &[u8]) -> Result<Command<'_>, Refusal>
     ensures command { result ≡ send_command (words_of rest.now) }
 {
-    let Some((piece, node)) = two_words(rest) else {
+    let Some((piece, node)) = two_names(rest) else {
         return Err(Refusal::Arguments);
     };
-    if is_name(piece) && is_name(node) {
-        Ok(Command::Send {
-            piece: Word::new(piece),
-            node: Word::new(node),
-        })
-    } else {
-        Err(Refusal::Arguments)
-    }
+    Ok(Command::Send { piece, node })
 }
 
 fn sweep(rest: &[u8]) -> Result<Command<'_>, Refusal>
@@ -238,84 +250,53 @@ fn sweep(rest: &[u8]) -> Result<Command<'_>, Refusal>
 fn files(rest: &[u8]) -> Result<Command<'_>, Refusal>
     ensures command { result ≡ files_command (words_of rest.now) }
 {
-    let Some(node) = one_word(rest) else {
+    let Some(node) = one_name(rest) else {
         return Err(Refusal::Arguments);
     };
-    if is_name(node) {
-        Ok(Command::Files {
-            node: Word::new(node),
-        })
-    } else {
-        Err(Refusal::Arguments)
-    }
+    Ok(Command::Files { node })
 }
 
 fn cat(rest: &[u8]) -> Result<Command<'_>, Refusal>
     ensures command { result ≡ cat_command (words_of rest.now) }
 {
-    let Some((node, unit)) = two_words(rest) else {
+    let Some((node, unit)) = name_and_word(rest) else {
         return Err(Refusal::Arguments);
     };
-    if is_name(node) {
-        Ok(Command::Cat {
-            node: Word::new(node),
-            unit: Word::new(unit),
-        })
-    } else {
-        Err(Refusal::Arguments)
-    }
+    Ok(Command::Cat { node, unit })
 }
 
 fn show(rest: &[u8]) -> Result<Command<'_>, Refusal>
     ensures command { result ≡ show_command (words_of rest.now) }
 {
-    let Some((node, unit)) = two_words(rest) else {
+    let Some((node, unit)) = name_and_word(rest) else {
         return Err(Refusal::Arguments);
     };
-    if is_name(node) {
-        Ok(Command::Show {
-            node: Word::new(node),
-            unit: Word::new(unit),
-        })
-    } else {
-        Err(Refusal::Arguments)
-    }
+    Ok(Command::Show { node, unit })
 }
 
 fn list(rest: &[u8]) -> Result<Command<'_>, Refusal>
     ensures command { result ≡ list_command (words_of rest.now) }
 {
-    let Some((node, unit)) = two_words(rest) else {
+    let Some((node, unit)) = name_and_word(rest) else {
         return Err(Refusal::Arguments);
     };
-    if is_name(node) {
-        Ok(Command::List {
-            node: Word::new(node),
-            unit: Word::new(unit),
-        })
-    } else {
-        Err(Refusal::Arguments)
-    }
+    Ok(Command::List { node, unit })
 }
 
 fn plan(rest: &[u8]) -> Result<Command<'_>, Refusal>
     ensures command { result ≡ plan_command (words_of rest.now) }
 {
-    let Some((node, rest)) = cut_word(rest) else {
+    let Some((node, rest)) = cut_name(rest) else {
         return Err(Refusal::Arguments);
     };
     let Some((unit, rest)) = cut_word(rest) else {
         return Err(Refusal::Arguments);
     };
-    if is_name(node) {
-        Ok(Command::Plan {
-            node: Word::new(node),
-            unit: Word::new(unit),
-            running: Words::new(rest),
-        })
-    } else {
-        Err(Refusal::Arguments)
-    }
+    Ok(Command::Plan {
+        node,
+        unit: Word::new(unit),
+        running: Words::new(rest),
+    })
 }
 
 fn workers(rest: &[u8]) -> Result<Command<'_>, Refusal>
@@ -333,37 +314,23 @@ fn workers(rest: &[u8]) -> Result<Command<'_>, Refusal>
 fn same(rest: &[u8]) -> Result<Command<'_>, Refusal>
     ensures command { result ≡ same_command (words_of rest.now) }
 {
-    let Some((left, right)) = two_words(rest) else {
+    let Some((left, right)) = two_names(rest) else {
         return Err(Refusal::Arguments);
     };
-    if is_name(left) && is_name(right) {
-        Ok(Command::Same {
-            left: Word::new(left),
-            right: Word::new(right),
-        })
-    } else {
-        Err(Refusal::Arguments)
-    }
+    Ok(Command::Same { left, right })
 }
 
 fn crowd(rest: &[u8]) -> Result<Command<'_>, Refusal>
     ensures command { result ≡ crowd_command (words_of rest.now) }
 {
-    let Some((node, seats, edits)) = three_words(rest) else {
+    let Some((node, rest)) = cut_name(rest) else {
         return Err(Refusal::Arguments);
     };
-    let Some(seats) = parse_number(seats) else {
+    let Some((seats, edits)) = two_words(rest) else {
         return Err(Refusal::Arguments);
     };
-    let Some(edits) = parse_number(edits) else {
-        return Err(Refusal::Arguments);
-    };
-    match EditCount::of(edits) {
-        Some(edits) if is_name(node) => Ok(Command::Crowd {
-            node: Word::new(node),
-            seats,
-            edits,
-        }),
+    match (parse_number(seats), parse_edit_count(edits)) {
+        (Some(seats), Some(edits)) => Ok(Command::Crowd { node, seats, edits }),
         _ => Err(Refusal::Arguments),
     }
 }
