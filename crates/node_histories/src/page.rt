@@ -5,13 +5,13 @@ ghost use Rattle.std.specs.Arc.{arc_value};
 ghost use Rattle.edit_sums.specs.Sums.{changed_paths};
 ghost use Rattle.replica_store.specs.Replicas.{next_version};
 ghost use Rattle.node_histories.specs.declared.events.Event.TheVariants.{Opening, Edited, Absorbed};
-ghost use Rattle.node_histories.specs.Histories.{store_of, counter_of, replica_of, takes_in, opening_of, IsLegal};
+ghost use Rattle.node_histories.specs.Histories.{store_of, counter_of, replica_of, takes_in, opening_of, all_edits, IsLegal, IsNext};
 ghost use Rattle.node_histories.specs.Books.{head_of};
 ghost use Rattle.node_histories.specs.Codes.{replica-prop, IsLegal-prop};
 
 use crate::book::{Head, History, NodeName};
 use crate::events::{AskedEdit, AskedPiece};
-use crate::fronts::Front;
+use crate::fronts::{Front, Turn};
 use delta_pieces::{Piece, take};
 use edit_sums::{Content, Edit};
 use join_law::Version;
@@ -45,6 +45,29 @@ fn page_of<N: NodeName>(front: &Front<N>, replica: Arc<Replica, Global>) -> Page
         takes: front.takes(),
         seen: front.history(),
     }
+}
+
+// Adds the turn's event to the history, and gives the page of a replica that has the event already.
+fn turned_page<N: NodeName>(
+    turn: Turn<N>,
+    head: &Head,
+    replica: Replica,
+) -> Result<Page, AllocError>
+    requires head { head.now ≡ head_of N.book }
+    requires room { takes_in turn.seen < 2 ^ 64 - 1 }
+    requires legal { IsNext N.opening.writer (all_edits turn.seen) turn.ask }
+    requires kept { replica ≡ replica_of (turn.seen ++ turn.ask ∷ []) }
+    ensures log { IfOk result (λ page. page.seen.log ≡ turn.seen ++ turn.ask ∷ []) }
+    ensures book { IfOk result (λ page. page.seen.book ≡ N.book) }
+    ensures opening { IfOk result (λ page. opening_of page.seen.log ≡ N.opening) }
+    ensures replica { IfOk result (λ page. replica ≡ replica_of page.seen.log) }
+{
+    let alloc = replica.store().allocator();
+    let shared = Arc::new(alloc, replica)?;
+    let Some(front) = turn.add(head) else {
+        return Err(AllocError);
+    };
+    Ok(page_of(&front, shared))
 }
 
 impl Page {
@@ -114,6 +137,38 @@ impl Page {
         front.onward(self.takes, &self.seen)
     }
 
+    // What it has seen, with an edit that is to come next, and what the edit writes.
+    fn turn_to_edit<N: NodeName>(&self, seat: u64, edit: Edit) -> (Turn<N>, Path, Content)
+        requires book { self.now.seen.book ≡ N.book }
+        requires opening { opening_of self.now.seen.log ≡ N.opening }
+        ensures seen { result.0.seen ≡ self.now.seen.log }
+        ensures ask { result.0.ask ≡ Edited seat edit }
+        ensures path { result.1 ≡ edit.path }
+        ensures content { result.2 ≡ edit.content }
+    {
+        let asked = AskedEdit { seat, edit };
+        let turn = self.front::<N>().ask_edit(&asked);
+        let Edit {
+            path,
+            version: _,
+            content,
+        } = asked.edit;
+        (turn, path, content)
+    }
+
+    // What it has seen, with a piece that is to come next, and the piece.
+    fn turn_to_piece<N: NodeName>(&self, seat: u64, piece: Piece) -> (Turn<N>, Piece)
+        requires book { self.now.seen.book ≡ N.book }
+        requires opening { opening_of self.now.seen.log ≡ N.opening }
+        ensures seen { result.0.seen ≡ self.now.seen.log }
+        ensures ask { result.0.ask ≡ Absorbed seat piece }
+        ensures piece { result.1 ≡ piece }
+    {
+        let asked = AskedPiece { seat, piece };
+        let turn = self.front::<N>().ask_piece(&asked);
+        (turn, asked.piece)
+    }
+
     /// The page with an edit more, under the next version, which then stands in the history too. One copy of the
     /// replica, which copies no contents. It fails for want of memory alone; the history is then as it was.
     pub fn with_edit<N: NodeName>(
@@ -134,7 +189,6 @@ impl Page {
         ensures book { IfOk result (λ r. r.1.seen.book ≡ N.book) }
         ensures opening { IfOk result (λ r. opening_of r.1.seen.log ≡ N.opening) }
     {
-        let alloc = self.replica.store().allocator();
         let mut replica = self.replica.try_clone()?;
         let version = Version {
             counter: self.counter() + 1,
@@ -145,24 +199,12 @@ impl Page {
             version,
             content,
         };
-        let asked = AskedEdit { seat, edit };
-        let turn = self.front::<N>().ask_edit(&asked);
-        let AskedEdit {
-            seat: _,
-            edit: Edit {
-                path,
-                version: _,
-                content,
-            },
-        } = asked;
+        let (turn, path, content) = self.turn_to_edit::<N>(seat, edit);
         let Ok(version) = replica.put(path, content) else {
             return Err(AllocError);
         };
-        let shared = Arc::new(alloc, replica)?;
-        let Some(front) = turn.add(head) else {
-            return Err(AllocError);
-        };
-        Ok((version, page_of(&front, shared)))
+        let page = turned_page(turn, head, replica)?;
+        Ok((version, page))
     }
 
     /// The page with a piece more, which then stands in the history too, and how many paths changed. One copy of the
@@ -182,19 +224,13 @@ impl Page {
         ensures book { IfOk result (λ r. r.1.seen.book ≡ N.book) }
         ensures opening { IfOk result (λ r. opening_of r.1.seen.log ≡ N.opening) }
     {
-        let alloc = self.replica.store().allocator();
         let mut replica = self.replica.try_clone()?;
-        let asked = AskedPiece { seat, piece };
-        let turn = self.front::<N>().ask_piece(&asked);
-        let AskedPiece { seat: _, piece } = asked;
+        let (turn, piece) = self.turn_to_piece::<N>(seat, piece);
         let Ok(changed) = take(&mut replica, piece) else {
             return Err(AllocError);
         };
-        let shared = Arc::new(alloc, replica)?;
-        let Some(front) = turn.add(head) else {
-            return Err(AllocError);
-        };
-        Ok((changed, page_of(&front, shared)))
+        let page = turned_page(turn, head, replica)?;
+        Ok((changed, page))
     }
 }
 
