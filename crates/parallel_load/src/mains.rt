@@ -1,5 +1,5 @@
 //! Dependencies by main names.
-ghost use Rattle.std.specs.Prelude.{◌≡◌, IfOk, IsTrue, map};
+ghost use Rattle.std.specs.Prelude.{◌≡◌, IfOk, IsTrue, OnOk, map};
 ghost use Rattle.std.specs.List.{filter_map};
 ghost use Rattle.std.specs.FinMap.{is_sorted};
 ghost use Rattle.unit_name.specs.Names.{name_cmp};
@@ -14,6 +14,7 @@ use setting_rules::{DependencyList, in_byte_order};
 use sorted_pairs::seek;
 use std::alloc::{AllocError, Global};
 use std::marker::Model;
+use std::mem;
 use unit_loads::Unit;
 use unit_name::UnitName;
 
@@ -86,13 +87,26 @@ impl Aliases {
         ensures unit { IfOk result (λ settled. settled ≡ by_mains (main_by self.now) unit) }
     {
         let mut unit = unit;
-        let lists = unit.deps.into_vec();
-        let mut deps = Vec::with_capacity(alloc, lists.len())?;
-        for list in lists {
-            deps.push(self.settle_list(alloc, &unit.name, list)?)?;
-        }
-        unit.deps = Items::from_vec(deps);
+        self.settle_lists(alloc, &unit.name, &mut unit.deps)?;
         Ok(unit)
+    }
+
+    // Puts main names into the lists of a unit's dependencies.
+    fn settle_lists(
+        &self,
+        alloc: Global,
+        unit: &UnitName,
+        lists: &mut Items<DependencyList>,
+    ) -> Result<(), AllocError>
+        ensures lists { OnOk result (lists.new ≡ map (list_by_mains (main_by self.now) unit.now) lists.old) }
+    {
+        let found = mem::replace(lists, Items::new(alloc)).into_vec();
+        let mut settled = Vec::with_capacity(alloc, found.len())?;
+        for list in found {
+            settled.push(self.settle_list(alloc, unit, list)?)?;
+        }
+        *lists = Items::from_vec(settled);
+        Ok(())
     }
 
     // A list of a unit's dependencies by main names. It takes memory only where an alias or the unit is among them.
