@@ -96,13 +96,14 @@ fn unloaded(
     ensures status { IfOk result (λ unit. unit.status ≡ status) }
     ensures nothing { IfOk result HasNothing }
 {
+    let deps = lists_without_names(alloc)?;
     Ok(Unit {
         name,
         names: Items::from_vec(names),
         status,
         dropins: Items::new(alloc),
         values: Items::new(alloc),
-        deps: lists_without_names(alloc)?,
+        deps,
         notes: Items::new(alloc),
         manual: false,
     })
