@@ -29,9 +29,7 @@ pub fn read_paths(alloc: Global, mut texts: Words<'_>) -> Result<Vec<Path>, Faul
     let mut paths = Vec::new(alloc);
     while let Some(text) = texts.take_first() {
         let path = read_path(alloc, text)?;
-        if paths.push(path).is_err() {
-            return Err(Fault::Memory);
-        }
+        paths.push(path)?;
     }
     Ok(paths)
 }
