@@ -29,6 +29,14 @@ pub record IsList (s : EntryMap) (n : Name) (text : List ℕ) : Type 0 where
   pub depths_are : AreDepths (record { load = load; edges = edges }) n pairs
   pub text_is : text ≡ list_text pairs
 
+-- the text lists what the unit of a name pulls in a load
+pub record IsListIn (load : LoadMap) (n : Name) (text : List ℕ) : Type 0 where
+  pub edges : EdgeMap
+  pub edges_are : AreEdges load edges
+  pub pairs : List (ℕ × Name)
+  pub depths_are : AreDepths (record { load = load; edges = edges }) n pairs
+  pub text_is : text ≡ list_text pairs
+
 -- what the unit pulls that a word stands for in a store is told, or it is said why not
 abbrev pub TellsList : List ℕ → EntryMap → Outcome → Type 0
 TellsList = TellsWord IsList

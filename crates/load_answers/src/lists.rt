@@ -1,14 +1,16 @@
 //! What a unit pulls, as its load has it.
 ghost use Rattle.std.specs.Prelude.{◌≡◌, ◌++◌, IfOk, OnOk};
 ghost use Rattle.std.specs.List.{flat_map};
+ghost use Rattle.unit_graph.specs.Graphs.{IsKnown};
 ghost use Rattle.script_commands.specs.Outcomes.{IsSaid};
 ghost use Rattle.load_answers.specs.Asks.{TellsLoad};
-ghost use Rattle.load_answers.specs.Lists.{IsList, TellsList, depth_line, list_text};
+ghost use Rattle.load_answers.specs.Lists.{IsList, IsListIn, TellsList, depth_line, list_text};
 
 use crate::asks::read_unit;
 use crate::crews::Crew;
 use crate::loads::load_for;
 use inverse_deps::edges;
+use parallel_load::Loaded;
 use replica_store::Store;
 use script_commands::Fault;
 use std::alloc::{AllocError, Global};
@@ -46,10 +48,18 @@ fn list_loaded<R: Threads + Sync>(
 {
     let asked = [name];
     let loaded = load_for(rt, alloc, store, &asked, workers)?;
-    let edges = edges(alloc, &loaded)?;
-    let graph = Graph::build(alloc, &loaded, &edges)?;
-    let pairs = graph.depths(alloc, &asked[0])?;
-    Ok(list_text(alloc, &pairs)?)
+    Ok(pulled_text(alloc, &loaded, &asked[0])?)
+}
+
+// What a unit of a load pulls, as it is written.
+fn pulled_text(alloc: Global, loaded: &Loaded, name: &UnitName) -> Result<Vec<u8>, AllocError>
+    requires known { IsKnown loaded.now name.now }
+    ensures text { IfOk result (λ text. IsListIn loaded.now name.now text.items) }
+{
+    let edges = edges(alloc, loaded)?;
+    let graph = Graph::build(alloc, loaded, &edges)?;
+    let pairs = graph.depths(alloc, name)?;
+    list_text(alloc, &pairs)
 }
 
 // Units with their distances, as they are written.

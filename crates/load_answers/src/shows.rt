@@ -4,7 +4,7 @@ ghost use Rattle.std.specs.Option.{option_and_then};
 ghost use Rattle.parallel_load.specs.Loads.{main_in, unit_in};
 ghost use Rattle.script_commands.specs.Outcomes.{IsSaid};
 ghost use Rattle.load_answers.specs.Asks.{TellsLoad};
-ghost use Rattle.load_answers.specs.Shows.{IsShow, TellsUnit};
+ghost use Rattle.load_answers.specs.Shows.{IsShow, IsShowIn, TellsUnit};
 
 use crate::asks::read_unit;
 use crate::crews::Crew;
@@ -14,7 +14,7 @@ use inverse_deps::edges;
 use parallel_load::{Loaded, Unit};
 use replica_store::Store;
 use script_commands::Fault;
-use std::alloc::Global;
+use std::alloc::{AllocError, Global};
 use std::thread::Threads;
 use unit_name::UnitName;
 
@@ -48,8 +48,16 @@ fn tell_loaded<R: Threads + Sync>(
 {
     let asked = [name];
     let loaded = load_for(rt, alloc, store, &asked, workers)?;
-    let edges = edges(alloc, &loaded)?;
-    Ok(unit_text(alloc, unit_of(&loaded, &asked[0]), &edges)?)
+    Ok(shown_text(alloc, &loaded, &asked[0])?)
+}
+
+// A unit of a load, as it is written.
+fn shown_text(alloc: Global, loaded: &Loaded, name: &UnitName) -> Result<Vec<u8>, AllocError>
+    requires there { IsSome (option_and_then (unit_in loaded.now) (main_in loaded.now name.now)) }
+    ensures text { IfOk result (λ text. IsShowIn loaded.now name.now text.items) }
+{
+    let edges = edges(alloc, loaded)?;
+    unit_text(alloc, unit_of(loaded, name), &edges)
 }
 
 // The unit of a name of a load.
