@@ -2,3 +2,4 @@ pub mod Seeing
 pub mod Latest
 pub mod Counting
 pub mod Auditing
+pub mod Taken

@@ -82,7 +82,9 @@ impl<N: NodeName> Keeper<N> {
     // A seat that has made no take, of the next number.
     pub(crate) fn seat(self) -> (Keeper<N>, Option<Seat<N>>)
         ensures kept { (result.0.shown ≡ self.shown) × (result.0.accepted ≡ self.accepted) }
-        ensures fresh { IfSome result.1 (λ s. (s.calls ≡ 0) × (s.seen ≡ self.shown) × (s.number ≡ self.given)) }
+        ensures calls { IfSome result.1 (λ s. s.calls ≡ 0) }
+        ensures seen { IfSome result.1 (λ s. s.seen ≡ self.shown) }
+        ensures number { IfSome result.1 (λ s. s.number ≡ self.given) }
         ensures within { IfSome result.1 (λ s. s.number < N.seats) }
         ensures legal { IfSome result.1 (λ s. IsLegal N.opening s.seen) }
         ensures given { IfSome result.1 (λ _. result.0.given ≡ self.given + 1) }
@@ -132,6 +134,23 @@ impl<N: NodeName> Keeper<N> {
         ensures replica { IfOk result (λ replica. replica ≡ replica_of self.now.shown) }
     {
         self.post.page().replica().try_clone()
+    }
+
+    // Publishes a take that is pending, and copies the replica that is then published.
+    pub(crate) fn flushed_replica<R: Wait>(self, rt: &R) -> (Keeper<N>, Result<Replica, AllocError>)
+        ensures accepted { result.0.accepted ≡ self.accepted }
+        ensures given { result.0.given ≡ self.given }
+        ensures shown { IfOk result.1 (λ _. result.0.shown ≡ self.accepted) }
+        ensures replica { IfOk result.1 (λ replica. replica ≡ replica_of self.accepted) }
+    {
+        let (keeper, sent) = self.flush(rt);
+        match sent {
+            Ok(()) => {
+                let copied = keeper.replica();
+                (keeper, copied)
+            }
+            Err(fault) => (keeper, Err(fault)),
+        }
     }
 
     // Ends the node, and gives what was published last.

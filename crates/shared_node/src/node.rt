@@ -121,6 +121,22 @@ fn node_of<N: NodeName>(keeper: Keeper<N>) -> Node<N> {
     }
 }
 
+// What is left of a node whose keeper shows this replica.
+fn wind_up<N: NodeName, R: Wait>(keeper: Keeper<N>, rt: &R, replica: Replica) -> Closed
+    ensures replica { result.replica ≡ replica }
+    ensures log { result.seen.log ≡ keeper.shown }
+    ensures takes { result.takes ≡ takes_in keeper.shown }
+    ensures legal { IsLegal N.opening result.seen.log }
+    ensures book { result.seen.book ≡ N.book }
+{
+    let page = keeper.close(rt);
+    Closed {
+        replica,
+        takes: page.takes(),
+        seen: page.seen.again(),
+    }
+}
+
 impl<N: NodeName> Node<N> {
     /// Opens the node that N names, whose blank it has to be. It takes no memory. Its history has no takes.
     pub fn open(blank: Blank) -> Node<N>
@@ -234,23 +250,13 @@ impl<N: NodeName> Node<N> {
             let node = node_of(keeper);
             return Err(CloseFault { node, seats, cause });
         }
-        let (keeper, sent) = keeper.flush(rt);
-        if sent.is_err() {
-            let node = node_of(keeper);
-            let cause = CloseCause::Memory;
-            return Err(CloseFault { node, seats, cause });
-        }
-        let Ok(replica) = keeper.replica() else {
+        let (keeper, copied) = keeper.flushed_replica(rt);
+        let Ok(replica) = copied else {
             let node = node_of(keeper);
             let cause = CloseCause::Memory;
             return Err(CloseFault { node, seats, cause });
         };
-        let page = keeper.close(rt);
-        Ok(Closed {
-            replica,
-            takes: page.takes(),
-            seen: page.seen.again(),
-        })
+        Ok(wind_up(keeper, rt, replica))
     }
 
     /// Ends the node, whatever seats it gave: the way out where a seat is lost, so that `close` can't be answered. A

@@ -1,7 +1,7 @@
 //! A seat that does what an inbox says.
 ghost use Rattle.std.specs.Prelude.{◌≡◌, ◌+◌};
 ghost use mathlib.Core.List.{IsPrefix};
-ghost use Rattle.shared_node.specs.Steps.{calls_of, calls_in};
+ghost use Rattle.shared_node.specs.Steps.{calls_of, calls_in, step_at};
 
 use crate::faults::NodeFault;
 use crate::node::Node;
@@ -41,6 +41,17 @@ enum Step {
     Refused,
 }
 
+// How a take went.
+fn step_of<N: NodeName, T>(taken: &Result<T, NodeFault<N>>) -> Step
+    ensures { result ≡ step_at taken.now }
+{
+    match taken {
+        Ok(_) => Step::Answered,
+        Err(NodeFault::Pending { version: _ }) => Step::Pending,
+        Err(_) => Step::Refused,
+    }
+}
+
 // Takes an edit.
 fn do_edit<N: NodeName, R: Wait>(
     rt: &R,
@@ -52,11 +63,8 @@ fn do_edit<N: NodeName, R: Wait>(
     ensures calls { seat.new.calls ≡ seat.old.calls + calls_of result }
     ensures seen { IsPrefix seat.old.seen seat.new.seen }
 {
-    match node.edit(rt, seat, path, content) {
-        Ok(_) => Step::Answered,
-        Err(NodeFault::Pending { version: _ }) => Step::Pending,
-        Err(_) => Step::Refused,
-    }
+    let taken = node.edit(rt, seat, path, content);
+    step_of(&taken)
 }
 
 // Takes a piece.
@@ -64,11 +72,8 @@ fn do_absorb<N: NodeName, R: Wait>(rt: &R, node: &Node<N>, seat: &mut Seat<N>, p
     ensures calls { seat.new.calls ≡ seat.old.calls + calls_of result }
     ensures seen { IsPrefix seat.old.seen seat.new.seen }
 {
-    match node.absorb(rt, seat, piece) {
-        Ok(_) => Step::Answered,
-        Err(NodeFault::Pending { version: _ }) => Step::Pending,
-        Err(_) => Step::Refused,
-    }
+    let taken = node.absorb(rt, seat, piece);
+    step_of(&taken)
 }
 
 // Does what one message says, once the gate lets it; nothing at the end.

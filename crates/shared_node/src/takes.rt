@@ -40,6 +40,23 @@ impl<N: NodeName> Keeper<N> {
         Ok(())
     }
 
+    // Sees that the seat may take an edit. Nothing changes.
+    fn may_edit(&self, seat: &Seat<N>) -> Result<(), NodeFault<N>>
+        ensures begun { IfOk result (λ _. IsPrefix seat.now.seen self.now.accepted) }
+        ensures room { IfOk result (λ _. takes_in self.now.accepted < 2 ^ 64 - 1) }
+        ensures counter { IfOk result (λ _. counter_of self.now.accepted < 2 ^ 64 - 1) }
+        ensures calls { IfOk result (λ _. seat.now.calls < 2 ^ 64 - 1) }
+        ensures number { IfOk result (λ _. seat.now.number < N.seats) }
+        ensures early { IfErr result (λ f. IsEarly f) }
+        ensures fault { IfErr result (λ f. AtFault N.opening f seat.now seat.now) }
+    {
+        self.may_take(seat)?;
+        if self.account.counter() == u64::MAX {
+            return Err(NodeFault::VersionsSpent);
+        }
+        Ok(())
+    }
+
     // Accepts an edit, and publishes nothing.
     fn accept(
         self,
@@ -127,6 +144,53 @@ impl<N: NodeName> Keeper<N> {
         }
     }
 
+    // Publishes a take that is pending, and accepts an edit after it.
+    fn accept_next<R: Wait>(
+        self,
+        rt: &R,
+        seat: usize,
+        path: Path,
+        content: Content,
+    ) -> (Keeper<N>, Result<Version, AllocError>)
+        requires seat { seat < N.seats }
+        requires room { takes_in self.accepted < 2 ^ 64 - 1 }
+        requires counter { counter_of self.accepted < 2 ^ 64 - 1 }
+        ensures given { result.0.given ≡ self.given }
+        ensures accepted { MatchResult result.1
+            (λ version. result.0.accepted ≡ self.accepted
+            ++ Edited seat (record { path = path; version = version; content = content }) ∷ [])
+            (λ _. result.0.accepted ≡ self.accepted) }
+    {
+        let (keeper, sent) = self.flush(rt);
+        match sent {
+            Ok(()) => keeper.accept(seat, path, content),
+            Err(fault) => (keeper, Err(fault)),
+        }
+    }
+
+    // Publishes a take that is pending, and accepts a piece after it.
+    fn accept_next_piece<R: Wait>(
+        self,
+        rt: &R,
+        seat: usize,
+        piece: Piece,
+    ) -> (Keeper<N>, Result<u64, AllocError>)
+        requires seat { seat < N.seats }
+        requires room { takes_in self.accepted < 2 ^ 64 - 1 }
+        ensures given { result.0.given ≡ self.given }
+        ensures accepted { MatchResult result.1
+            (λ _. result.0.accepted ≡ self.accepted ++ Absorbed seat piece ∷ [])
+            (λ _. result.0.accepted ≡ self.accepted) }
+        ensures changed { IfOk result.1 (λ changed. changed
+            ≡ changed_paths (store_of self.accepted) (store_of result.0.accepted)) }
+    {
+        let (keeper, sent) = self.flush(rt);
+        match sent {
+            Ok(()) => keeper.accept_piece(seat, piece),
+            Err(fault) => (keeper, Err(fault)),
+        }
+    }
+
     // Counts the take that was accepted, and publishes it.
     fn finish<R: Wait>(self, rt: &R, seat: &mut Seat<N>) -> (Keeper<N>, Option<Told<N>>)
         requires calls { seat.old.calls < 2 ^ 64 - 1 }
@@ -168,17 +232,10 @@ impl<N: NodeName> Keeper<N> {
             (λ f. AcceptsEdit f seat.old.number path content self.accepted result.0.accepted) }
         ensures early { IfErr result.1 (λ f. IsEarly f → result.0 ≡ self) }
     {
-        if let Err(fault) = self.may_take(seat) {
+        if let Err(fault) = self.may_edit(seat) {
             return (self, Err(fault));
         }
-        if self.account.counter() == u64::MAX {
-            return (self, Err(NodeFault::VersionsSpent));
-        }
-        let (keeper, sent) = self.flush(rt);
-        if sent.is_err() {
-            return (keeper, Err(NodeFault::Memory));
-        }
-        let (keeper, accepted) = keeper.accept(seat.number, path, content);
+        let (keeper, accepted) = self.accept_next(rt, seat.number, path, content);
         let Ok(version) = accepted else {
             return (keeper, Err(NodeFault::Memory));
         };
@@ -213,11 +270,7 @@ impl<N: NodeName> Keeper<N> {
         if let Err(fault) = self.may_take(seat) {
             return (self, Err(fault));
         }
-        let (keeper, sent) = self.flush(rt);
-        if sent.is_err() {
-            return (keeper, Err(NodeFault::Memory));
-        }
-        let (keeper, accepted) = keeper.accept_piece(seat.number, piece);
+        let (keeper, accepted) = self.accept_next_piece(rt, seat.number, piece);
         let Ok(changed) = accepted else {
             return (keeper, Err(NodeFault::Memory));
         };
