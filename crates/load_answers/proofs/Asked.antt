@@ -10,7 +10,6 @@ use Rattle.parallel_load.specs.Loads.{IsLoad, LoadMap, main_in, unit_in}
 use Rattle.parallel_load.specs.Universe.{IsInUniverse, IsTooLarge}
 use Rattle.parallel_load.specs.UniverseLaws.{HasUnit, mains_have_units, names_have_mains}
 use Rattle.inverse_deps.specs.Edges.{AreEdges, EdgeMap}
-use Rattle.load_answers.specs.Lines.{unit_text}
 use Rattle.unit_graph.specs.Graphs.{AreDepths, GraphMap}
 use Rattle.load_answers.specs.Asks.{TellsLoad}
 use Rattle.load_answers.specs.Lists.{IsList, IsListIn, list_text}
