@@ -3,3 +3,4 @@ pub mod Outcomes
 pub mod PlanLaws
 pub mod Requests
 pub mod Tellings
+pub mod Numbered

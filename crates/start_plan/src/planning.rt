@@ -1,15 +1,38 @@
 //! The plan of a request.
 ghost use Rattle.std.specs.Prelude.{IfOk, IfErr};
+ghost use Rattle.index_rows.specs.Numbering.{IsNumbering};
+ghost use Rattle.unit_name.specs.Names.{name_cmp};
+ghost use Rattle.plan_choice.specs.RowRefusals.{refusal_of};
+ghost use Rattle.inverse_deps.specs.Numbers.{count_of, name_at};
+ghost use Rattle.start_plan.specs.Numbered.{IsNumberedPlan, IsNumberedRefusal};
 ghost use Rattle.start_plan.specs.Outcomes.{IsPlanned, IsRefusalOf};
-ghost use Rattle.start_plan.specs.Requests.{IsOfGraph};
+ghost use Rattle.start_plan.specs.Requests.{AsksTemplate, IsOfGraph};
 
 use crate::cases::case_of;
 use crate::checks::asks_template;
 use crate::names::{named_plan, named_refusal};
 use crate::requests::{Plan, Refusal, Request};
-use plan_choice::plan_rows;
-use std::alloc::Global;
+use plan_choice::{RowPlan, RowRefusal, plan_rows};
+use std::alloc::{AllocError, Global};
 use unit_graph::Graph;
+
+// The answer by numbers, to a request without templates.
+fn numbered_answer(
+    alloc: Global,
+    graph: &Graph,
+    request: &Request,
+) -> Result<Result<RowPlan, RowRefusal>, AllocError>
+    requires names { IsOfGraph graph.now.load request.now }
+    requires whole { ¬ AsksTemplate request.now }
+    ensures order { IfOk result (λ _. IsNumbering (count_of graph.now.load) (name_at graph.now.load) name_cmp) }
+    ensures plan { IfOk result (λ answer. IfOk answer (λ plan. IsNumberedPlan graph.now.load graph.now.edges request.now
+        plan.stops.items plan.starts.items)) }
+    ensures refusal { IfOk result (λ answer. IfErr answer (λ refusal. IsNumberedRefusal graph.now.load graph.now.edges
+        request.now (refusal_of refusal))) }
+{
+    let case = case_of(alloc, graph, request)?;
+    plan_rows(alloc, &case)
+}
 
 /// Which units start, in which order, and which stop, or the first reason why not. Each name of the request is a template
 /// or stands for a unit of the graph.
@@ -25,8 +48,7 @@ pub fn plan(alloc: Global, graph: &Graph, request: &Request) -> Result<Plan, Ref
     if asks_template(request) {
         return Err(Refusal::Template);
     }
-    let case = case_of(alloc, graph, request)?;
-    match plan_rows(alloc, &case)? {
+    match numbered_answer(alloc, graph, request)? {
         Ok(plan) => Ok(named_plan(alloc, graph.loaded(), &plan)?),
         Err(refusal) => Err(named_refusal(alloc, graph.loaded(), &refusal)?),
     }

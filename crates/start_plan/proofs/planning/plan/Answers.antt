@@ -1,16 +1,15 @@
 use Rattle.std.proofs.Common.{◌≡◌, ◌<◌, List, Result, IfOk, IfErr, false, true, map, ap, sym, subst, ◌∙◌}
 use Rattle.std.specs.List.{All}
-use Rattle.std.specs.Ordering.{nat_cmp}
 use Rattle.std.specs.Cmp.Lexicographic.{nat_list_cmp_total}
 use Rattle.plan_choice.specs.declared.answers.RowPlan.{RowPlan}
 use Rattle.plan_choice.specs.declared.answers.RowRefusal.{RowRefusal}
-use Rattle.plan_choice.specs.Answers.{IsPlan, IsRefusal}
+use Rattle.plan_choice.specs.Answers.{IsPlan}
 use Rattle.plan_choice.specs.NamedPlans.{plan_named}
-use Rattle.plan_choice.specs.RowCases.{case_of as case_of_rows}
 use Rattle.plan_choice.specs.RowRefusals.{refusal_of}
 use Rattle.unit_name.specs.Names.{Name, name_cmp}
 use Rattle.parallel_load.specs.Loads.{LoadMap}
 use Rattle.inverse_deps.specs.Numbers.{count_of, name_at}
+use Rattle.start_plan.specs.Numbered.{IsNumberedPlan, IsNumberedRefusal}
 use Rattle.start_plan.specs.Requests.{AsksTemplate, case_of}
 use Rattle.start_plan.specs.Tellings.{IsTellable, IsToldBy}
 use Rattle.start_plan.proofs.Answering.{stops_below, starts_below, tellable, told}
@@ -20,27 +19,24 @@ use Rattle.start_plan.proofs.planning.plan.Goals as goal
 pub named_plan-requires-clause-stops : goal.named_plan-requires-clause-stops
 named_plan-requires-clause-stops c =
     let load = c.args.graph.now.load in
-    let case = case_of_rows c.in_ok-case.case in
-    let P : Result RowPlan RowRefusal → Type 0 = λ o. IfOk o (λ plan. IsPlan nat_cmp case plan.stops.items plan.starts.items) in
+    let P : Result RowPlan RowRefusal → Type 0 = λ o. IfOk o (λ plan. IsNumberedPlan load c.args.graph.now.edges c.args.request.now plan.stops.items plan.starts.items) in
     let p = subst P c.in-Ok.is c.in_ok-plan.ensures.plan in
     let L : LoadMap → Type 0 = λ m. All (λ i. i < count_of m) c.in-Ok.plan.stops.items in
-    subst L (sym c.loaded.ensures.load) (stops_below load c.args.graph.now.edges c.args.request.now c.in_ok-case.ensures.order case c.in_ok-case.ensures.case _ c.in-Ok.plan.starts.items p)
+    subst L (sym c.loaded.ensures.load) (stops_below load c.args.graph.now.edges c.args.request.now c.in_ok-plan.ensures.order p.case p.named _ c.in-Ok.plan.starts.items p.planned)
 
 pub named_plan-requires-clause-starts : goal.named_plan-requires-clause-starts
 named_plan-requires-clause-starts c =
     let load = c.args.graph.now.load in
-    let case = case_of_rows c.in_ok-case.case in
-    let P : Result RowPlan RowRefusal → Type 0 = λ o. IfOk o (λ plan. IsPlan nat_cmp case plan.stops.items plan.starts.items) in
+    let P : Result RowPlan RowRefusal → Type 0 = λ o. IfOk o (λ plan. IsNumberedPlan load c.args.graph.now.edges c.args.request.now plan.stops.items plan.starts.items) in
     let p = subst P c.in-Ok.is c.in_ok-plan.ensures.plan in
     let L : LoadMap → Type 0 = λ m. All (λ i. i < count_of m) c.in-Ok.plan.starts.items in
-    subst L (sym c.loaded.ensures.load) (starts_below load c.args.graph.now.edges c.args.request.now c.in_ok-case.ensures.order case c.in_ok-case.ensures.case c.in-Ok.plan.stops.items _ p)
+    subst L (sym c.loaded.ensures.load) (starts_below load c.args.graph.now.edges c.args.request.now c.in_ok-plan.ensures.order p.case p.named c.in-Ok.plan.stops.items _ p.planned)
 
-pub returns-in-Ok-clause-plan : goal.returns-in-Ok-clause-plan
-returns-in-Ok-clause-plan c =
+pub returns-in_ok-named_plan-in-Ok-clause-plan : goal.returns-in_ok-named_plan-in-Ok-clause-plan
+returns-in_ok-named_plan-in-Ok-clause-plan c =
     let load = c.args.graph.now.load in
     let names = case_of load c.args.graph.now.edges c.args.request.now in
-    let case = case_of_rows c.in_ok-case.case in
-    let P : Result RowPlan RowRefusal → Type 0 = λ o. IfOk o (λ plan. IsPlan nat_cmp case plan.stops.items plan.starts.items) in
+    let P : Result RowPlan RowRefusal → Type 0 = λ o. IfOk o (λ plan. IsNumberedPlan load c.args.graph.now.edges c.args.request.now plan.stops.items plan.starts.items) in
     let p = subst P c.in-Ok.is c.in_ok-plan.ensures.plan in
     let named = c.in_ok-named_plan-in-Ok.ensures in
     let stop : c.in_ok-named_plan-in-Ok.field-0.stop ≡ map (name_at load) c.in-Ok.plan.stops.items = named.stop ∙ ap (λ m. map (name_at m) c.in-Ok.plan.stops.items) c.loaded.ensures.load in
@@ -50,30 +46,28 @@ returns-in-Ok-clause-plan c =
     record {
       no_template = λ h. (let f : false ≡ true = c.if-asks_template.ensures.template.1 h in cc (f));
       planned = subst A (sym stop) (subst B (sym start)
-          (plan_named (count_of load) (name_at load) name_cmp nat_list_cmp_total c.in_ok-case.ensures.order case names c.in_ok-case.ensures.case _ _ p));
+          (plan_named (count_of load) (name_at load) name_cmp nat_list_cmp_total c.in_ok-plan.ensures.order p.case names p.named _ _ p.planned));
     }
 
 pub named_refusal-requires : goal.named_refusal-requires
 named_refusal-requires c =
     let load = c.args.graph.now.load in
-    let case = case_of_rows c.in_ok-case.case in
-    let P : Result RowPlan RowRefusal → Type 0 = λ o. IfErr o (λ refusal. IsRefusal nat_cmp case (refusal_of refusal)) in
+    let P : Result RowPlan RowRefusal → Type 0 = λ o. IfErr o (λ refusal. IsNumberedRefusal load c.args.graph.now.edges c.args.request.now (refusal_of refusal)) in
     let r = subst P c.in-Err.is c.in_ok-plan.ensures.refusal in
     let whole : ¬ AsksTemplate c.args.request.now = λ h. (let f : false ≡ true = c.if-asks_template.ensures.template.1 h in cc (f)) in
     let L : LoadMap → Type 0 = λ m. IsTellable m (refusal_of c.in-Err.refusal) in
     record {
       numbers = subst L (sym c.loaded-in-Err.ensures.load)
-          (tellable load c.args.graph.now.edges c.args.request.now c.in_ok-case.ensures.order case c.in_ok-case.ensures.case (target_known load c.args.request.now c.requires.names whole)
-          c.loaded-in-Err.ensures.units (refusal_of c.in-Err.refusal) r);
+          (tellable load c.args.graph.now.edges c.args.request.now c.in_ok-plan.ensures.order r.case r.named (target_known load c.args.request.now c.requires.names whole)
+          c.loaded-in-Err.ensures.units (refusal_of c.in-Err.refusal) r.refused);
     }
 
-pub returns-clause-refusal : goal.returns-clause-refusal
-returns-clause-refusal c =
+pub returns-in_ok-named_refusal-in-Err-clause-refusal : goal.returns-in_ok-named_refusal-in-Err-clause-refusal
+returns-in_ok-named_refusal-in-Err-clause-refusal c =
     let load = c.args.graph.now.load in
-    let case = case_of_rows c.in_ok-case.case in
-    let P : Result RowPlan RowRefusal → Type 0 = λ o. IfErr o (λ refusal. IsRefusal nat_cmp case (refusal_of refusal)) in
+    let P : Result RowPlan RowRefusal → Type 0 = λ o. IfErr o (λ refusal. IsNumberedRefusal load c.args.graph.now.edges c.args.request.now (refusal_of refusal)) in
     let r = subst P c.in-Err.is c.in_ok-plan.ensures.refusal in
     let whole : ¬ AsksTemplate c.args.request.now = λ h. (let f : false ≡ true = c.if-asks_template.ensures.template.1 h in cc (f)) in
     let L : LoadMap → Type 0 = λ m. IsToldBy m (refusal_of c.in-Err.refusal) c.in_ok-named_refusal-in-Err.field-0 in
-    told load c.args.graph.now.edges c.args.request.now c.in_ok-case.ensures.order case c.in_ok-case.ensures.case whole (refusal_of c.in-Err.refusal) r
+    told load c.args.graph.now.edges c.args.request.now c.in_ok-plan.ensures.order r.case r.named whole (refusal_of c.in-Err.refusal) r.refused
     c.in_ok-named_refusal-in-Err.field-0 (subst L c.loaded-in-Err.ensures.load c.in_ok-named_refusal-in-Err.ensures.told)
