@@ -16,7 +16,7 @@ use Rattle.start_plan.specs.declared.requests.Refusal.{Refusal as PlanRefusal}
 use Rattle.start_plan.specs.declared.requests.Request.{Request}
 use Rattle.start_plan.specs.Outcomes.{IsPlanned, IsRefusalOf}
 use Rattle.start_plan.specs.Requests.{IsOfGraph}
-use Rattle.plan_answers.specs.Plans.{RefusesPlan, TellsChoice, TellsWhole, fault_of_plan, plan_text}
+use Rattle.plan_answers.specs.Plans.{RefusesPlan, TellsChoice, TellsLoaded, TellsWhole, fault_of_plan, plan_text}
 use Rattle.plan_answers.specs.Requests.{asked}
 
 -- what was answered in words
@@ -31,6 +31,22 @@ pub refusal_said : (P : Outcome → Type 0) (cause : PlanRefusal) (f : Fault) �
 refusal_said P cause (fault.Refused r) e say = say (Err r) (record { refusal = r; told = sym e; outcome_is = refl })
 refusal_said P cause fault.Memory e say = tt
 
+module _ (request : Request) (load : LoadMap) (edges : EdgeMap) (edges_are : AreEdges load edges) (graph : GraphMap) (same : graph.load ≡ load) (also : graph.edges ≡ edges) where
+  -- what the graph tells is told of the request
+  in_load : (outcome : Outcome) → TellsChoice graph.load graph.edges request outcome → TellsLoaded load request outcome
+  in_load outcome told = (
+    edges,
+    edges_are,
+    subst (λ (m : EdgeMap). TellsChoice load m request outcome) also
+        (subst (λ (l : LoadMap). TellsChoice l graph.edges request outcome) same told),
+  )
+
+  pub plan_told : (plan : Plan) (text : List ℕ) → IsPlanned graph.load graph.edges request plan → text ≡ plan_text plan → TellsLoaded load request (Ok text)
+  plan_told plan text planned e = in_load (Ok text) (inl (plan, planned, ap (λ (t : List ℕ). Ok t) e))
+
+  pub refusal_told : (cause : PlanRefusal) (f : Fault) → IsRefusalOf graph.load graph.edges request cause → f ≡ fault_of_plan cause → IsTold (Err f) (TellsLoaded load request)
+  refusal_told cause f refused e = refusal_said (TellsLoaded load request) cause f e (λ outcome told. in_load outcome (inr (cause, refused, told)))
+
 module _ (s : EntryMap) (request : Request) (names : List Name) (are : names ≡ asked request) where
   -- a store is refused as too large for the names of a request
   pub no_load : (f : Fault) → IsNoLoad s names f → IsTold (Err f) (TellsWhole s request)
@@ -43,28 +59,18 @@ module _ (s : EntryMap) (request : Request) (names : List Name) (are : names ≡
     asked_for : IsLoad s (asked request) load
     asked_for = subst (λ (ns : List Name). IsLoad s ns load) are is
 
-    pub of_graph : (l : LoadMap) → l ≡ load → IsOfGraph l request
-    of_graph l e = subst (λ (m : LoadMap). IsOfGraph m request) (sym e)
-        (λ n among. inr ((known_names s (asked request) load n asked_for).1 (record { steps = 0; chain = inl among })))
+    pub of_load : IsOfGraph load request
+    of_load = λ n among. inr ((known_names s (asked request) load n asked_for).1 (record { steps = 0; chain = inl among }))
 
-    module _ (fits : ¬ IsTooLarge s names) (edges : EdgeMap) (edges_are : AreEdges load edges) (graph : GraphMap) (same : graph.load ≡ load) (also : graph.edges ≡ edges) where
-      -- what the graph tells is told of the request
-      whole : (outcome : Outcome) → TellsChoice graph.load graph.edges request outcome → TellsWhole s request outcome
-      whole outcome told = inr (
-        (λ over. fits (subst (λ (ns : List Name). IsTooLarge s ns) (sym are) over)),
-        record {
-          load = load;
-          load_is = asked_for;
-          edges = edges;
-          edges_are = edges_are;
-          told =
-              subst (λ (m : EdgeMap). TellsChoice load m request outcome) also
-              (subst (λ (l : LoadMap). TellsChoice l graph.edges request outcome) same told);
-        },
-      )
-
-      pub plan_told : (plan : Plan) (text : List ℕ) → IsPlanned graph.load graph.edges request plan → text ≡ plan_text plan → TellsWhole s request (Ok text)
-      plan_told plan text planned e = whole (Ok text) (inl (plan, planned, ap (λ (t : List ℕ). Ok t) e))
-
-      pub refusal_told : (cause : PlanRefusal) (f : Fault) → IsRefusalOf graph.load graph.edges request cause → f ≡ fault_of_plan cause → IsTold (Err f) (TellsWhole s request)
-      refusal_told cause f refused e = refusal_said (TellsWhole s request) cause f e (λ outcome told. whole outcome (inr (cause, refused, told)))
+    -- what the load tells is told of the request
+    pub whole : ¬ IsTooLarge s names → (outcome : Outcome) → TellsLoaded load request outcome → TellsWhole s request outcome
+    whole fits outcome told = inr (
+      (λ over. fits (subst (λ (ns : List Name). IsTooLarge s ns) (sym are) over)),
+      record {
+        load = load;
+        load_is = asked_for;
+        edges = told.0;
+        edges_are = told.1;
+        told = told.2;
+      },
+    )

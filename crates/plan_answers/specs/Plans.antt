@@ -63,6 +63,10 @@ TellsChoice load edges request outcome =
     ((plan : Plan) × IsPlanned load edges request plan × (outcome ≡ Ok (plan_text plan)))
     ⊎ ((cause : PlanRefusal) × IsRefusalOf load edges request cause × RefusesPlan cause outcome)
 
+-- this is told of a request, as a load has it
+abbrev pub TellsLoaded : LoadMap → Request → Outcome → Type 0
+TellsLoaded load request outcome = (edges : EdgeMap) × AreEdges load edges × TellsChoice load edges request outcome
+
 -- this is told of a request, as the load has it that all its names are asked for in
 pub record IsPlanTold (s : EntryMap) (request : Request) (outcome : Outcome) : Type 0 where
   pub load : LoadMap

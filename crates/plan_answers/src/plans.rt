@@ -1,12 +1,14 @@
 //! The plan of a request, as its load has it.
+ghost use Rattle.start_plan.specs.Requests.{IsOfGraph};
 ghost use Rattle.script_commands.specs.Outcomes.{IsSaid};
-ghost use Rattle.plan_answers.specs.Plans.{TellsPlan, TellsWhole};
+ghost use Rattle.plan_answers.specs.Plans.{TellsLoaded, TellsPlan, TellsWhole};
 
 use crate::lines::plan_text;
 use crate::refusals::fault_of_plan;
 use crate::requests::{asked_names, read_request};
 use inverse_deps::edges;
 use load_answers::{Crew, load_for};
+use parallel_load::Loaded;
 use replica_store::Store;
 use script_commands::{Fault, Refusal, Words};
 use start_plan::{Request, asks_template, plan};
@@ -49,8 +51,16 @@ fn plan_whole<R: Threads + Sync>(
 {
     let asked = asked_names(alloc, request)?;
     let loaded = load_for(rt, alloc, store, &asked, workers)?;
-    let edges = edges(alloc, &loaded)?;
-    let graph = Graph::build(alloc, &loaded, &edges)?;
+    plan_loaded(alloc, &loaded, request)
+}
+
+// Tells the plan of a request whose names a load has.
+fn plan_loaded(alloc: Global, loaded: &Loaded, request: &Request) -> Result<Vec<u8>, Fault>
+    requires names { IsOfGraph loaded.now request.now }
+    ensures told { IsSaid (λ text. text.items) result (TellsLoaded loaded.now request.now) }
+{
+    let edges = edges(alloc, loaded)?;
+    let graph = Graph::build(alloc, loaded, &edges)?;
     match plan(alloc, &graph, request) {
         Ok(plan) => Ok(plan_text(alloc, &plan)?),
         Err(refusal) => Err(fault_of_plan(refusal)),

@@ -1,16 +1,17 @@
 use Rattle.std.proofs.Common.{◌∙◌}
-use Rattle.plan_answers.proofs.Asked.{of_graph, refusal_told}
+use Rattle.plan_answers.specs.Plans.{TellsLoaded, TellsWhole}
+use Rattle.plan_answers.proofs.Asked.{of_load, whole}
+use Rattle.plan_answers.proofs.Told.{weaker}
 use Rattle.plan_answers.proofs.plans.plan_whole.Goals as goal
 
-pub plan-requires : goal.plan-requires
-plan-requires g c = record {
-  names = of_graph c.args.store.now c.args.request.now c.deref.result.now (c.deref.ensures.value ∙ c.in_ok-asked.ensures.names) c.in_ok-loaded.loaded c.in_ok-loaded.ensures.load
-      c.in_ok-graph.graph.load c.in_ok-graph.ensures.load;
+pub plan_loaded-requires : goal.plan_loaded-requires
+plan_loaded-requires g c = record {
+  names = of_load c.args.store.now c.args.request.now c.deref.result.now (c.deref.ensures.value ∙ c.in_ok-asked.ensures.names) c.in_ok-loaded.loaded c.in_ok-loaded.ensures.load;
 }
 
 pub returns : goal.returns
 returns g c = record {
-  told = refusal_told c.args.store.now c.args.request.now c.deref.result.now (c.deref.ensures.value ∙ c.in_ok-asked.ensures.names) c.in_ok-loaded.loaded c.in_ok-loaded.ensures.load
-      c.in_ok-loaded.ensures.not_over c.in_ok-edges.edges c.in_ok-edges.ensures.edges c.in_ok-graph.graph c.in_ok-graph.ensures.load c.in_ok-graph.ensures.edges
-      c.in-Err.refusal c.fault_of_plan.result c.in-Err.ensures.refusal c.fault_of_plan.ensures.fault;
+  told = weaker c.plan_loaded.result (TellsLoaded c.in_ok-loaded.loaded c.args.request.now) (TellsWhole c.args.store.now c.args.request.now)
+      (whole c.args.store.now c.args.request.now c.deref.result.now (c.deref.ensures.value ∙ c.in_ok-asked.ensures.names) c.in_ok-loaded.loaded c.in_ok-loaded.ensures.load
+      c.in_ok-loaded.ensures.not_over) c.plan_loaded.ensures.told;
 }
