@@ -1,10 +1,11 @@
 //! The answers of lines.
-use crate::edits::store_of;
+use crate::edits::{Asked, asked_of};
 use crate::graphs::graph;
 use crate::meetings::Meeting;
 use crate::tellings::{append_load, append_looked_up, append_unit, begin};
 use crate::words::{LineFault, Words};
 use parallel_load::{LoadFault, Loaded, OpenGate, load_fleet, load_here, load_one};
+use replica_store::Store;
 use script_words::{cut_line, is_passed_over};
 use std::alloc::{AllocError, Global};
 use std::thread::Threads;
@@ -48,77 +49,128 @@ fn append_compared(
     }
 }
 
-// Loads by one thread and by each number of workers.
-fn load<R: Threads + Sync>(rt: &R, alloc: Global, words: &mut Words) -> Result<Vec<u8>, LineFault> {
-    let workers = words.numbers()?;
-    let store = store_of(alloc, words)?;
-    let asked = words.names()?;
-    let looked = words.names()?;
-    words.end()?;
+// Loads by so many workers, and writes how that compares with the load by one thread.
+fn append_fleet<R: Threads + Sync>(
+    rt: &R,
+    alloc: Global,
+    out: &mut Vec<u8>,
+    asked: &Asked,
+    here: &Result<Loaded, LoadFault>,
+    count: usize,
+) -> Result<(), LineFault> {
+    let fleet = load_fleet(rt, alloc, &asked.store, &asked.names, count, &OpenGate);
+    begin(out, format!(in alloc; "{count} workers: ")?.as_bytes())?;
+    append_compared(alloc, out, here, &fleet)
+}
+
+// Loads by one thread, looks at names, and loads by each number of workers.
+fn load_by_each<R: Threads + Sync>(
+    rt: &R,
+    alloc: Global,
+    asked: &Asked,
+    looked: &[UnitName],
+    workers: &[usize],
+) -> Result<Vec<u8>, LineFault> {
     let mut out = Vec::new(alloc);
-    let here = load_here(alloc, &store, &asked);
-    append_here(alloc, &mut out, &here, &looked)?;
+    let here = load_here(alloc, &asked.store, &asked.names);
+    append_here(alloc, &mut out, &here, looked)?;
     for count in workers {
-        let fleet = load_fleet(rt, alloc, &store, &asked, count, &OpenGate);
-        begin(&mut out, format!(in alloc; "{count} workers: ")?.as_bytes())?;
-        append_compared(alloc, &mut out, &here, &fleet)?;
+        append_fleet(rt, alloc, &mut out, asked, &here, *count)?;
     }
     Ok(out)
 }
 
+// Loads by one thread and by each number of workers.
+fn load<R: Threads + Sync>(rt: &R, alloc: Global, words: &mut Words) -> Result<Vec<u8>, LineFault> {
+    let workers = words.numbers()?;
+    let asked = asked_of(alloc, words)?;
+    let looked = words.names()?;
+    words.end()?;
+    load_by_each(rt, alloc, &asked, &looked, &workers)
+}
+
 // Loads by two workers who wait for one another.
+fn load_by_two<R: Threads + Clock + Sync>(
+    rt: &R,
+    alloc: Global,
+    asked: &Asked,
+) -> Result<Vec<u8>, LineFault> {
+    let mut out = Vec::new(alloc);
+    let gate = Meeting::new(rt);
+    let fleet = load_fleet(rt, alloc, &asked.store, &asked.names, 2, &gate);
+    append_here(alloc, &mut out, &fleet, &[])?;
+    let told: &[u8] = if gate.were_together() {
+        b"both pieces worked at the same time"
+    } else {
+        b"no two pieces worked at the same time"
+    };
+    begin(&mut out, told)?;
+    Ok(out)
+}
+
+// Loads what the words ask for by two workers who wait for one another.
 fn meet<R: Threads + Clock + Sync>(
     rt: &R,
     alloc: Global,
     words: &mut Words,
 ) -> Result<Vec<u8>, LineFault> {
-    let store = store_of(alloc, words)?;
-    let asked = words.names()?;
+    let asked = asked_of(alloc, words)?;
     words.end()?;
-    let mut out = Vec::new(alloc);
-    let gate = Meeting::new(rt);
-    let fleet = load_fleet(rt, alloc, &store, &asked, 2, &gate);
-    append_here(alloc, &mut out, &fleet, &[])?;
-    if gate.were_together() {
-        begin(&mut out, b"both pieces worked at the same time")?;
-    } else {
-        begin(&mut out, b"no two pieces worked at the same time")?;
-    }
-    Ok(out)
+    load_by_two(rt, alloc, &asked)
+}
+
+// Writes the unit of a name, loaded alone.
+fn append_one(
+    alloc: Global,
+    out: &mut Vec<u8>,
+    store: &Store,
+    name: &UnitName,
+) -> Result<(), AllocError> {
+    let unit = load_one(alloc, store, name)?;
+    begin(out, name.bytes())?;
+    out.extend_from_slice(b": ")?;
+    append_unit(alloc, out, &unit)
 }
 
 // Loads the units of names, each alone.
 fn one(alloc: Global, words: &mut Words) -> Result<Vec<u8>, LineFault> {
-    let store = store_of(alloc, words)?;
-    let names = words.names()?;
+    let asked = asked_of(alloc, words)?;
     words.end()?;
     let mut out = Vec::new(alloc);
-    for name in &names {
-        let unit = load_one(alloc, &store, name)?;
-        begin(&mut out, name.bytes())?;
-        out.extend_from_slice(b": ")?;
-        append_unit(alloc, &mut out, &unit)?;
+    for name in &asked.names {
+        append_one(alloc, &mut out, &asked.store, name)?;
     }
     Ok(out)
 }
 
-// What a line answers.
+// What the words of a line answer.
 fn answer<R: Threads + Clock + Sync>(
     rt: &R,
     alloc: Global,
-    line: &[u8],
+    words: &mut Words,
 ) -> Result<Vec<u8>, LineFault> {
-    let mut words = Words::new(alloc, line);
-    match words.next_word().ok_or(LineFault::Words)? {
-        b"graph" => graph(alloc, &mut words),
-        b"load" => load(rt, alloc, &mut words),
-        b"meet" => meet(rt, alloc, &mut words),
-        b"one" => one(alloc, &mut words),
+    match words.next_word() {
+        Some(b"graph") => graph(alloc, words),
+        Some(b"load") => load(rt, alloc, words),
+        Some(b"meet") => meet(rt, alloc, words),
+        Some(b"one") => one(alloc, words),
         _ => Err(LineFault::Words),
     }
 }
 
-// Writes a line, and below it its answers if it is a call; `memory` where that was refused.
+// Writes what a line answered; `memory` where that was refused.
+fn append_answer(
+    out: &mut Vec<u8>,
+    answered: &Result<Vec<u8>, LineFault>,
+) -> Result<(), AllocError> {
+    match answered {
+        Ok(text) => out.extend_from_slice(text),
+        Err(LineFault::Words) => out.extend_from_slice(b"\n  no such line"),
+        Err(LineFault::Memory) => out.extend_from_slice(b"\n  memory"),
+    }
+}
+
+// Writes a line, and below it its answers if it is a call.
 fn append_line<R: Threads + Clock + Sync>(
     rt: &R,
     alloc: Global,
@@ -127,11 +179,7 @@ fn append_line<R: Threads + Clock + Sync>(
 ) -> Result<(), AllocError> {
     out.extend_from_slice(line)?;
     if !is_passed_over(line) {
-        match answer(rt, alloc, line) {
-            Ok(text) => out.extend_from_slice(&text)?,
-            Err(LineFault::Words) => out.extend_from_slice(b"\n  no such line")?,
-            Err(LineFault::Memory) => out.extend_from_slice(b"\n  memory")?,
-        }
+        append_answer(out, &answer(rt, alloc, &mut Words::new(alloc, line)))?;
     }
     Ok(out.push(b'\n')?)
 }

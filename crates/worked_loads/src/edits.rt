@@ -3,6 +3,7 @@ use crate::words::{LineFault, Words};
 use replica_store::{Content, ContentFault, Edit, Path, PathFault, Store, Version};
 use script_words::unescape;
 use std::alloc::Global;
+use unit_name::UnitName;
 
 // The parts of a word before and behind the first byte of a kind.
 fn cut_at(word: &[u8], byte: u8) -> Option<(&[u8], &[u8])> {
@@ -42,20 +43,19 @@ fn made(content: Result<Content, ContentFault>) -> Result<Content, LineFault> {
     }
 }
 
-// The path and the content that a word writes.
-fn placed_of(alloc: Global, word: &[u8]) -> Result<(Path, Content), LineFault> {
+// The part of a word that writes a path, and the content that the rest writes.
+fn content_of(alloc: Global, word: &[u8]) -> Result<(&[u8], Content), LineFault> {
     if let Some((path, text)) = cut_at(word, b'=') {
-        let content = made(Content::file(text_of(alloc, text)?))?;
-        return Ok((path_of(alloc, path)?, content));
+        return Ok((path, made(Content::file(text_of(alloc, text)?))?));
     }
     let (path, target) = cut_at(word, b'>').ok_or(LineFault::Words)?;
-    let content = made(Content::link(text_of(alloc, target)?))?;
-    Ok((path_of(alloc, path)?, content))
+    Ok((path, made(Content::link(text_of(alloc, target)?))?))
 }
 
 // The edit that a word of a list writes, which is later than those before it.
 fn edit_of(alloc: Global, word: &[u8], place: usize) -> Result<Edit, LineFault> {
-    let (path, content) = placed_of(alloc, word)?;
+    let (path, content) = content_of(alloc, word)?;
+    let path = path_of(alloc, path)?;
     let counter = place as u64;
     Ok(Edit {
         path,
@@ -64,8 +64,8 @@ fn edit_of(alloc: Global, word: &[u8], place: usize) -> Result<Edit, LineFault> 
     })
 }
 
-/// The store of the edits that a list of words writes.
-pub fn store_of(alloc: Global, words: &mut Words) -> Result<Store, LineFault> {
+// The store of the edits that a list of words writes.
+fn store_of(alloc: Global, words: &mut Words) -> Result<Store, LineFault> {
     let mut edits = Vec::new(alloc);
     for place in 1..=words.bound() {
         let Some(word) = words.next_of_list() else {
@@ -74,4 +74,18 @@ pub fn store_of(alloc: Global, words: &mut Words) -> Result<Store, LineFault> {
         edits.push(edit_of(alloc, word, place)?)?;
     }
     Ok(Store::from_edits(alloc, &edits)?)
+}
+
+/// A store, and the names that are asked for in it.
+#[derive(Drop)]
+pub struct Asked {
+    pub store: Store,
+    pub names: Vec<UnitName>,
+}
+
+/// What a list of edits and a list of names write.
+pub fn asked_of(alloc: Global, words: &mut Words) -> Result<Asked, LineFault> {
+    let store = store_of(alloc, words)?;
+    let names = words.names()?;
+    Ok(Asked { store, names })
 }

@@ -1,11 +1,11 @@
 //! Graphs of loads in words.
 ghost use Rattle.unit_graph.specs.Graphs.{IsKnown};
 
-use crate::edits::store_of;
+use crate::edits::{Asked, asked_of};
 use crate::tellings::{append_names, append_status, begin};
 use crate::words::{LineFault, Words};
 use inverse_deps::edges;
-use parallel_load::{LoadFault, load_here};
+use parallel_load::{LoadFault, Loaded, load_here};
 use setting_rules::DepKind;
 use std::alloc::{AllocError, Global};
 use unit_graph::Graph;
@@ -97,28 +97,56 @@ fn append_from(
     append_reached(alloc, out, graph, kinds, name)
 }
 
+// Writes the units of a graph, and what it has from each of several names.
+fn append_all(
+    alloc: Global,
+    out: &mut Vec<u8>,
+    graph: &Graph,
+    kinds: &[DepKind],
+    names: &[UnitName],
+) -> Result<(), AllocError> {
+    begin(out, b"members")?;
+    append_names(out, &graph.members(alloc)?)?;
+    for name in names {
+        append_from(alloc, out, graph, kinds, name)?;
+    }
+    Ok(())
+}
+
+// Makes the graph of a load, and writes what it has.
+fn append_graph(
+    alloc: Global,
+    out: &mut Vec<u8>,
+    load: &Loaded,
+    kinds: &[DepKind],
+    names: &[UnitName],
+) -> Result<(), AllocError> {
+    let edges = edges(alloc, load)?;
+    let graph = Graph::build(alloc, load, &edges)?;
+    append_all(alloc, out, &graph, kinds, names)
+}
+
+// Loads what is asked for, and looks at the graph of that.
+fn graph_of(
+    alloc: Global,
+    asked: &Asked,
+    kinds: &[DepKind],
+    names: &[UnitName],
+) -> Result<Vec<u8>, LineFault> {
+    let mut out = Vec::new(alloc);
+    match load_here(alloc, &asked.store, &asked.names) {
+        Ok(load) => append_graph(alloc, &mut out, &load, kinds, names)?,
+        Err(LoadFault::Memory) => return Err(LineFault::Memory),
+        Err(fault) => begin(&mut out, format!(in alloc; "{fault}")?.as_bytes())?,
+    }
+    Ok(out)
+}
+
 /// Makes the graph of a load, and looks at it from each of several names.
 pub fn graph(alloc: Global, words: &mut Words) -> Result<Vec<u8>, LineFault> {
-    let store = store_of(alloc, words)?;
-    let asked = words.names()?;
+    let asked = asked_of(alloc, words)?;
     let kinds = kinds_of(alloc, words)?;
     let names = words.names()?;
     words.end()?;
-    let mut out = Vec::new(alloc);
-    let load = match load_here(alloc, &store, &asked) {
-        Ok(load) => load,
-        Err(LoadFault::Memory) => return Err(LineFault::Memory),
-        Err(fault) => {
-            begin(&mut out, format!(in alloc; "{fault}")?.as_bytes())?;
-            return Ok(out);
-        }
-    };
-    let edges = edges(alloc, &load)?;
-    let graph = Graph::build(alloc, &load, &edges)?;
-    begin(&mut out, b"members")?;
-    append_names(&mut out, &graph.members(alloc)?)?;
-    for name in &names {
-        append_from(alloc, &mut out, &graph, &kinds, name)?;
-    }
-    Ok(out)
+    graph_of(alloc, &asked, &kinds, &names)
 }

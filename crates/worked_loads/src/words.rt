@@ -77,7 +77,7 @@ impl<'a> Words<'a> {
             let Some(word) = self.next_of_list() else {
                 break;
             };
-            numbers.push(number_of(word)?)?;
+            numbers.push(number_of(word).ok_or(LineFault::Words)?)?;
         }
         Ok(numbers)
     }
@@ -101,7 +101,6 @@ fn name_of(alloc: Global, word: &[u8]) -> Result<UnitName, LineFault> {
 }
 
 // The number that a word writes in decimal digits.
-fn number_of(word: &[u8]) -> Result<usize, LineFault> {
-    let text = str::from_utf8(word).map_err(|_| LineFault::Words)?;
-    text.parse::<usize>().map_err(|_| LineFault::Words)
+fn number_of(word: &[u8]) -> Option<usize> {
+    str::from_utf8(word).ok()?.parse::<usize>().ok()
 }
