@@ -13,6 +13,7 @@ use script_words::{cut_line, is_passed_over};
 use shared_node::{Blank, BlankFault, Node};
 use std::alloc::{AllocError, Global};
 use std::marker::Brand;
+use std::slice::from_ref;
 use std::sync::Wait;
 use std::thread::Threads;
 use std::time::Clock;
@@ -70,7 +71,23 @@ fn work_blank<R: Wait>(
     work_node::<Brand, R>(rt, alloc, blank, words)
 }
 
-// What a line of a node over this replica answers. A blank that is refused memory is made again, of what comes back.
+// What a line of a node answers whose blank was refused memory: it is made again, of the replica that came back.
+fn answer_again<R: Wait>(
+    rt: &R,
+    alloc: Global,
+    replica: Replica,
+    seats: usize,
+    words: &mut Words,
+) -> Result<Vec<u8>, LineFault> {
+    let mut out = Vec::from_slice(alloc, b"\n  no blank: out of memory")?;
+    match Blank::new(rt, replica, seats) {
+        Ok(blank) => out.extend_from_slice(&work_blank(rt, alloc, blank, words)?)?,
+        Err(_) => return Err(LineFault::Memory),
+    }
+    Ok(out)
+}
+
+// What a line of a node over this replica answers.
 fn answer_over<R: Wait>(
     rt: &R,
     alloc: Global,
@@ -78,31 +95,26 @@ fn answer_over<R: Wait>(
     seats: usize,
     words: &mut Words,
 ) -> Result<Vec<u8>, LineFault> {
-    let rest = match Blank::new(rt, replica, seats) {
-        Ok(blank) => return work_blank(rt, alloc, blank, words),
-        Err(BlankFault::Seats) => return Ok(Vec::from_slice(alloc, b"\n  A1 Seats")?),
-        Err(BlankFault::Memory(rest)) => rest,
-    };
-    let mut out = Vec::from_slice(alloc, b"\n  no blank: out of memory")?;
-    match Blank::new(rt, rest, seats) {
-        Ok(blank) => out.extend_from_slice(&work_blank(rt, alloc, blank, words)?)?,
-        Err(_) => return Err(LineFault::Memory),
+    match Blank::new(rt, replica, seats) {
+        Ok(blank) => work_blank(rt, alloc, blank, words),
+        Err(BlankFault::Seats) => Ok(Vec::from_slice(alloc, b"\n  A1 Seats")?),
+        Err(BlankFault::Memory(rest)) => answer_again(rt, alloc, rest, seats, words),
     }
-    Ok(out)
 }
 
 // What a line of a node over nothing answers.
 fn answer_node<R: Wait>(rt: &R, alloc: Global, words: &mut Words) -> Result<Vec<u8>, LineFault> {
-    let replica = Replica::new(alloc, words.writer()?);
+    let writer = words.writer()?;
     let seats = words.place()?;
-    answer_over(rt, alloc, replica, seats, words)
+    answer_over(rt, alloc, Replica::new(alloc, writer), seats, words)
 }
 
 // What a line of a node over one edit answers.
 fn answer_held<R: Wait>(rt: &R, alloc: Global, words: &mut Words) -> Result<Vec<u8>, LineFault> {
     let writer = words.writer()?;
     let seats = words.place()?;
-    let store = Store::from_edits(alloc, &words.edits()?)?;
+    let edit = words.edit()?;
+    let store = Store::from_edits(alloc, from_ref(&edit))?;
     answer_over(rt, alloc, Replica::from_store(writer, store), seats, words)
 }
 
@@ -112,36 +124,47 @@ fn answer_threads<R: Threads + Wait + Sync>(
     alloc: Global,
     words: &mut Words,
 ) -> Result<Vec<u8>, LineFault> {
-    let replica = Replica::new(alloc, words.writer()?);
+    let writer = words.writer()?;
     let plan = plan_of(words)?;
     let Some(seats) = plan.writers.checked_add(plan.readers) else {
         return Err(LineFault::Words);
     };
-    match Blank::new(rt, replica, seats) {
+    match Blank::new(rt, Replica::new(alloc, writer), seats) {
         Ok(blank) => work_threads::<Brand, R>(rt, alloc, blank, plan),
         Err(BlankFault::Seats) => Ok(Vec::from_slice(alloc, b"\n  A1 Seats")?),
         Err(BlankFault::Memory(_)) => Err(LineFault::Memory),
     }
 }
 
-// What a line answers.
+// What the words of a line answer.
 fn answer<R: Threads + Wait + Clock + Sync>(
     rt: &R,
     alloc: Global,
-    line: &[u8],
+    words: &mut Words,
 ) -> Result<Vec<u8>, LineFault> {
-    let mut words = Words::new(alloc, line);
-    match words.word()? {
-        b"node" => answer_node(rt, alloc, &mut words),
-        b"over" => answer_held(rt, alloc, &mut words),
-        b"threads" => answer_threads(rt, alloc, &mut words),
-        b"crowd" => answer_crowd(rt, alloc, &mut words),
-        b"meet" => answer_meeting(rt, alloc, &mut words),
+    match words.next_word() {
+        Some(b"node") => answer_node(rt, alloc, words),
+        Some(b"over") => answer_held(rt, alloc, words),
+        Some(b"threads") => answer_threads(rt, alloc, words),
+        Some(b"crowd") => answer_crowd(rt, alloc, words),
+        Some(b"meet") => answer_meeting(rt, alloc, words),
         _ => Err(LineFault::Words),
     }
 }
 
-// Writes a line, and below it its answers if it is one of those above; `memory` where that was refused.
+// Writes what a line answered; `memory` where that was refused.
+fn append_answer(
+    out: &mut Vec<u8>,
+    answered: &Result<Vec<u8>, LineFault>,
+) -> Result<(), AllocError> {
+    match answered {
+        Ok(text) => out.extend_from_slice(text),
+        Err(LineFault::Words) => out.extend_from_slice(b"\n  no such line"),
+        Err(LineFault::Memory) => out.extend_from_slice(b"\n  memory"),
+    }
+}
+
+// Writes a line, and below it its answers if it is one of those above.
 fn append_line<R: Threads + Wait + Clock + Sync>(
     rt: &R,
     alloc: Global,
@@ -150,11 +173,7 @@ fn append_line<R: Threads + Wait + Clock + Sync>(
 ) -> Result<(), AllocError> {
     out.extend_from_slice(line)?;
     if !is_passed_over(line) {
-        match answer(rt, alloc, line) {
-            Ok(text) => out.extend_from_slice(&text)?,
-            Err(LineFault::Words) => out.extend_from_slice(b"\n  no such line")?,
-            Err(LineFault::Memory) => out.extend_from_slice(b"\n  memory")?,
-        }
+        append_answer(out, &answer(rt, alloc, &mut Words::new(alloc, line)))?;
     }
     Ok(out.push(b'\n')?)
 }

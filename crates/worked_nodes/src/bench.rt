@@ -39,10 +39,15 @@ impl<N: NodeName> Bench<N> {
         }
     }
 
+    /// Writes the bytes of an answer.
+    pub fn tell_bytes(&mut self, answer: &[u8]) -> Result<(), LineFault> {
+        self.out.extend_from_slice(b"\n  ")?;
+        Ok(self.out.extend_from_slice(answer)?)
+    }
+
     /// Writes an answer.
     pub fn tell(&mut self, answer: &str) -> Result<(), LineFault> {
-        self.out.extend_from_slice(b"\n  ")?;
-        Ok(self.out.extend_from_slice(answer.as_bytes())?)
+        self.tell_bytes(answer.as_bytes())
     }
 
     /// Writes a name and a number.

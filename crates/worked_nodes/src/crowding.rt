@@ -9,6 +9,17 @@ use std::sync::Wait;
 use std::thread::Threads;
 use std::time::Clock;
 
+// What a crowd's numbers answer, or why there are none.
+fn counted_text(alloc: Global, counted: Result<Counted, CrowdFault>) -> Result<Vec<u8>, LineFault> {
+    match counted {
+        Ok(Counted { takes, paths }) => {
+            Ok(format!(in alloc; "\n  takes {takes} paths {paths}")?.into_bytes())
+        }
+        Err(CrowdFault::Seats) => Ok(Vec::from_slice(alloc, b"\n  A1 Seats")?),
+        Err(CrowdFault::Memory) => Err(LineFault::Memory),
+    }
+}
+
 // What a crowd at a node of this writer comes to.
 fn crowd_text<R: Threads + Wait + Sync, G: Gate + Sync>(
     rt: &R,
@@ -22,13 +33,7 @@ fn crowd_text<R: Threads + Wait + Sync, G: Gate + Sync>(
     if edits > MOST_EDITS || replica.high() > u64::MAX - ROOM {
         return Err(LineFault::Words);
     }
-    match crowd(rt, alloc, &replica, seats, edits, gate) {
-        Ok(Counted { takes, paths }) => {
-            Ok(format!(in alloc; "\n  takes {takes} paths {paths}")?.into_bytes())
-        }
-        Err(CrowdFault::Seats) => Ok(Vec::from_slice(alloc, b"\n  A1 Seats")?),
-        Err(CrowdFault::Memory) => Err(LineFault::Memory),
-    }
+    counted_text(alloc, crowd(rt, alloc, &replica, seats, edits, gate))
 }
 
 /// What a line of a crowd answers.
@@ -52,10 +57,11 @@ pub fn answer_meeting<R: Threads + Wait + Clock + Sync>(
     let writer = words.writer()?;
     let gate = Meeting::new(rt);
     let mut text = crowd_text(rt, alloc, writer, 2, 1, &gate)?;
-    if gate.were_together() {
-        text.extend_from_slice(b"\n  both workers worked at the same time")?;
+    let told: &[u8] = if gate.were_together() {
+        b"\n  both workers worked at the same time"
     } else {
-        text.extend_from_slice(b"\n  no two workers worked at the same time")?;
-    }
+        b"\n  no two workers worked at the same time"
+    };
+    text.extend_from_slice(told)?;
     Ok(text)
 }

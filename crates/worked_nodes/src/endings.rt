@@ -31,6 +31,39 @@ fn tell_refused<N: NodeName>(bench: &mut Bench<N>, fault: &CloseFault<N>) -> Res
     bench.tell(text.as_str())
 }
 
+/// Ends a node that wasn't closed.
+pub fn end_refused<N: NodeName, R: Wait>(rt: &R, fault: CloseFault<N>) {
+    let CloseFault {
+        node,
+        seats: _seats,
+        cause: _,
+    } = fault;
+    node.end(rt);
+}
+
+// Closes a node with these seats, and tells how that went. Where it was refused, what came back.
+fn close_told<N: NodeName, R: Wait>(
+    rt: &R,
+    node: Node<N>,
+    bench: &mut Bench<N>,
+    seats: Vec<Seat<N>>,
+) -> Result<Option<CloseFault<N>>, LineFault> {
+    let fault = match node.close(rt, seats) {
+        Ok(closed) => {
+            tell_closed(bench, &closed)?;
+            return Ok(None);
+        }
+        Err(fault) => fault,
+    };
+    match tell_refused(bench, &fault) {
+        Ok(()) => Ok(Some(fault)),
+        Err(untold) => {
+            end_refused(rt, fault);
+            Err(untold)
+        }
+    }
+}
+
 // Closes a node with these seats, for the last time that this is tried.
 fn close_at_last<N: NodeName, R: Wait>(
     rt: &R,
@@ -38,19 +71,10 @@ fn close_at_last<N: NodeName, R: Wait>(
     bench: &mut Bench<N>,
     seats: Vec<Seat<N>>,
 ) -> Result<(), LineFault> {
-    match node.close(rt, seats) {
-        Ok(closed) => tell_closed(bench, &closed),
-        Err(fault) => {
-            let told = tell_refused(bench, &fault);
-            let CloseFault {
-                node,
-                seats: _seats,
-                cause: _,
-            } = fault;
-            node.end(rt);
-            told
-        }
+    if let Some(fault) = close_told(rt, node, bench, seats)? {
+        end_refused(rt, fault);
     }
+    Ok(())
 }
 
 // Closes a node with these seats; where memory is refused, again with what comes back.
@@ -60,17 +84,14 @@ fn close_with<N: NodeName, R: Wait>(
     bench: &mut Bench<N>,
     seats: Vec<Seat<N>>,
 ) -> Result<(), LineFault> {
-    let fault = match node.close(rt, seats) {
-        Ok(closed) => return tell_closed(bench, &closed),
-        Err(fault) => fault,
+    let Some(CloseFault { node, seats, cause }) = close_told(rt, node, bench, seats)? else {
+        return Ok(());
     };
-    let told = tell_refused(bench, &fault);
-    let CloseFault { node, seats, cause } = fault;
-    if told.is_err() || cause != CloseCause::Memory {
-        node.end(rt);
-        return told;
+    if cause == CloseCause::Memory {
+        return close_at_last(rt, node, bench, seats);
     }
-    close_at_last(rt, node, bench, seats)
+    node.end(rt);
+    Ok(())
 }
 
 /// Closes a node with all seats of the bench.
@@ -96,17 +117,15 @@ fn close_again<N: NodeName, R: Wait>(
     seats: Vec<Seat<N>>,
     last: Seat<N>,
 ) -> Result<(), LineFault> {
-    let fault = match node.close(rt, seats) {
-        Ok(closed) => return tell_closed(bench, &closed),
-        Err(fault) => fault,
+    let Some(fault) = close_told(rt, node, bench, seats)? else {
+        return Ok(());
     };
-    let told = tell_refused(bench, &fault);
     let CloseFault {
         node,
         mut seats,
         cause: _,
     } = fault;
-    if told.is_err() || seats.push(last).is_err() {
+    if seats.push(last).is_err() {
         node.end(rt);
         return Err(LineFault::Memory);
     }

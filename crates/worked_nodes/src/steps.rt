@@ -1,11 +1,13 @@
 //! What is done at a node.
 use crate::bench::{Bench, store_text};
 use crate::words::{LineFault, Words};
-use crossbeam_channel::{Receiver, unbounded};
+use crossbeam_channel::{Receiver, Sender, unbounded};
 use delta_pieces::Piece;
+use join_law::Version;
 use node_histories::NodeName;
-use shared_node::{Message, Node, Seat, serve};
+use shared_node::{Message, Node, NodeFault, Seat, Served, Told, serve};
 use std::alloc::Global;
+use std::slice::from_ref;
 use std::sync::Wait;
 use worker_rounds::Gate;
 
@@ -17,15 +19,16 @@ pub fn step<N: NodeName, R: Wait>(
     word: &[u8],
     words: &mut Words,
 ) -> Result<bool, LineFault> {
-    match word {
-        b"seat" => take_seat(rt, node, bench)?,
-        b"edit" => edit(rt, node, bench, words)?,
-        b"absorb" => absorb(rt, node, bench, words)?,
-        b"learn" => learn(bench, words)?,
-        b"view" => view(bench, words)?,
-        b"serve" => work_inbox(rt, node, bench, words)?,
+    let done = match word {
+        b"seat" => take_seat(rt, node, bench),
+        b"edit" => edit(rt, node, bench, words),
+        b"absorb" => absorb(rt, node, bench, words),
+        b"learn" => learn(bench, words),
+        b"view" => view(bench, words),
+        b"serve" => work_inbox(rt, node, bench, words),
         _ => return Ok(false),
-    }
+    };
+    done?;
     Ok(true)
 }
 
@@ -44,6 +47,20 @@ fn take_seat<N: NodeName, R: Wait>(
     }
 }
 
+// Keeps the token of an edit, and writes its version, or why it wasn't taken.
+fn tell_edit<N: NodeName>(
+    bench: &mut Bench<N>,
+    taken: Result<(Version, Told<N>), NodeFault<N>>,
+) -> Result<(), LineFault> {
+    match taken {
+        Ok((version, told)) => {
+            bench.told = Some(told);
+            bench.tell_version(version)
+        }
+        Err(fault) => bench.tell_fault(&fault),
+    }
+}
+
 // Edits from a seat.
 fn edit<N: NodeName, R: Wait>(
     rt: &R,
@@ -54,23 +71,31 @@ fn edit<N: NodeName, R: Wait>(
     let place = words.place()?;
     let path = words.path()?;
     let content = words.file()?;
-    let Some(mut seat) = bench.lend(place) else {
+    let Some(Some(seat)) = bench.seats.get_mut(place) else {
         return bench.tell("no seat");
     };
-    let taken = node.edit(rt, &mut seat, path, content);
-    bench.put_back(place, seat);
-    match taken {
-        Ok((version, told)) => {
-            bench.told = Some(told);
-            bench.tell_version(version)
-        }
-        Err(fault) => bench.tell_fault(&fault),
-    }
+    let taken = node.edit(rt, seat, path, content);
+    tell_edit(bench, taken)
 }
 
 // The piece of one edit that the words write.
 fn piece(alloc: Global, words: &mut Words) -> Result<Piece, LineFault> {
-    Ok(Piece::from_edits(alloc, &words.edits()?)?)
+    let edit = words.edit()?;
+    Ok(Piece::from_edits(alloc, from_ref(&edit))?)
+}
+
+// Keeps the token of a piece, and writes how many paths it changed, or why it wasn't taken.
+fn tell_piece<N: NodeName>(
+    bench: &mut Bench<N>,
+    taken: Result<(u64, Told<N>), NodeFault<N>>,
+) -> Result<(), LineFault> {
+    match taken {
+        Ok((changed, told)) => {
+            bench.told = Some(told);
+            bench.tell_number("changed", changed)
+        }
+        Err(fault) => bench.tell_fault(&fault),
+    }
 }
 
 // Absorbs a piece from a seat.
@@ -82,35 +107,39 @@ fn absorb<N: NodeName, R: Wait>(
 ) -> Result<(), LineFault> {
     let place = words.place()?;
     let piece = piece(bench.alloc, words)?;
-    let Some(mut seat) = bench.lend(place) else {
+    let Some(Some(seat)) = bench.seats.get_mut(place) else {
         return bench.tell("no seat");
     };
-    let taken = node.absorb(rt, &mut seat, piece);
-    bench.put_back(place, seat);
-    match taken {
-        Ok((changed, told)) => {
-            bench.told = Some(told);
-            bench.tell_number("changed", changed)
-        }
-        Err(fault) => bench.tell_fault(&fault),
-    }
+    let taken = node.absorb(rt, seat, piece);
+    tell_piece(bench, taken)
 }
 
 // A seat learns the last token.
 fn learn<N: NodeName>(bench: &mut Bench<N>, words: &mut Words) -> Result<(), LineFault> {
     let place = words.place()?;
-    let Some(mut seat) = bench.lend(place) else {
+    let Some(Some(seat)) = bench.seats.get_mut(place) else {
         return bench.tell("no seat");
     };
-    let Some(told) = bench.told.take() else {
-        bench.put_back(place, seat);
+    let Some(told) = &bench.told else {
         return bench.tell("no token");
     };
-    seat.learn(&told);
+    seat.learn(told);
     let seen = seat.takes();
-    bench.put_back(place, seat);
-    bench.told = Some(told);
     bench.tell_number("seen", seen)
+}
+
+// The seat of a view, and what was seen, if there was a place to view.
+fn seen<N: NodeName>(
+    alloc: Global,
+    seat: Seat<N>,
+) -> (Seat<N>, Option<Result<Vec<u8>, LineFault>>) {
+    match seat.view() {
+        Ok(view) => {
+            let text = store_text(alloc, view.takes(), view.store());
+            (view.leave(), Some(text))
+        }
+        Err(fault) => (fault.seat, None),
+    }
 }
 
 // A seat views.
@@ -119,17 +148,12 @@ fn view<N: NodeName>(bench: &mut Bench<N>, words: &mut Words) -> Result<(), Line
     let Some(seat) = bench.lend(place) else {
         return bench.tell("no seat");
     };
-    let view = match seat.view() {
-        Ok(view) => view,
-        Err(fault) => {
-            bench.put_back(place, fault.seat);
-            return bench.tell("A7 NoEntry");
-        }
-    };
-    let text = store_text(bench.alloc, view.takes(), view.store());
-    bench.put_back(place, view.leave());
-    bench.out.extend_from_slice(b"\n  ")?;
-    Ok(bench.out.extend_from_slice(&text?)?)
+    let (seat, text) = seen(bench.alloc, seat);
+    bench.put_back(place, seat);
+    match text {
+        Some(text) => bench.tell_bytes(&text?),
+        None => bench.tell("A7 NoEntry"),
+    }
 }
 
 // Nobody waits at this gate.
@@ -141,33 +165,34 @@ impl Gate for Open {
     }
 }
 
-// An inbox with one edit, which the words write, and the end.
-fn inbox<R: Wait>(
+// Sends a message and the end.
+fn send_all<R: Wait>(rt: &R, sender: &Sender<Message>, message: Message) -> Result<(), LineFault> {
+    if sender.send(rt, message).is_err() || sender.send(rt, Message::End).is_err() {
+        return Err(LineFault::Memory);
+    }
+    Ok(())
+}
+
+// An inbox with one message and the end.
+fn inbox_of<R: Wait>(
     rt: &R,
     alloc: Global,
-    words: &mut Words,
+    message: Message,
 ) -> Result<Receiver<Message>, LineFault> {
-    let path = words.path()?;
-    let content = words.file()?;
     let (sender, inbox) = unbounded(alloc)?;
-    if sender.send(rt, Message::Edit(path, content)).is_err() {
-        return Err(LineFault::Memory);
-    }
-    if sender.send(rt, Message::End).is_err() {
-        return Err(LineFault::Memory);
-    }
+    send_all(rt, &sender, message)?;
     Ok(inbox)
 }
 
-// Serves an inbox from a seat.
-fn serve_from<N: NodeName, R: Wait>(
-    rt: &R,
-    node: &Node<N>,
-    seat: &mut Seat<N>,
-    bench: &mut Bench<N>,
-    inbox: &Receiver<Message>,
-) -> Result<(), LineFault> {
-    let served = serve(rt, node, seat, inbox, &Open);
+// The edit that the words write, as a message.
+fn message(words: &mut Words) -> Result<Message, LineFault> {
+    let path = words.path()?;
+    let content = words.file()?;
+    Ok(Message::Edit(path, content))
+}
+
+// Writes how an inbox was served.
+fn tell_served<N: NodeName>(bench: &mut Bench<N>, served: Served) -> Result<(), LineFault> {
     bench.tell_number("answered", served.answered as u64)?;
     bench.tell_number("pending", served.pending as u64)?;
     bench.tell_number("refused", served.refused as u64)
@@ -181,11 +206,10 @@ fn work_inbox<N: NodeName, R: Wait>(
     words: &mut Words,
 ) -> Result<(), LineFault> {
     let place = words.place()?;
-    let inbox = inbox(rt, bench.alloc, words)?;
-    let Some(mut seat) = bench.lend(place) else {
+    let inbox = inbox_of(rt, bench.alloc, message(words)?)?;
+    let Some(Some(seat)) = bench.seats.get_mut(place) else {
         return bench.tell("no seat");
     };
-    let served = serve_from(rt, node, &mut seat, bench, &inbox);
-    bench.put_back(place, seat);
-    served
+    let served = serve(rt, node, seat, &inbox, &Open);
+    tell_served(bench, served)
 }

@@ -1,11 +1,12 @@
 //! Nodes at which threads work side by side.
 ghost use Rattle.std.specs.Prelude.{◌≡◌};
 
+use crate::endings::end_refused;
 use crate::words::{LineFault, Words};
 use edit_sums::Content;
 use load_path::Path;
 use node_histories::NodeName;
-use shared_node::{Blank, CloseFault, Node, Seat};
+use shared_node::{Blank, Closed, Node, Seat};
 use std::alloc::{AllocError, Global};
 use std::sync::Wait;
 use std::thread;
@@ -51,6 +52,22 @@ fn file_of(alloc: Global, seat: usize, number: u64) -> Result<Content, LineFault
     Content::file(bytes).map_err(|_| LineFault::Memory)
 }
 
+// Makes the edit of this number from a seat.
+fn make_edit<N: NodeName, R: Wait>(
+    rt: &R,
+    alloc: Global,
+    node: &Node<N>,
+    seat: &mut Seat<N>,
+    number: u64,
+) -> Result<(), LineFault> {
+    let path = path_of(alloc, seat.number())?;
+    let content = file_of(alloc, seat.number(), number)?;
+    match node.edit(rt, seat, path, content) {
+        Ok(_) => Ok(()),
+        Err(_) => Err(LineFault::Memory),
+    }
+}
+
 // Makes so many edits from a seat.
 fn make_edits<N: NodeName, R: Wait>(
     rt: &R,
@@ -60,11 +77,7 @@ fn make_edits<N: NodeName, R: Wait>(
     edits: u64,
 ) -> Result<(), LineFault> {
     for number in 0..edits {
-        let path = path_of(alloc, seat.number())?;
-        let content = file_of(alloc, seat.number(), number)?;
-        if node.edit(rt, seat, path, content).is_err() {
-            return Err(LineFault::Memory);
-        }
+        make_edit(rt, alloc, node, seat, number)?;
     }
     Ok(())
 }
@@ -109,6 +122,24 @@ fn do_job<N: NodeName, R: Wait>(
     (seat, edited.is_ok() && are_fine)
 }
 
+// Adds so many jobs, each with a seat, so many edits and so many views.
+fn add_jobs<N: NodeName, R: Wait>(
+    rt: &R,
+    node: &Node<N>,
+    jobs: &mut Vec<Job<N>>,
+    count: usize,
+    edits: u64,
+    views: u64,
+) -> Result<(), LineFault> {
+    for _ in 0..count {
+        let Ok(seat) = node.seat(rt) else {
+            return Err(LineFault::Words);
+        };
+        jobs.push(Job { seat, edits, views })?;
+    }
+    Ok(())
+}
+
 // A job for each seat of a plan.
 fn jobs_of<N: NodeName, R: Wait>(
     rt: &R,
@@ -117,24 +148,8 @@ fn jobs_of<N: NodeName, R: Wait>(
     plan: Plan,
 ) -> Result<Vec<Job<N>>, LineFault> {
     let mut jobs = Vec::new(alloc);
-    for _ in 0..plan.writers {
-        let seat = node.seat(rt).map_err(|_| LineFault::Words)?;
-        let edits = plan.edits;
-        jobs.push(Job {
-            seat,
-            edits,
-            views: 0,
-        })?;
-    }
-    for _ in 0..plan.readers {
-        let seat = node.seat(rt).map_err(|_| LineFault::Words)?;
-        let views = plan.views;
-        jobs.push(Job {
-            seat,
-            edits: 0,
-            views,
-        })?;
-    }
+    add_jobs(rt, node, &mut jobs, plan.writers, plan.edits, 0)?;
+    add_jobs(rt, node, &mut jobs, plan.readers, 0, plan.views)?;
     Ok(jobs)
 }
 
@@ -175,7 +190,16 @@ fn work_plan<N: NodeName + Send + Sync, R: Threads + Wait + Sync>(
     Ok(seats_of(alloc, done)?)
 }
 
-// Closes a node with its seats, and tells how many takes it had and how many paths it holds.
+// How many takes a closed node had and how many paths it holds.
+fn closed_text(alloc: Global, closed: &Closed, are_fine: bool) -> Result<Vec<u8>, LineFault> {
+    let takes = closed.takes;
+    let paths = closed.replica.store().len();
+    let word = if are_fine { "fine" } else { "not fine" };
+    let text = format!(in alloc; "\n  {word}\n  closed takes {takes} paths {paths}")?;
+    Ok(text.into_bytes())
+}
+
+// Closes a node with its seats, and tells what is left of it.
 fn close_with<N: NodeName, R: Wait>(
     rt: &R,
     alloc: Global,
@@ -184,20 +208,9 @@ fn close_with<N: NodeName, R: Wait>(
     are_fine: bool,
 ) -> Result<Vec<u8>, LineFault> {
     match node.close(rt, seats) {
-        Ok(closed) => {
-            let takes = closed.takes;
-            let paths = closed.replica.store().len();
-            let word = if are_fine { "fine" } else { "not fine" };
-            let text = format!(in alloc; "\n  {word}\n  closed takes {takes} paths {paths}")?;
-            Ok(text.into_bytes())
-        }
+        Ok(closed) => closed_text(alloc, &closed, are_fine),
         Err(fault) => {
-            let CloseFault {
-                node,
-                seats: _seats,
-                cause: _,
-            } = fault;
-            node.end(rt);
+            end_refused(rt, fault);
             Err(LineFault::Memory)
         }
     }

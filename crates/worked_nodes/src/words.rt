@@ -58,8 +58,7 @@ impl<'a> Words<'a> {
 
     /// The next word as a number.
     pub fn number(&mut self) -> Result<u64, LineFault> {
-        let text = str::from_utf8(self.word()?).map_err(|_| LineFault::Words)?;
-        text.parse::<u64>().map_err(|_| LineFault::Words)
+        number_of(self.word()?).ok_or(LineFault::Words)
     }
 
     /// The next word as the place of a seat.
@@ -81,19 +80,23 @@ impl<'a> Words<'a> {
         }
     }
 
-    /// The next words as one edit: a path, a counter, a writer and the content of a file.
-    pub fn edits(&mut self) -> Result<Vec<Edit>, LineFault> {
-        let path = self.path()?;
+    // The next words as a counter and a writer.
+    fn version(&mut self) -> Result<Version, LineFault> {
         let counter = self.number()?;
         let writer = self.writer()?;
+        Ok(Version { counter, writer })
+    }
+
+    /// The next words as one edit: a path, a counter, a writer and the content of a file.
+    pub fn edit(&mut self) -> Result<Edit, LineFault> {
+        let path = self.path()?;
+        let version = self.version()?;
         let content = self.file()?;
-        let mut edits = Vec::new(self.alloc);
-        edits.push(Edit {
+        Ok(Edit {
             path,
-            version: Version { counter, writer },
+            version,
             content,
-        })?;
-        Ok(edits)
+        })
     }
 
     /// The next word as the content of a file.
@@ -105,4 +108,9 @@ impl<'a> Words<'a> {
             Err(_) => Err(LineFault::Words),
         }
     }
+}
+
+// The number that a word writes in decimal digits.
+fn number_of(word: &[u8]) -> Option<u64> {
+    str::from_utf8(word).ok()?.parse::<u64>().ok()
 }
