@@ -13,7 +13,6 @@ use script_words::{cut_line, is_passed_over};
 use shared_node::{Blank, BlankFault, Node};
 use std::alloc::{AllocError, Global};
 use std::marker::Brand;
-use std::slice::from_ref;
 use std::sync::Wait;
 use std::thread::Threads;
 use std::time::Clock;
@@ -113,8 +112,7 @@ fn answer_node<R: Wait>(rt: &R, alloc: Global, words: &mut Words) -> Result<Vec<
 fn answer_held<R: Wait>(rt: &R, alloc: Global, words: &mut Words) -> Result<Vec<u8>, LineFault> {
     let writer = words.writer()?;
     let seats = words.place()?;
-    let edit = words.edit()?;
-    let store = Store::from_edits(alloc, from_ref(&edit))?;
+    let store = Store::from_edits(alloc, &words.edits()?)?;
     answer_over(rt, alloc, Replica::from_store(writer, store), seats, words)
 }
 

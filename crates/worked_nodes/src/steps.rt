@@ -7,7 +7,6 @@ use join_law::Version;
 use node_histories::NodeName;
 use shared_node::{Message, Node, NodeFault, Seat, Served, Told, serve};
 use std::alloc::Global;
-use std::slice::from_ref;
 use std::sync::Wait;
 use worker_rounds::Gate;
 
@@ -80,8 +79,7 @@ fn edit<N: NodeName, R: Wait>(
 
 // The piece of one edit that the words write.
 fn piece(alloc: Global, words: &mut Words) -> Result<Piece, LineFault> {
-    let edit = words.edit()?;
-    Ok(Piece::from_edits(alloc, from_ref(&edit))?)
+    Ok(Piece::from_edits(alloc, &words.edits()?)?)
 }
 
 // Keeps the token of a piece, and writes how many paths it changed, or why it wasn't taken.
@@ -165,12 +163,12 @@ impl Gate for Open {
     }
 }
 
-// Sends a message and the end.
-fn send_all<R: Wait>(rt: &R, sender: &Sender<Message>, message: Message) -> Result<(), LineFault> {
-    if sender.send(rt, message).is_err() || sender.send(rt, Message::End).is_err() {
-        return Err(LineFault::Memory);
+// Sends a message.
+fn send<R: Wait>(rt: &R, sender: &Sender<Message>, message: Message) -> Result<(), LineFault> {
+    match sender.send(rt, message) {
+        Ok(()) => Ok(()),
+        Err(_) => Err(LineFault::Memory),
     }
-    Ok(())
 }
 
 // An inbox with one message and the end.
@@ -180,15 +178,20 @@ fn inbox_of<R: Wait>(
     message: Message,
 ) -> Result<Receiver<Message>, LineFault> {
     let (sender, inbox) = unbounded(alloc)?;
-    send_all(rt, &sender, message)?;
+    send(rt, &sender, message)?;
+    send(rt, &sender, Message::End)?;
     Ok(inbox)
 }
 
-// The edit that the words write, as a message.
-fn message(words: &mut Words) -> Result<Message, LineFault> {
+// An inbox with one edit, which the words write, and the end.
+fn inbox<R: Wait>(
+    rt: &R,
+    alloc: Global,
+    words: &mut Words,
+) -> Result<Receiver<Message>, LineFault> {
     let path = words.path()?;
     let content = words.file()?;
-    Ok(Message::Edit(path, content))
+    inbox_of(rt, alloc, Message::Edit(path, content))
 }
 
 // Writes how an inbox was served.
@@ -206,7 +209,7 @@ fn work_inbox<N: NodeName, R: Wait>(
     words: &mut Words,
 ) -> Result<(), LineFault> {
     let place = words.place()?;
-    let inbox = inbox_of(rt, bench.alloc, message(words)?)?;
+    let inbox = inbox(rt, bench.alloc, words)?;
     let Some(Some(seat)) = bench.seats.get_mut(place) else {
         return bench.tell("no seat");
     };

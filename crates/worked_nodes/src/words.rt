@@ -80,23 +80,19 @@ impl<'a> Words<'a> {
         }
     }
 
-    // The next words as a counter and a writer.
-    fn version(&mut self) -> Result<Version, LineFault> {
+    /// The next words as one edit: a path, a counter, a writer and the content of a file.
+    pub fn edits(&mut self) -> Result<Vec<Edit>, LineFault> {
+        let path = self.path()?;
         let counter = self.number()?;
         let writer = self.writer()?;
-        Ok(Version { counter, writer })
-    }
-
-    /// The next words as one edit: a path, a counter, a writer and the content of a file.
-    pub fn edit(&mut self) -> Result<Edit, LineFault> {
-        let path = self.path()?;
-        let version = self.version()?;
         let content = self.file()?;
-        Ok(Edit {
+        let mut edits = Vec::new(self.alloc);
+        edits.push(Edit {
             path,
-            version,
+            version: Version { counter, writer },
             content,
-        })
+        })?;
+        Ok(edits)
     }
 
     /// The next word as the content of a file.
