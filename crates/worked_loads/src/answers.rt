@@ -18,7 +18,7 @@ fn append_here(
     out: &mut Vec<u8>,
     here: &Result<Loaded, LoadFault>,
     looked: &[UnitName],
-) -> Result<(), LineFault> {
+) -> Result<(), AllocError> {
     match here {
         Ok(load) => {
             append_load(alloc, out, load)?;
@@ -27,7 +27,7 @@ fn append_here(
             }
             Ok(())
         }
-        Err(fault) => Ok(begin(out, format!(in alloc; "{fault}")?.as_bytes())?),
+        Err(fault) => begin(out, format!(in alloc; "{fault}")?.as_bytes()),
     }
 }
 
@@ -37,15 +37,15 @@ fn append_compared(
     out: &mut Vec<u8>,
     here: &Result<Loaded, LoadFault>,
     fleet: &Result<Loaded, LoadFault>,
-) -> Result<(), LineFault> {
+) -> Result<(), AllocError> {
     match (here, fleet) {
         (Ok(here), Ok(fleet)) => {
             let is_same = here.extra() == fleet.extra() && here.names() == fleet.names();
             let word = if is_same { "the same" } else { "another" };
-            Ok(out.extend_from_slice(word.as_bytes())?)
+            out.extend_from_slice(word.as_bytes())
         }
-        (Err(_), Ok(_)) => Ok(out.extend_from_slice(b"a load")?),
-        (_, Err(fault)) => Ok(out.extend_from_slice(format!(in alloc; "{fault}")?.as_bytes())?),
+        (Err(_), Ok(_)) => out.extend_from_slice(b"a load"),
+        (_, Err(fault)) => out.extend_from_slice(format!(in alloc; "{fault}")?.as_bytes()),
     }
 }
 
@@ -57,7 +57,7 @@ fn append_fleet<R: Threads + Sync>(
     asked: &Asked,
     here: &Result<Loaded, LoadFault>,
     count: usize,
-) -> Result<(), LineFault> {
+) -> Result<(), AllocError> {
     let fleet = load_fleet(rt, alloc, &asked.store, &asked.names, count, &OpenGate);
     begin(out, format!(in alloc; "{count} workers: ")?.as_bytes())?;
     append_compared(alloc, out, here, &fleet)
@@ -70,7 +70,7 @@ fn load_by_each<R: Threads + Sync>(
     asked: &Asked,
     looked: &[UnitName],
     workers: &[usize],
-) -> Result<Vec<u8>, LineFault> {
+) -> Result<Vec<u8>, AllocError> {
     let mut out = Vec::new(alloc);
     let here = load_here(alloc, &asked.store, &asked.names);
     append_here(alloc, &mut out, &here, looked)?;
@@ -86,26 +86,25 @@ fn load<R: Threads + Sync>(rt: &R, alloc: Global, words: &mut Words) -> Result<V
     let asked = asked_of(alloc, words)?;
     let looked = words.names()?;
     words.end()?;
-    load_by_each(rt, alloc, &asked, &looked, &workers)
+    Ok(load_by_each(rt, alloc, &asked, &looked, &workers)?)
 }
 
 // Loads by two workers who wait for one another.
 fn load_by_two<R: Threads + Clock + Sync>(
     rt: &R,
     alloc: Global,
+    out: &mut Vec<u8>,
     asked: &Asked,
-) -> Result<Vec<u8>, LineFault> {
-    let mut out = Vec::new(alloc);
+) -> Result<(), AllocError> {
     let gate = Meeting::new(rt);
     let fleet = load_fleet(rt, alloc, &asked.store, &asked.names, 2, &gate);
-    append_here(alloc, &mut out, &fleet, &[])?;
+    append_here(alloc, out, &fleet, &[])?;
     let told: &[u8] = if gate.were_together() {
         b"both pieces worked at the same time"
     } else {
         b"no two pieces worked at the same time"
     };
-    begin(&mut out, told)?;
-    Ok(out)
+    begin(out, told)
 }
 
 // Loads what the words ask for by two workers who wait for one another.
@@ -116,7 +115,9 @@ fn meet<R: Threads + Clock + Sync>(
 ) -> Result<Vec<u8>, LineFault> {
     let asked = asked_of(alloc, words)?;
     words.end()?;
-    load_by_two(rt, alloc, &asked)
+    let mut out = Vec::new(alloc);
+    load_by_two(rt, alloc, &mut out, &asked)?;
+    Ok(out)
 }
 
 // Writes the unit of a name, loaded alone.
@@ -126,9 +127,9 @@ fn append_one(
     store: &Store,
     name: &UnitName,
 ) -> Result<(), AllocError> {
-    let unit = load_one(alloc, store, name)?;
     begin(out, name.bytes())?;
     out.extend_from_slice(b": ")?;
+    let unit = load_one(alloc, store, name)?;
     append_unit(alloc, out, &unit)
 }
 

@@ -57,6 +57,17 @@ fn append_steps(
     Ok(())
 }
 
+// Writes how far a unit is that a name pulls.
+fn append_depth(
+    alloc: Global,
+    out: &mut Vec<u8>,
+    depth: u64,
+    far: &UnitName,
+) -> Result<(), AllocError> {
+    out.extend_from_slice(format!(in alloc; " {depth} ")?.as_bytes())?;
+    out.extend_from_slice(far.bytes())
+}
+
 // Writes what is reached from a name that stands for a unit.
 fn append_reached(
     alloc: Global,
@@ -71,8 +82,7 @@ fn append_reached(
     append_names(out, &graph.reach(alloc, kinds, name)?)?;
     begin(out, b"depths")?;
     for (depth, far) in &graph.depths(alloc, name)? {
-        out.extend_from_slice(format!(in alloc; " {depth} ")?.as_bytes())?;
-        out.extend_from_slice(far.bytes())?;
+        append_depth(alloc, out, *depth, far)?;
     }
     Ok(())
 }

@@ -1,5 +1,4 @@
 //! How loads and units are written.
-use crate::words::LineFault;
 use load_path::Path;
 use parallel_load::{Loaded, NameLoad, Status, Unit};
 use std::alloc::{AllocError, Global};
@@ -46,14 +45,13 @@ fn append_units(out: &mut Vec<u8>, units: &[&Unit]) -> Result<(), AllocError> {
 }
 
 /// Writes what was asked for, all names with what they stand for, and the units.
-pub fn append_load(alloc: Global, out: &mut Vec<u8>, load: &Loaded) -> Result<(), LineFault> {
+pub fn append_load(alloc: Global, out: &mut Vec<u8>, load: &Loaded) -> Result<(), AllocError> {
     begin(out, b"asked")?;
     append_names(out, load.extra())?;
     begin(out, b"names")?;
     append_loads(out, load.names())?;
     begin(out, b"units")?;
-    append_units(out, &load.units(alloc)?)?;
-    Ok(())
+    append_units(out, &load.units(alloc)?)
 }
 
 // Writes paths, each behind a space.
