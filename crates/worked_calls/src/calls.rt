@@ -1,7 +1,11 @@
 //! The words of a call.
+use delta_pieces::TakeFault;
 use load_path::{Path, PathFault};
+use replica_store::{ContentFault, Rest};
 use script_words::{cut_word, unescape};
 use std::alloc::{AllocError, AllocFailed, Global};
+use std::num::{ParseIntError, TryFromIntError};
+use std::str::Utf8Error;
 use unit_name::{NameFault, UnitName};
 
 /// Why a line has no answer.
@@ -25,12 +29,70 @@ impl<T: Drop> From<AllocFailed<T>> for CallFault {
     }
 }
 
+impl<T: Drop> From<Rest<T>> for CallFault {
+    fn from(_refused: Rest<T>) -> CallFault {
+        CallFault::Memory
+    }
+}
+
+impl From<TakeFault> for CallFault {
+    fn from(_refused: TakeFault) -> CallFault {
+        CallFault::Memory
+    }
+}
+
+impl From<Utf8Error> for CallFault {
+    fn from(_no_text: Utf8Error) -> CallFault {
+        CallFault::Line
+    }
+}
+
+impl From<ParseIntError> for CallFault {
+    fn from(_no_number: ParseIntError) -> CallFault {
+        CallFault::Line
+    }
+}
+
+impl From<TryFromIntError> for CallFault {
+    fn from(_too_large: TryFromIntError) -> CallFault {
+        CallFault::Line
+    }
+}
+
+impl From<PathFault> for CallFault {
+    fn from(fault: PathFault) -> CallFault {
+        match fault {
+            PathFault::Memory => CallFault::Memory,
+            _ => CallFault::Line,
+        }
+    }
+}
+
+impl From<NameFault> for CallFault {
+    fn from(fault: NameFault) -> CallFault {
+        match fault {
+            NameFault::Memory => CallFault::Memory,
+            _ => CallFault::Line,
+        }
+    }
+}
+
+impl From<ContentFault> for CallFault {
+    fn from(fault: ContentFault) -> CallFault {
+        match fault {
+            ContentFault::Memory => CallFault::Memory,
+            ContentFault::FileTooLarge | ContentFault::BadLink => CallFault::Line,
+        }
+    }
+}
+
 /// The words of a call that are left.
 ///
 /// A word is a text as scripts spell one, `\n`, `\t`, `\\` and `\xHH` being read; `''` is the empty text.
 #[derive(Drop)]
 pub struct Words<'a> {
-    alloc: Global,
+    /// Where the memory of a call is from.
+    pub alloc: Global,
     rest: &'a [u8],
 }
 
@@ -40,10 +102,9 @@ impl<'a> Words<'a> {
         Words { alloc, rest }
     }
 
-    /// How many words are left.
-    pub fn count(&self) -> usize {
-        let words = self.rest.split(|b| *b == b' ');
-        words.filter(|word| !word.is_empty()).count()
+    /// As many words as there are at the most.
+    pub fn most(&self) -> usize {
+        self.rest.len()
     }
 
     /// The next word as it is written.
@@ -51,6 +112,17 @@ impl<'a> Words<'a> {
         let (word, rest) = cut_word(self.rest).ok_or(CallFault::Line)?;
         self.rest = rest;
         Ok(word)
+    }
+
+    /// The next word of a list, which the word `+` or the end of the line ends.
+    pub fn listed(&mut self) -> Option<&'a [u8]> {
+        let (word, rest) = cut_word(self.rest)?;
+        self.rest = rest;
+        if word == b"+".as_slice() {
+            None
+        } else {
+            Some(word)
+        }
     }
 
     /// What the next word spells.
@@ -73,30 +145,12 @@ impl<'a> Words<'a> {
     /// The next word as a unit's name.
     pub fn name(&mut self) -> Result<UnitName, CallFault> {
         let text = self.text()?;
-        match UnitName::parse(self.alloc, &text) {
-            Ok(name) => Ok(name),
-            Err(NameFault::Memory) => Err(CallFault::Memory),
-            Err(_) => Err(CallFault::Line),
-        }
+        Ok(UnitName::parse(self.alloc, &text)?)
     }
 
-    /// Whether the next word is this one; it is then taken.
-    pub fn takes(&mut self, wanted: &[u8]) -> bool {
-        match cut_word(self.rest) {
-            Some((word, rest)) if word == wanted => {
-                self.rest = rest;
-                true
-            }
-            _ => false,
-        }
-    }
-
-    /// That no word is left.
-    pub fn end(&self) -> Result<(), CallFault> {
-        match cut_word(self.rest) {
-            None => Ok(()),
-            Some(_) => Err(CallFault::Line),
-        }
+    /// Whether no word is left.
+    pub fn is_over(&self) -> bool {
+        cut_word(self.rest).is_none()
     }
 }
 
@@ -110,8 +164,18 @@ pub fn text_of(alloc: Global, word: &[u8]) -> Result<Vec<u8>, CallFault> {
 
 /// The number that a word writes in decimal digits.
 pub fn number_of(word: &[u8]) -> Result<u64, CallFault> {
-    let text = str::from_utf8(word).map_err(|_| CallFault::Line)?;
-    text.parse::<u64>().map_err(|_| CallFault::Line)
+    let text = str::from_utf8(word)?;
+    Ok(text.parse::<u64>()?)
+}
+
+/// The number below 256 that a word writes.
+pub fn byte_of(word: &[u8]) -> Result<u8, CallFault> {
+    Ok(u8::try_from(number_of(word)?)?)
+}
+
+/// The number of a writer that a word writes.
+pub fn writer_of(word: &[u8]) -> Result<u32, CallFault> {
+    Ok(u32::try_from(number_of(word)?)?)
 }
 
 /// The path that a word writes: `E/`, `R/`, `L/` and `U/` stand for the four directories in their order.
@@ -125,60 +189,23 @@ pub fn path_of(alloc: Global, word: &[u8]) -> Result<Path, CallFault> {
     };
     let mut text = Vec::from_slice(alloc, directory)?;
     text.extend_from_slice(&word[1..])?;
-    match Path::parse(alloc, &text) {
-        Ok(path) => Ok(path),
-        Err(PathFault::Memory) => Err(CallFault::Memory),
-        Err(_) => Err(CallFault::Line),
-    }
+    Ok(Path::parse(alloc, &text)?)
 }
 
-/// Writes a path, its directory as `E`, `R`, `L` or `U`.
-pub fn append_path(out: &mut Vec<u8>, path: &Path) -> Result<(), AllocError> {
-    out.push(match path.rank() {
-        0 => b'E',
-        1 => b'R',
-        2 => b'L',
-        _ => b'U',
-    })?;
-    out.push(b'/')?;
-    if !path.folder().is_empty() {
-        out.extend_from_slice(path.folder())?;
-        out.push(b'/')?;
-    }
-    out.extend_from_slice(path.name())
+/// The parts of a word before and behind the first byte of a kind.
+pub fn cut_at(word: &[u8], byte: u8) -> Option<(&[u8], &[u8])> {
+    let place = word.iter().position(|b| *b == byte)?;
+    Some((&word[..place], &word[place + 1..]))
 }
 
-/// Writes bytes as texts are spelled: a backslash, a space, and what isn't printed, as `\xHH`.
-pub fn append_text(out: &mut Vec<u8>, bytes: &[u8]) -> Result<(), AllocError> {
-    if bytes.is_empty() {
-        return out.extend_from_slice(b"''");
+/// The parts of a word that commas part; an empty word and `none` have none.
+pub fn parts_of(alloc: Global, word: &[u8]) -> Result<Vec<&[u8]>, CallFault> {
+    let mut parts = Vec::new(alloc);
+    if word.is_empty() || word == b"none".as_slice() {
+        return Ok(parts);
     }
-    for byte in bytes {
-        append_byte(out, *byte)?;
+    for part in word.split(|b| *b == b',') {
+        parts.push(part)?;
     }
-    Ok(())
-}
-
-// Writes one byte as texts are spelled.
-fn append_byte(out: &mut Vec<u8>, byte: u8) -> Result<(), AllocError> {
-    match byte {
-        b'\n' => out.extend_from_slice(b"\\n"),
-        b'\t' => out.extend_from_slice(b"\\t"),
-        b'\\' => out.extend_from_slice(b"\\\\"),
-        0x21..=0x7e => Ok(out.push(byte)?),
-        _ => {
-            out.extend_from_slice(b"\\x")?;
-            out.push(hex_digit(byte / 16))?;
-            Ok(out.push(hex_digit(byte % 16))?)
-        }
-    }
-}
-
-// A hexadecimal digit in lower case.
-fn hex_digit(value: u8) -> u8 {
-    match value {
-        0..=9 => b'0' + value,
-        10..=15 => b'a' + (value - 10),
-        _ => b'?',
-    }
+    Ok(parts)
 }

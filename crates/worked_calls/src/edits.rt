@@ -2,51 +2,39 @@
 //!
 //! An edit is `COUNTER.WRITER:PATH` for a removal, with `=TEXT` behind it for a file and with `>TARGET` for a link. In a
 //! list of edits the version may be left out: each that has none is then later than those before it.
-use crate::calls::{CallFault, Words, append_path, append_text, number_of, path_of, text_of};
-use replica_store::{Content, ContentFault, Edit, Entries, Path, Placed, Store, Version};
-use std::alloc::{AllocError, Global};
-
-// The parts of a word before and behind the first byte of a kind.
-fn cut_at(word: &[u8], byte: u8) -> Option<(&[u8], &[u8])> {
-    let place = word.iter().position(|b| *b == byte)?;
-    Some((&word[..place], &word[place + 1..]))
-}
+use crate::answer_text::Answer;
+use crate::calls::{CallFault, Words, cut_at, number_of, path_of, text_of, writer_of};
+use replica_store::{Content, Edit, Entries, Path, Placed, Store, Version};
+use std::alloc::Global;
 
 /// The version that a word writes.
 pub fn version_of(word: &[u8]) -> Result<Version, CallFault> {
     let (counter, writer) = cut_at(word, b'.').ok_or(CallFault::Line)?;
-    let writer = u32::try_from(number_of(writer)?).map_err(|_| CallFault::Line)?;
+    let writer = writer_of(writer)?;
     let counter = number_of(counter)?;
     Ok(Version { counter, writer })
 }
 
-// The content of a lawful file or link.
-fn made(content: Result<Content, ContentFault>) -> Result<Content, CallFault> {
-    match content {
-        Ok(content) => Ok(content),
-        Err(ContentFault::Memory) => Err(CallFault::Memory),
-        Err(ContentFault::FileTooLarge | ContentFault::BadLink) => Err(CallFault::Line),
+// What a word writes before its content, and the content.
+fn cut_content(alloc: Global, word: &[u8]) -> Result<(&[u8], Content), CallFault> {
+    if let Some((path, text)) = cut_at(word, b'=') {
+        return Ok((path, Content::file(text_of(alloc, text)?)?));
     }
+    if let Some((path, target)) = cut_at(word, b'>') {
+        return Ok((path, Content::link(text_of(alloc, target)?)?));
+    }
+    Ok((word, Content::gone()))
 }
 
 /// The path and the content that a word writes.
 pub fn placed_of(alloc: Global, word: &[u8]) -> Result<(Path, Content), CallFault> {
-    if let Some((path, text)) = cut_at(word, b'=') {
-        let content = made(Content::file(text_of(alloc, text)?))?;
-        return Ok((path_of(alloc, path)?, content));
-    }
-    if let Some((path, target)) = cut_at(word, b'>') {
-        let content = made(Content::link(text_of(alloc, target)?))?;
-        return Ok((path_of(alloc, path)?, content));
-    }
-    Ok((path_of(alloc, word)?, Content::gone()))
+    let (path, content) = cut_content(alloc, word)?;
+    Ok((path_of(alloc, path)?, content))
 }
 
-/// The edit that a word writes.
-pub fn edit_of(alloc: Global, word: &[u8]) -> Result<Edit, CallFault> {
-    let (version, placed) = cut_at(word, b':').ok_or(CallFault::Line)?;
-    let version = version_of(version)?;
-    let (path, content) = placed_of(alloc, placed)?;
+// The edit of a version whose path and content a word writes.
+fn edit_at(alloc: Global, version: Version, word: &[u8]) -> Result<Edit, CallFault> {
+    let (path, content) = placed_of(alloc, word)?;
     Ok(Edit {
         path,
         version,
@@ -54,133 +42,117 @@ pub fn edit_of(alloc: Global, word: &[u8]) -> Result<Edit, CallFault> {
     })
 }
 
+/// The edit that a word writes.
+pub fn edit_of(alloc: Global, word: &[u8]) -> Result<Edit, CallFault> {
+    let (version, placed) = cut_at(word, b':').ok_or(CallFault::Line)?;
+    edit_at(alloc, version_of(version)?, placed)
+}
+
 // The edit that a word of a list writes; without a version it has the counter that its place gives, and the writer 1.
 fn listed_edit(alloc: Global, word: &[u8], place: usize) -> Result<Edit, CallFault> {
-    if word.first().is_some_and(|b| b.is_ascii_digit()) {
-        return edit_of(alloc, word);
+    match word.first() {
+        Some(b'0'..=b'9') => edit_of(alloc, word),
+        _ => {
+            let counter = place as u64;
+            edit_at(alloc, Version { counter, writer: 1 }, word)
+        }
     }
-    let counter = place as u64;
-    let (path, content) = placed_of(alloc, word)?;
-    Ok(Edit {
-        path,
-        version: Version { counter, writer: 1 },
-        content,
-    })
 }
 
 /// The edits that words write, up to the word `+` or to the end.
-pub fn edits(alloc: Global, words: &mut Words) -> Result<Vec<Edit>, CallFault> {
-    let mut edits = Vec::new(alloc);
-    for place in 1..=words.count() {
-        if words.takes(b"+") {
+pub fn edits(words: &mut Words) -> Result<Vec<Edit>, CallFault> {
+    let mut edits = Vec::new(words.alloc);
+    for place in 1..=words.most() {
+        let Some(word) = words.listed() else {
             break;
-        }
-        edits.push(listed_edit(alloc, words.word()?, place)?)?;
+        };
+        edits.push(listed_edit(words.alloc, word, place)?)?;
     }
     Ok(edits)
 }
 
 /// The paths that words write, up to the word `+` or to the end.
-pub fn paths(alloc: Global, words: &mut Words) -> Result<Vec<Path>, CallFault> {
-    let mut paths = Vec::new(alloc);
-    for _ in 0..words.count() {
-        if words.takes(b"+") {
+pub fn paths(words: &mut Words) -> Result<Vec<Path>, CallFault> {
+    let mut paths = Vec::new(words.alloc);
+    for _ in 0..words.most() {
+        let Some(word) = words.listed() else {
             break;
-        }
-        paths.push(words.path()?)?;
+        };
+        paths.push(path_of(words.alloc, word)?)?;
     }
     Ok(paths)
 }
 
 /// The store of edits that words write, up to the word `+` or to the end.
-pub fn store(alloc: Global, words: &mut Words) -> Result<Store, CallFault> {
-    let edits = edits(alloc, words)?;
-    Ok(Store::from_edits(alloc, &edits)?)
+pub fn store(words: &mut Words) -> Result<Store, CallFault> {
+    let edits = edits(words)?;
+    Ok(Store::from_edits(words.alloc, &edits)?)
 }
 
 /// Writes a version.
-pub fn append_version(
-    alloc: Global,
-    out: &mut Vec<u8>,
-    version: Version,
-) -> Result<(), AllocError> {
-    let counter = version.counter;
-    let writer = version.writer;
-    out.extend_from_slice(format!(in alloc; "{counter}.{writer}")?.as_bytes())
+pub fn append_version(out: &mut Answer, version: Version) -> Result<(), CallFault> {
+    out.print(&version.counter)?;
+    out.write(b".")?;
+    out.print(&version.writer)
 }
 
 /// Writes a content as it stands behind a path.
-pub fn append_content(out: &mut Vec<u8>, content: &Content) -> Result<(), AllocError> {
+pub fn append_content(out: &mut Answer, content: &Content) -> Result<(), CallFault> {
     match content {
         Content::Gone => Ok(()),
-        Content::File(file) => {
-            out.push(b'=')?;
-            append_text(out, file.bytes())
-        }
-        Content::Link(target) => {
-            out.push(b'>')?;
-            append_text(out, target.bytes())
-        }
+        Content::File(file) => out.spell_marked(&[(b'=', file.bytes())]),
+        Content::Link(target) => out.spell_marked(&[(b'>', target.bytes())]),
     }
+}
+
+// Writes a content behind its version and its path.
+fn append_at(
+    out: &mut Answer,
+    version: Version,
+    path: &Path,
+    content: &Content,
+) -> Result<(), CallFault> {
+    append_version(out, version)?;
+    out.write(b":")?;
+    out.write_path(path)?;
+    append_content(out, content)
 }
 
 /// Writes an edit.
-pub fn append_edit(alloc: Global, out: &mut Vec<u8>, edit: &Edit) -> Result<(), AllocError> {
-    append_version(alloc, out, edit.version)?;
-    out.push(b':')?;
-    append_path(out, &edit.path)?;
-    append_content(out, &edit.content)
+pub fn append_edit(out: &mut Answer, edit: &Edit) -> Result<(), CallFault> {
+    append_at(out, edit.version, &edit.path, &edit.content)
 }
 
-/// Writes an entry with its path.
-pub fn append_placed(alloc: Global, out: &mut Vec<u8>, placed: &Placed) -> Result<(), AllocError> {
-    append_version(alloc, out, placed.entry().version)?;
-    out.push(b':')?;
-    append_path(out, &placed.path()?)?;
-    append_content(out, &placed.entry().content)
+/// Writes an entry with its path, behind a space if something stands there.
+pub fn append_placed(out: &mut Answer, placed: &Placed) -> Result<(), CallFault> {
+    let entry = placed.entry();
+    out.part(b" ")?;
+    append_at(out, entry.version, &placed.path()?, &entry.content)
 }
 
-/// Writes entries, each behind a space but the first; `nothing` where there are none.
-pub fn append_entries(
-    alloc: Global,
-    out: &mut Vec<u8>,
-    mut entries: Entries<'_>,
-) -> Result<(), AllocError> {
+/// Writes entries, each behind a space if something stands there; `nothing` where there are none.
+pub fn append_entries(out: &mut Answer, mut entries: Entries<'_>) -> Result<(), CallFault> {
     let Some(first) = entries.next_entry() else {
-        return out.extend_from_slice(b"nothing");
+        out.part(b" ")?;
+        return out.write(b"nothing");
     };
-    append_placed(alloc, out, &first)?;
+    append_placed(out, &first)?;
     while let Some(placed) = entries.next_entry() {
-        out.push(b' ')?;
-        append_placed(alloc, out, &placed)?;
+        append_placed(out, &placed)?;
     }
     Ok(())
 }
 
-/// Writes all that a store holds, in path order, each entry behind a space but the first.
-pub fn append_store(alloc: Global, out: &mut Vec<u8>, store: &Store) -> Result<(), AllocError> {
-    append_entries(alloc, out, store.entries())
-}
-
-/// What a store holds, as an answer.
-pub fn told(alloc: Global, store: &Store) -> Result<Vec<u8>, CallFault> {
-    let mut out = Vec::new(alloc);
-    append_store(alloc, &mut out, store)?;
-    Ok(out)
+/// Writes all that a store holds, in path order.
+pub fn append_store(out: &mut Answer, store: &Store) -> Result<(), CallFault> {
+    append_entries(out, store.entries())
 }
 
 /// Writes paths, parted by spaces.
-pub fn append_paths(out: &mut Vec<u8>, paths: &[Path]) -> Result<(), AllocError> {
-    if paths.is_empty() {
-        return out.extend_from_slice(b"none");
-    }
-    let mut is_first = true;
+pub fn append_paths(out: &mut Answer, paths: &[Path]) -> Result<(), CallFault> {
     for path in paths {
-        if !is_first {
-            out.push(b' ')?;
-        }
-        is_first = false;
-        append_path(out, path)?;
+        out.part(b" ")?;
+        out.write_path(path)?;
     }
-    Ok(())
+    out.or(b"none")
 }

@@ -3,219 +3,185 @@
 //!
 //! A map is written as its pairs, `KEY:VERSION=NUMBER`, parted by commas; `none` has no pair. In a map of maps of
 //! maps a key is three numbers, parted by slashes.
-use crate::calls::{CallFault, Words};
-use crate::joins::{are_same, byte, joined, told, versioned};
+use crate::answer_text::Answer;
+use crate::calls::{CallFault, Words, byte_of, cut_at, parts_of};
+use crate::joins::{append_value, joined, versioned};
 use join_law::{Join, JoinMap, Versioned};
-use std::alloc::Global;
 
 /// A map from numbers to numbers with versions.
 pub type Numbers = JoinMap<u8, Versioned<u8>>;
 
 type Tree = JoinMap<u8, JoinMap<u8, Numbers>>;
 
-/// What a call on maps of joins answers.
-pub fn answer(alloc: Global, words: &mut Words) -> Result<Vec<u8>, CallFault> {
+/// Writes what a call on maps of joins answers.
+pub fn answer(words: &mut Words, out: &mut Answer) -> Result<(), CallFault> {
     match words.word()? {
-        b"join" => joined_maps(alloc, words),
-        b"at" => joined_at(alloc, words),
-        b"keys" => keys(alloc, words),
-        b"get" => found(alloc, words),
-        b"last" => last(alloc, words),
-        b"deep" => joined_trees(alloc, words),
+        b"deep" => joined_trees(words, out),
+        b"last" => last(words, out),
+        call => told(call, &map(words)?, words, out),
+    }
+}
+
+// What a call answers of a map, and of another or of more words.
+fn told(
+    call: &[u8],
+    first: &Numbers,
+    words: &mut Words,
+    out: &mut Answer,
+) -> Result<(), CallFault> {
+    match call {
+        b"join" => append_joined(out, first, &map(words)?),
+        b"at" => joined_at(first, words, out),
+        b"keys" => append_keys(out, first),
+        b"get" => found(first, words, out),
         _ => Err(CallFault::Line),
     }
 }
 
-/// A word as a map.
-pub fn map_of(alloc: Global, word: &[u8]) -> Result<Numbers, CallFault> {
-    let mut map = JoinMap::new(alloc);
-    if word == b"none".as_slice() {
-        return Ok(map);
-    }
-    for pair in word.split(|b| *b == b',') {
-        let (key, value) = parted(pair, b':')?;
-        if map.join_at(byte(key)?, versioned(value)?).is_err() {
-            return Err(CallFault::Memory);
-        }
+// Joins to a map the pair that a word writes.
+fn join_pair(map: &mut Numbers, pair: &[u8]) -> Result<(), CallFault> {
+    let (key, value) = cut_at(pair, b':').ok_or(CallFault::Line)?;
+    Ok(map.join_at(byte_of(key)?, versioned(value)?)?)
+}
+
+/// The next word as a map.
+pub fn map(words: &mut Words) -> Result<Numbers, CallFault> {
+    let mut map = JoinMap::new(words.alloc);
+    for pair in &parts_of(words.alloc, words.word()?)? {
+        join_pair(&mut map, pair)?;
     }
     Ok(map)
 }
 
-// What stands before a byte, and what stands behind it.
-fn parted(text: &[u8], at: u8) -> Result<(&[u8], &[u8]), CallFault> {
-    let place = text.iter().position(|b| *b == at).ok_or(CallFault::Line)?;
-    Ok((&text[..place], &text[place + 1..]))
-}
-
-// Appends a key, the keys of the maps that it stands in before it, and its value.
-fn append_pair(
-    alloc: Global,
-    out: &mut Vec<u8>,
-    key: &[u8],
-    value: &Versioned<u8>,
-) -> Result<(), CallFault> {
-    if !out.is_empty() {
-        out.push(b',')?;
+// Writes the pairs of a map, each key behind those of the maps that it stands in.
+fn append_pairs(out: &mut Answer, outer: &str, map: &Numbers) -> Result<(), CallFault> {
+    for (key, value) in map.pairs() {
+        out.part(b",")?;
+        out.write(outer.as_bytes())?;
+        out.print(key)?;
+        out.write(b":")?;
+        append_value(out, value)?;
     }
-    out.extend_from_slice(key)?;
-    out.push(b':')?;
-    out.extend_from_slice(&told(alloc, value)?)?;
     Ok(())
 }
 
-/// A map, as words write it.
-pub fn map_text(alloc: Global, map: &Numbers) -> Result<Vec<u8>, CallFault> {
-    let mut out = Vec::new(alloc);
-    for (key, value) in map.pairs() {
-        append_pair(
-            alloc,
-            &mut out,
-            format!(in alloc; "{key}")?.as_bytes(),
-            value,
-        )?;
-    }
-    if out.is_empty() {
-        out.extend_from_slice(b"none")?;
-    }
-    Ok(out)
+/// Writes a map.
+pub fn append_map(out: &mut Answer, map: &Numbers) -> Result<(), CallFault> {
+    append_pairs(out, "", map)?;
+    out.or(b"none")
 }
 
-// A map, its length, and whether it is the one that it was.
-fn outcome(alloc: Global, old: &Numbers, new: &Numbers) -> Result<Vec<u8>, CallFault> {
-    let mut out = map_text(alloc, new)?;
-    let len = new.len();
-    out.extend_from_slice(format!(in alloc; " {len}")?.as_bytes())?;
-    if are_same(old, new) {
-        out.extend_from_slice(b" unchanged")?;
-    }
-    Ok(out)
+// Writes a map, its length, and whether it is the one that it was.
+fn append_outcome(out: &mut Answer, old: &Numbers, new: &Numbers) -> Result<(), CallFault> {
+    append_map(out, new)?;
+    out.write(b" ")?;
+    out.print(&new.len())?;
+    out.either(old.same(new), b" unchanged", b"")
 }
 
-// The join of two maps, and whether copies of the second's pairs make the same.
-fn joined_maps(alloc: Global, words: &mut Words) -> Result<Vec<u8>, CallFault> {
-    let left = map_of(alloc, words.word()?)?;
-    let right = map_of(alloc, words.word()?)?;
-    words.end()?;
-    let whole = joined(&left, &right)?;
-    let mut copied = left.try_clone()?;
-    copied.join_copy(&right)?;
-    let mut out = outcome(alloc, &left, &whole)?;
-    if !are_same(&whole, &copied) {
-        out.extend_from_slice(b" but not by copies")?;
-    }
-    Ok(out)
+// A map that copies of another's pairs are joined to.
+fn with_copies(left: &Numbers, right: &Numbers) -> Result<Numbers, CallFault> {
+    let mut map = left.try_clone()?;
+    map.join_copy(right)?;
+    Ok(map)
+}
+
+// Writes the join of two maps, and whether copies of the second's pairs make the same.
+fn append_joined(out: &mut Answer, left: &Numbers, right: &Numbers) -> Result<(), CallFault> {
+    let whole = joined(left, right)?;
+    append_outcome(out, left, &whole)?;
+    out.either(
+        whole.same(&with_copies(left, right)?),
+        b"",
+        b" but not by copies",
+    )
 }
 
 // A map with one value joined.
-fn joined_at(alloc: Global, words: &mut Words) -> Result<Vec<u8>, CallFault> {
-    let old = map_of(alloc, words.word()?)?;
-    let key = byte(words.word()?)?;
+fn joined_at(old: &Numbers, words: &mut Words, out: &mut Answer) -> Result<(), CallFault> {
+    let key = byte_of(words.word()?)?;
     let value = versioned(words.word()?)?;
-    words.end()?;
     let mut new = old.try_clone()?;
-    match new.join_at(key, value) {
-        Ok(()) => outcome(alloc, &old, &new),
-        Err(_) => Err(CallFault::Memory),
-    }
+    new.join_at(key, value)?;
+    append_outcome(out, old, &new)
 }
 
-// The keys of a map.
-fn keys(alloc: Global, words: &mut Words) -> Result<Vec<u8>, CallFault> {
-    let map = map_of(alloc, words.word()?)?;
-    words.end()?;
-    let mut out = Vec::new(alloc);
+// Writes the keys of a map.
+fn append_keys(out: &mut Answer, map: &Numbers) -> Result<(), CallFault> {
     for key in map.keys()? {
-        if !out.is_empty() {
-            out.push(b',')?;
-        }
-        out.extend_from_slice(format!(in alloc; "{key}")?.as_bytes())?;
+        out.part(b",")?;
+        out.print(key)?;
     }
-    Ok(out)
+    Ok(())
 }
 
 // The value at a key.
-fn found(alloc: Global, words: &mut Words) -> Result<Vec<u8>, CallFault> {
-    let map = map_of(alloc, words.word()?)?;
-    let key = byte(words.word()?)?;
-    words.end()?;
+fn found(map: &Numbers, words: &mut Words, out: &mut Answer) -> Result<(), CallFault> {
+    let key = byte_of(words.word()?)?;
     match map.get(&key) {
-        Some(value) => told(alloc, value),
-        None => Ok(Vec::from_slice(alloc, b"none")?),
+        Some(value) => append_value(out, value),
+        None => out.write(b"none"),
     }
 }
 
 // A map without its last pair, and that pair's key.
-fn last(alloc: Global, words: &mut Words) -> Result<Vec<u8>, CallFault> {
-    let mut map = map_of(alloc, words.word()?)?;
-    words.end()?;
+fn last(words: &mut Words, out: &mut Answer) -> Result<(), CallFault> {
+    let mut map = map(words)?;
     let popped = map.pop_last();
-    let mut out = map_text(alloc, &map)?;
-    if let Some((key, _)) = popped {
-        out.extend_from_slice(format!(in alloc; " {key}")?.as_bytes())?;
-    }
-    Ok(out)
+    append_map(out, &map)?;
+    let Some((key, _)) = popped else {
+        return Ok(());
+    };
+    out.write(b" ")?;
+    out.print(&key)
 }
 
-// A word as a map of maps of maps.
-fn tree_of(alloc: Global, word: &[u8]) -> Result<Tree, CallFault> {
-    let mut tree = JoinMap::new(alloc);
-    if word == b"none".as_slice() {
-        return Ok(tree);
-    }
-    for pair in word.split(|b| *b == b',') {
-        let (keys, value) = parted(pair, b':')?;
-        let (outer, others) = parted(keys, b'/')?;
-        let (middle, inner) = parted(others, b'/')?;
-        tree.join_deep(byte(outer)?, byte(middle)?, byte(inner)?, versioned(value)?)?;
+// Joins to a map of maps of maps the pair that a word writes.
+fn join_branch(tree: &mut Tree, pair: &[u8]) -> Result<(), CallFault> {
+    let (keys, value) = cut_at(pair, b':').ok_or(CallFault::Line)?;
+    let (outer, others) = cut_at(keys, b'/').ok_or(CallFault::Line)?;
+    let (middle, inner) = cut_at(others, b'/').ok_or(CallFault::Line)?;
+    let value = versioned(value)?;
+    Ok(tree.join_deep(byte_of(outer)?, byte_of(middle)?, byte_of(inner)?, value)?)
+}
+
+// The next word as a map of maps of maps.
+fn tree(words: &mut Words) -> Result<Tree, CallFault> {
+    let mut tree = JoinMap::new(words.alloc);
+    for pair in &parts_of(words.alloc, words.word()?)? {
+        join_branch(&mut tree, pair)?;
     }
     Ok(tree)
 }
 
-// Appends the maps at a key.
-fn append_maps(
-    alloc: Global,
-    out: &mut Vec<u8>,
-    outer: u8,
-    maps: &JoinMap<u8, Numbers>,
-) -> Result<(), CallFault> {
+// Writes the maps at a key.
+fn append_maps(out: &mut Answer, outer: u8, maps: &JoinMap<u8, Numbers>) -> Result<(), CallFault> {
     for (middle, map) in maps.pairs() {
-        append_map(alloc, out, outer, *middle, map)?;
+        let keys = format!(in out.alloc; "{outer}/{middle}/")?;
+        append_pairs(out, keys.as_str(), map)?;
     }
     Ok(())
 }
 
-// Appends the map at two keys.
-fn append_map(
-    alloc: Global,
-    out: &mut Vec<u8>,
-    outer: u8,
-    middle: u8,
-    map: &Numbers,
-) -> Result<(), CallFault> {
-    for (inner, value) in map.pairs() {
-        let keys = format!(in alloc; "{outer}/{middle}/{inner}")?;
-        append_pair(alloc, out, keys.as_bytes(), value)?;
+// Writes a map of maps of maps, and how many keys its outermost map has.
+fn append_tree(out: &mut Answer, tree: &Tree) -> Result<(), CallFault> {
+    for (outer, maps) in tree.pairs() {
+        append_maps(out, *outer, maps)?;
     }
-    Ok(())
+    out.or(b"none")?;
+    out.write(b" ")?;
+    out.print(&tree.len())
 }
 
-// The join of two maps of maps of maps, both ways, and how many keys its outermost map has.
-fn joined_trees(alloc: Global, words: &mut Words) -> Result<Vec<u8>, CallFault> {
-    let left = tree_of(alloc, words.word()?)?;
-    let right = tree_of(alloc, words.word()?)?;
-    words.end()?;
-    let whole = joined(&left, &right)?;
-    let mut out = Vec::new(alloc);
-    for (outer, maps) in whole.pairs() {
-        append_maps(alloc, &mut out, *outer, maps)?;
-    }
-    if out.is_empty() {
-        out.extend_from_slice(b"none")?;
-    }
-    let len = whole.len();
-    out.extend_from_slice(format!(in alloc; " {len}")?.as_bytes())?;
-    if are_same(&whole, &joined(&right, &left)?) {
-        out.extend_from_slice(b" both ways")?;
-    }
-    Ok(out)
+// The join of two maps of maps of maps.
+fn joined_trees(words: &mut Words, out: &mut Answer) -> Result<(), CallFault> {
+    let left = tree(words)?;
+    append_trees(out, &left, &tree(words)?)
+}
+
+// Writes the join of two maps of maps of maps, and whether it is the same both ways.
+fn append_trees(out: &mut Answer, left: &Tree, right: &Tree) -> Result<(), CallFault> {
+    let whole = joined(left, right)?;
+    append_tree(out, &whole)?;
+    out.either(whole.same(&joined(right, left)?), b" both ways", b"")
 }

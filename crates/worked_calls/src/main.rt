@@ -9,6 +9,7 @@
 #![tactic(auto)]
 
 mod again;
+mod answer_text;
 mod calls;
 mod choices;
 mod contents;
@@ -28,6 +29,7 @@ mod settings;
 mod stores;
 mod worlds;
 
+use answer_text::Answer;
 use calls::{CallFault, Words};
 use script_pipes::{Watched, read_all, write_all};
 use script_words::{cut_line, cut_word, is_passed_over};
@@ -35,28 +37,39 @@ use std::alloc::{AllocError, Global};
 use std::io;
 use std::process::ExitCode;
 
-// What a call answers.
-fn answer(alloc: Global, line: &[u8]) -> Result<Vec<u8>, CallFault> {
+// Writes what a call answers.
+fn answer(subject: &[u8], words: &mut Words, out: &mut Answer) -> Result<(), CallFault> {
+    match subject {
+        b"again" => again::answer(words, out),
+        b"path" => paths::answer(words, out),
+        b"name" => names::answer(words, out),
+        b"section" => sections::answer(words, out),
+        b"setting" => settings::answer(words, out),
+        b"script" => script_lines::answer(words, out),
+        b"version" => joins::answer(words, out),
+        b"map" => join_maps::answer(words, out),
+        b"content" => contents::answer(words, out),
+        b"store" => stores::answer(words, out),
+        b"replica" => replicas::answer(words, out),
+        b"piece" => pieces::answer(words, out),
+        b"digest" => pieces::answer_digest(words, out),
+        b"world" => worlds::answer(words, out),
+        b"fragment" => choices::answer(words, out),
+        b"dropins" => drop_ins::answer(words, out),
+        _ => Err(CallFault::Line),
+    }
+}
+
+// What a line answers, of which no word may be left.
+fn line_answer(alloc: Global, line: &[u8]) -> Result<Answer, CallFault> {
     let (subject, rest) = cut_word(line).ok_or(CallFault::Line)?;
     let mut words = Words::new(alloc, rest);
-    match subject {
-        b"again" => again::answer(alloc, &mut words),
-        b"path" => paths::answer(alloc, &mut words),
-        b"name" => names::answer(alloc, &mut words),
-        b"section" => sections::answer(alloc, &mut words),
-        b"setting" => settings::answer(alloc, &mut words),
-        b"script" => script_lines::answer(alloc, &mut words),
-        b"version" => joins::answer(alloc, &mut words),
-        b"map" => join_maps::answer(alloc, &mut words),
-        b"content" => contents::answer(alloc, &mut words),
-        b"store" => stores::answer(alloc, &mut words),
-        b"replica" => replicas::answer(alloc, &mut words),
-        b"piece" => pieces::answer(alloc, &mut words),
-        b"digest" => pieces::answer_digest(alloc, &mut words),
-        b"world" => worlds::answer(alloc, &mut words),
-        b"fragment" => choices::answer(alloc, &mut words),
-        b"dropins" => drop_ins::answer(alloc, &mut words),
-        _ => Err(CallFault::Line),
+    let mut out = Answer::new(alloc);
+    answer(subject, &mut words, &mut out)?;
+    if words.is_over() {
+        Ok(out)
+    } else {
+        Err(CallFault::Line)
     }
 }
 
@@ -65,8 +78,8 @@ fn append_line(alloc: Global, out: &mut Vec<u8>, line: &[u8]) -> Result<(), Allo
     out.extend_from_slice(line)?;
     if !is_passed_over(line) {
         out.extend_from_slice(b" -> ")?;
-        match answer(alloc, line) {
-            Ok(text) => out.extend_from_slice(&text)?,
+        match line_answer(alloc, line) {
+            Ok(answer) => out.extend_from_slice(&answer.bytes)?,
             Err(CallFault::Line) => out.extend_from_slice(b"no such call")?,
             Err(CallFault::Memory) => out.extend_from_slice(b"memory")?,
         }

@@ -1,5 +1,6 @@
 //! How values are ordered.
-use std::alloc::AllocError;
+use crate::answer_text::Answer;
+use crate::calls::CallFault;
 use std::cmp::Ordering;
 
 // How a value stands to another, by all tests that there are.
@@ -13,25 +14,18 @@ fn sign<T: Ord>(low: &T, high: &T) -> u8 {
 }
 
 // Writes how a value stands to each of these.
-fn append_row<T: Ord>(out: &mut Vec<u8>, low: &T, values: &[T]) -> Result<(), AllocError> {
+fn append_row<T: Ord>(out: &mut Answer, low: &T, values: &[T]) -> Result<(), CallFault> {
     for high in values {
-        out.push(sign(low, high))?;
+        out.write(&[sign(low, high)])?;
     }
     Ok(())
 }
 
 /// Writes for each value a word of `<`, `=` and `>`: how it stands to each of them.
-pub fn append_signs<T: Ord>(out: &mut Vec<u8>, values: &[T]) -> Result<(), AllocError> {
+pub fn append_signs<T: Ord>(out: &mut Answer, values: &[T]) -> Result<(), CallFault> {
     for low in values {
-        if !out.is_empty() {
-            out.push(b' ')?;
-        }
+        out.part(b" ")?;
         append_row(out, low, values)?;
     }
     Ok(())
-}
-
-/// The word for whether two values are the same.
-pub fn same_word(is_same: bool) -> &'static [u8] {
-    if is_same { b"same" } else { b"other" }
 }

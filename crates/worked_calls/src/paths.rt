@@ -1,116 +1,102 @@
 //! Calls on paths of the load path, written in full, and on byte strings.
-use crate::calls::{CallFault, Words, append_path, append_text};
-use crate::orders::{append_signs, same_word};
+use crate::answer_text::Answer;
+use crate::calls::{CallFault, Words};
+use crate::orders::append_signs;
 use byte_strings::Bytes;
 use load_path::{Path, PathFault};
-use std::alloc::{AllocError, Global};
 
-/// What a call on paths answers.
-pub fn answer(alloc: Global, words: &mut Words) -> Result<Vec<u8>, CallFault> {
+/// Writes what a call on paths answers.
+pub fn answer(words: &mut Words, out: &mut Answer) -> Result<(), CallFault> {
     match words.word()? {
-        b"parse" => parse(alloc, words),
-        b"parts" => parts(alloc, words),
-        b"text" => text(alloc, words),
-        b"clone" => clone(alloc, words),
-        b"order" => order(alloc, words),
-        b"bytes" => bytes(alloc, words),
-        b"bytes_order" => bytes_order(alloc, words),
+        b"parse" => parse(words, out),
+        b"order" => append_signs(out, &full_paths(words)?),
+        b"bytes" => bytes(words, out),
+        b"bytes_order" => append_signs(out, &all_bytes(words)?),
+        call => of_path(call, &full_path(words)?, out),
+    }
+}
+
+// What a call answers of one path.
+fn of_path(call: &[u8], path: &Path, out: &mut Answer) -> Result<(), CallFault> {
+    match call {
+        b"parts" => append_parts(out, path),
+        b"text" => append_text(out, path),
+        b"clone" => append_clone(out, path),
         _ => Err(CallFault::Line),
     }
 }
 
 // The path that a text writes, or its fault.
-fn parse(alloc: Global, words: &mut Words) -> Result<Vec<u8>, CallFault> {
-    let text = words.text()?;
-    words.end()?;
-    let mut out = Vec::new(alloc);
-    match Path::parse(alloc, &text) {
-        Ok(path) => append_path(&mut out, &path)?,
-        Err(PathFault::Memory) => return Err(CallFault::Memory),
-        Err(fault) => out.extend_from_slice(format!(in alloc; "{fault}")?.as_bytes())?,
+fn parse(words: &mut Words, out: &mut Answer) -> Result<(), CallFault> {
+    match Path::parse(words.alloc, &words.text()?) {
+        Ok(path) => out.write_path(&path),
+        Err(PathFault::Memory) => Err(CallFault::Memory),
+        Err(fault) => out.print(&fault),
     }
-    Ok(out)
 }
 
-// The next word as a path that is written in full.
-fn read(alloc: Global, words: &mut Words) -> Result<Path, CallFault> {
+// The path that the next word spells in full.
+fn full_path(words: &mut Words) -> Result<Path, CallFault> {
     let text = words.text()?;
-    match Path::parse(alloc, &text) {
-        Ok(path) => Ok(path),
-        Err(PathFault::Memory) => Err(CallFault::Memory),
-        Err(_) => Err(CallFault::Line),
-    }
+    Ok(Path::parse(words.alloc, &text)?)
 }
 
 // Writes a path's rank, directory, folder and name.
-fn append_parts(alloc: Global, out: &mut Vec<u8>, path: &Path) -> Result<(), AllocError> {
-    let rank = path.rank();
-    out.extend_from_slice(format!(in alloc; "{rank} ")?.as_bytes())?;
-    append_text(out, path.dir())?;
-    out.push(b' ')?;
-    append_text(out, path.folder())?;
-    out.push(b' ')?;
-    append_text(out, path.name())
+fn append_parts(out: &mut Answer, path: &Path) -> Result<(), CallFault> {
+    out.print(&path.rank())?;
+    out.spell_marked(&[
+        (b' ', path.dir()),
+        (b' ', path.folder()),
+        (b' ', path.name()),
+    ])
 }
 
-fn parts(alloc: Global, words: &mut Words) -> Result<Vec<u8>, CallFault> {
-    let path = read(alloc, words)?;
-    let mut out = Vec::new(alloc);
-    append_parts(alloc, &mut out, &path)?;
-    Ok(out)
+// Writes the text of a path, behind what stands there.
+fn append_text(out: &mut Answer, path: &Path) -> Result<(), CallFault> {
+    out.write(b"> ")?;
+    Ok(path.append_to(&mut out.bytes)?)
 }
 
-// The text of a path, behind what stands there.
-fn text(alloc: Global, words: &mut Words) -> Result<Vec<u8>, CallFault> {
-    let path = read(alloc, words)?;
-    let mut out = Vec::from_slice(alloc, b"> ")?;
-    path.append_to(&mut out)?;
-    Ok(out)
-}
-
-// A clone of a path, and whether it is the same.
-fn clone(alloc: Global, words: &mut Words) -> Result<Vec<u8>, CallFault> {
-    let path = read(alloc, words)?;
+// Writes a clone of a path, and whether it is the same.
+fn append_clone(out: &mut Answer, path: &Path) -> Result<(), CallFault> {
     let copy = path.try_clone()?;
-    let mut out = Vec::new(alloc);
-    append_path(&mut out, &copy)?;
-    out.push(b' ')?;
-    out.extend_from_slice(same_word(copy == path))?;
-    Ok(out)
+    out.write_path(&copy)?;
+    out.either(copy == *path, b" same", b" other")
 }
 
-// How paths are ordered.
-fn order(alloc: Global, words: &mut Words) -> Result<Vec<u8>, CallFault> {
-    let mut paths = Vec::new(alloc);
-    for _ in 0..words.count() {
-        paths.push(read(alloc, words)?)?;
+// The paths that the words left spell in full.
+fn full_paths(words: &mut Words) -> Result<Vec<Path>, CallFault> {
+    let mut paths = Vec::new(words.alloc);
+    for _ in 0..words.most() {
+        if words.is_over() {
+            break;
+        }
+        paths.push(full_path(words)?)?;
     }
-    let mut out = Vec::new(alloc);
-    append_signs(&mut out, &paths)?;
-    Ok(out)
+    Ok(paths)
 }
 
 // Bytes as a copy, as a vector that is taken over, and as a clone.
-fn bytes(alloc: Global, words: &mut Words) -> Result<Vec<u8>, CallFault> {
+fn bytes(words: &mut Words, out: &mut Answer) -> Result<(), CallFault> {
     let text = words.text()?;
-    let copy = Bytes::from_slice(alloc, &text)?;
-    let whole = Bytes::from_vec(text)?;
-    let mut out = Vec::new(alloc);
-    append_text(&mut out, copy.as_slice())?;
-    out.push(b' ')?;
-    append_text(&mut out, whole.as_slice())?;
-    out.push(b' ')?;
-    append_text(&mut out, whole.try_clone()?.as_slice())?;
-    Ok(out)
+    out.spell(Bytes::from_slice(words.alloc, &text)?.as_slice())?;
+    append_taken(out, &Bytes::from_vec(text)?)
 }
 
-// How bytes are ordered.
-fn bytes_order(alloc: Global, words: &mut Words) -> Result<Vec<u8>, CallFault> {
-    let mut texts = Vec::new(alloc);
-    for _ in 0..words.count() {
-        texts.push(Bytes::from_vec(words.text()?)?)?;
+// Writes bytes and a clone of them.
+fn append_taken(out: &mut Answer, whole: &Bytes) -> Result<(), CallFault> {
+    let copy = whole.try_clone()?;
+    out.spell_marked(&[(b' ', whole.as_slice()), (b' ', copy.as_slice())])
+}
+
+// The byte strings that the words left spell.
+fn all_bytes(words: &mut Words) -> Result<Vec<Bytes>, CallFault> {
+    let mut all = Vec::new(words.alloc);
+    for _ in 0..words.most() {
+        if words.is_over() {
+            break;
+        }
+        all.push(Bytes::from_vec(words.text()?)?)?;
     }
-    let mut out = Vec::new(alloc);
-    append_signs(&mut out, &texts)?;
-    Ok(out)
+    Ok(all)
 }

@@ -1,73 +1,56 @@
 //! Calls on the lines of scripts and their words.
-use crate::calls::{CallFault, Words, append_text};
+use crate::answer_text::Answer;
+use crate::calls::{CallFault, Words};
 use script_words::{
     cut_line, cut_word, is_name, is_passed_over, parse_number, text_of_rest, unescape,
 };
-use std::alloc::{AllocError, Global};
 
-/// What a call on lines answers.
-pub fn answer(alloc: Global, words: &mut Words) -> Result<Vec<u8>, CallFault> {
+/// Writes what a call on lines answers.
+pub fn answer(words: &mut Words, out: &mut Answer) -> Result<(), CallFault> {
     match words.word()? {
-        b"lines" => lines(alloc, words),
-        b"passed_over" => passed_over(alloc, words),
-        b"words" => parts(alloc, words),
-        b"text_behind" => text_behind(alloc, words),
-        b"number" => number(alloc, words),
-        b"name" => name(alloc, words),
-        b"text" => text(alloc, words),
+        b"text_behind" => text_behind(words, out),
+        call => told(call, &words.text()?, out),
+    }
+}
+
+// What a call answers of a text.
+fn told(call: &[u8], text: &[u8], out: &mut Answer) -> Result<(), CallFault> {
+    match call {
+        b"lines" => lines(text, out),
+        b"passed_over" => out.either(is_passed_over(text), b"yes", b"no"),
+        b"words" => parts(text, out),
+        b"number" => number(text, out),
+        b"name" => out.either(is_name(text), b"yes", b"no"),
+        b"text" => out.spell_found(unescape(out.alloc, text)?),
         _ => Err(CallFault::Line),
     }
 }
 
-// Writes a text, behind a space if something stands there.
-fn append_part(out: &mut Vec<u8>, part: &[u8]) -> Result<(), AllocError> {
-    if !out.is_empty() {
-        out.push(b' ')?;
-    }
-    append_text(out, part)
-}
-
-// Whether it is so.
-fn told(alloc: Global, is_so: bool) -> Result<Vec<u8>, CallFault> {
-    let word: &[u8] = if is_so { b"yes" } else { b"no" };
-    Ok(Vec::from_slice(alloc, word)?)
-}
-
 // The lines of a script.
-fn lines(alloc: Global, words: &mut Words) -> Result<Vec<u8>, CallFault> {
-    let script = words.text()?;
-    let mut out = Vec::new(alloc);
-    let mut rest = script.as_slice();
+fn lines(script: &[u8], out: &mut Answer) -> Result<(), CallFault> {
+    let mut rest = script;
     while !rest.is_empty() {
         let (line, later) = cut_line(rest);
-        append_part(&mut out, line)?;
+        out.part(b" ")?;
+        out.spell(line)?;
         rest = later;
     }
-    Ok(out)
-}
-
-fn passed_over(alloc: Global, words: &mut Words) -> Result<Vec<u8>, CallFault> {
-    let line = words.text()?;
-    told(alloc, is_passed_over(&line))
+    Ok(())
 }
 
 // The words of a line.
-fn parts(alloc: Global, words: &mut Words) -> Result<Vec<u8>, CallFault> {
-    let line = words.text()?;
-    let mut out = Vec::new(alloc);
-    let mut rest = line.as_slice();
+fn parts(line: &[u8], out: &mut Answer) -> Result<(), CallFault> {
+    let mut rest = line;
     while let Some((word, later)) = cut_word(rest) {
-        append_part(&mut out, word)?;
+        out.part(b" ")?;
+        out.spell(word)?;
         rest = later;
     }
-    if out.is_empty() {
-        out.extend_from_slice(b"none")?;
-    }
-    Ok(out)
+    out.or(b"none")
 }
 
 // The text behind some words of a line.
-fn text_behind(alloc: Global, words: &mut Words) -> Result<Vec<u8>, CallFault> {
+fn text_behind(words: &mut Words, out: &mut Answer) -> Result<(), CallFault> {
     let count = words.number()?;
     let line = words.text()?;
     let mut rest = line.as_slice();
@@ -75,33 +58,12 @@ fn text_behind(alloc: Global, words: &mut Words) -> Result<Vec<u8>, CallFault> {
         let (_word, later) = cut_word(rest).ok_or(CallFault::Line)?;
         rest = later;
     }
-    let mut out = Vec::new(alloc);
-    append_text(&mut out, text_of_rest(rest))?;
-    Ok(out)
+    out.spell(text_of_rest(rest))
 }
 
-fn number(alloc: Global, words: &mut Words) -> Result<Vec<u8>, CallFault> {
-    let word = words.text()?;
-    let mut out = Vec::new(alloc);
-    match parse_number(&word) {
-        Some(number) => out.extend_from_slice(format!(in alloc; "{number}")?.as_bytes())?,
-        None => out.extend_from_slice(b"none")?,
+fn number(word: &[u8], out: &mut Answer) -> Result<(), CallFault> {
+    match parse_number(word) {
+        Some(number) => out.print(&number),
+        None => out.write(b"none"),
     }
-    Ok(out)
-}
-
-fn name(alloc: Global, words: &mut Words) -> Result<Vec<u8>, CallFault> {
-    let word = words.text()?;
-    told(alloc, is_name(&word))
-}
-
-// What a text spells: the word spells the text.
-fn text(alloc: Global, words: &mut Words) -> Result<Vec<u8>, CallFault> {
-    let text = words.text()?;
-    let mut out = Vec::new(alloc);
-    match unescape(alloc, &text)? {
-        Some(bytes) => append_text(&mut out, &bytes)?,
-        None => out.extend_from_slice(b"none")?,
-    }
-    Ok(out)
 }

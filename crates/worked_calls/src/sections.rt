@@ -1,78 +1,73 @@
 //! Calls on the sections of unit files.
 //!
 //! An assignment is told as `LINE:SECTION.KEY=VALUE`, and a note as `LINE:` and its words.
-use crate::calls::{CallFault, Words, append_text};
-use crate::orders::same_word;
+use crate::answer_text::Answer;
+use crate::calls::{CallFault, Words};
 use section_reader::{Assignment, Sections, read};
 use std::alloc::{AllocError, Global};
+use std::fmt::Display;
 
-/// What a call on sections answers.
-pub fn answer(alloc: Global, words: &mut Words) -> Result<Vec<u8>, CallFault> {
+/// Writes what a call on sections answers.
+pub fn answer(words: &mut Words, out: &mut Answer) -> Result<(), CallFault> {
     match words.word()? {
-        b"read" => reading(alloc, words),
-        b"codes" => codes(alloc, words),
-        b"long" => long(alloc, words),
-        b"clone" => clone(alloc, words),
-        b"compare" => compare(alloc, words),
+        b"long" => long(words, out),
+        b"compare" => compare(words, out),
+        call => told(call, &read_next(words)?, out),
+    }
+}
+
+// What a call answers of one file.
+fn told(call: &[u8], sections: &Sections, out: &mut Answer) -> Result<(), CallFault> {
+    match call {
+        b"read" => append_sections(out, sections),
+        b"codes" => append_codes(out, sections),
+        b"clone" => append_clone(out, sections),
         _ => Err(CallFault::Line),
     }
 }
 
-// What the file says that the next word spells.
-fn read_next(alloc: Global, words: &mut Words) -> Result<Sections, CallFault> {
+/// What the file says that the next word spells.
+pub fn read_next(words: &mut Words) -> Result<Sections, CallFault> {
     let file = words.text()?;
-    Ok(read(alloc, &file)?)
-}
-
-// Writes a space, if something stands there, and a line's number.
-fn append_number(alloc: Global, out: &mut Vec<u8>, line: usize) -> Result<(), AllocError> {
-    if !out.is_empty() {
-        out.push(b' ')?;
-    }
-    out.extend_from_slice(format!(in alloc; "{line}:")?.as_bytes())
+    Ok(read(words.alloc, &file)?)
 }
 
 // Writes an assignment.
-fn append_item(alloc: Global, out: &mut Vec<u8>, item: &Assignment) -> Result<(), AllocError> {
-    append_number(alloc, out, item.line)?;
-    append_text(out, item.section.as_slice())?;
-    out.push(b'.')?;
-    append_text(out, item.key.as_slice())?;
-    out.push(b'=')?;
-    append_text(out, item.value.as_slice())
+fn append_item(out: &mut Answer, item: &Assignment) -> Result<(), CallFault> {
+    out.part(b" ")?;
+    out.print(&item.line)?;
+    out.spell_marked(&[
+        (b':', item.section.as_slice()),
+        (b'.', item.key.as_slice()),
+        (b'=', item.value.as_slice()),
+    ])
 }
 
-// What a file says: its assignments, and then its notes.
-fn told(alloc: Global, sections: &Sections) -> Result<Vec<u8>, CallFault> {
-    let mut out = Vec::new(alloc);
+// Writes what is noted of a line.
+fn append_note<T: Display>(out: &mut Answer, line: usize, noted: &T) -> Result<(), CallFault> {
+    out.part(b" ")?;
+    out.print(&line)?;
+    out.write(b":")?;
+    out.print(noted)
+}
+
+// Writes what a file says: its assignments, and then its notes.
+fn append_sections(out: &mut Answer, sections: &Sections) -> Result<(), CallFault> {
     for item in sections.items.as_slice() {
-        append_item(alloc, &mut out, item)?;
+        append_item(out, item)?;
     }
     for note in sections.notes.as_slice() {
-        append_number(alloc, &mut out, note.line)?;
-        let kind = note.kind;
-        out.extend_from_slice(format!(in alloc; "{kind}")?.as_bytes())?;
+        append_note(out, note.line, &note.kind)?;
     }
-    if out.is_empty() {
-        out.extend_from_slice(b"nothing")?;
-    }
-    Ok(out)
+    out.or(b"nothing")
 }
 
-fn reading(alloc: Global, words: &mut Words) -> Result<Vec<u8>, CallFault> {
-    let sections = read_next(alloc, words)?;
-    told(alloc, &sections)
-}
-
-// The codes of a file's notes.
-fn codes(alloc: Global, words: &mut Words) -> Result<Vec<u8>, CallFault> {
-    let sections = read_next(alloc, words)?;
-    let mut out = Vec::new(alloc);
+// Writes the codes of a file's notes.
+fn append_codes(out: &mut Answer, sections: &Sections) -> Result<(), CallFault> {
     for note in sections.notes.as_slice() {
-        append_number(alloc, &mut out, note.line)?;
-        out.extend_from_slice(note.kind.code().as_bytes())?;
+        append_note(out, note.line, &note.kind.code())?;
     }
-    Ok(out)
+    Ok(())
 }
 
 // A file with one value.
@@ -91,12 +86,11 @@ fn is_read(sections: &Sections, value: &[u8]) -> bool {
 }
 
 // Whether a file with one value of so many bytes is read as that value alone.
-fn long(alloc: Global, words: &mut Words) -> Result<Vec<u8>, CallFault> {
-    let count = usize::try_from(words.number()?).map_err(|_| CallFault::Line)?;
-    let value = vec![in alloc; b'v'; count]?;
-    let file = file_with(alloc, &value)?;
-    let sections = read(alloc, &file)?;
-    Ok(Vec::from_slice(alloc, same_word(is_read(&sections, &value)))?)
+fn long(words: &mut Words, out: &mut Answer) -> Result<(), CallFault> {
+    let count = usize::try_from(words.number()?)?;
+    let value = vec![in words.alloc; b'v'; count]?;
+    let sections = read(words.alloc, &file_with(words.alloc, &value)?)?;
+    out.either(is_read(&sections, &value), b"same", b"other")
 }
 
 // Whether clones of all assignments are the same as these.
@@ -108,43 +102,31 @@ fn are_items_same(sections: &Sections) -> Result<bool, AllocError> {
     Ok(are_same)
 }
 
-// Whether a clone of the notes is the same as these.
-fn are_notes_same(sections: &Sections) -> Result<bool, AllocError> {
-    Ok(sections.notes.try_clone()? == sections.notes)
-}
-
 // Writes whether all, the assignments and the notes are the same.
 fn append_verdict(
-    out: &mut Vec<u8>,
+    out: &mut Answer,
     is_same: bool,
     are_items_same: bool,
     are_notes_same: bool,
-) -> Result<(), AllocError> {
-    out.extend_from_slice(b"all ")?;
-    out.extend_from_slice(same_word(is_same))?;
-    out.extend_from_slice(b" items ")?;
-    out.extend_from_slice(same_word(are_items_same))?;
-    out.extend_from_slice(b" notes ")?;
-    out.extend_from_slice(same_word(are_notes_same))
+) -> Result<(), CallFault> {
+    out.either(is_same, b"all same", b"all other")?;
+    out.either(are_items_same, b" items same", b" items other")?;
+    out.either(are_notes_same, b" notes same", b" notes other")
 }
 
-// A clone of what a file says, and whether it and clones of the parts are the same.
-fn clone(alloc: Global, words: &mut Words) -> Result<Vec<u8>, CallFault> {
-    let sections = read_next(alloc, words)?;
+// Writes a clone of what a file says, and whether it and clones of the parts are the same.
+fn append_clone(out: &mut Answer, sections: &Sections) -> Result<(), CallFault> {
     let copy = sections.try_clone()?;
-    let are_items = are_items_same(&sections)?;
-    let are_notes = are_notes_same(&sections)?;
-    let mut out = told(alloc, &copy)?;
-    out.push(b' ')?;
-    append_verdict(&mut out, copy == sections, are_items, are_notes)?;
-    Ok(out)
+    let are_items = are_items_same(sections)?;
+    let are_notes = sections.notes.try_clone()? == sections.notes;
+    append_sections(out, &copy)?;
+    out.write(b" ")?;
+    append_verdict(out, copy == *sections, are_items, are_notes)
 }
 
 // Whether two files say the same, and whether a part of it is.
-fn compare(alloc: Global, words: &mut Words) -> Result<Vec<u8>, CallFault> {
-    let x = read_next(alloc, words)?;
-    let y = read_next(alloc, words)?;
-    let mut out = Vec::new(alloc);
-    append_verdict(&mut out, x == y, x.items == y.items, x.notes == y.notes)?;
-    Ok(out)
+fn compare(words: &mut Words, out: &mut Answer) -> Result<(), CallFault> {
+    let x = read_next(words)?;
+    let y = read_next(words)?;
+    append_verdict(out, x == y, x.items == y.items, x.notes == y.notes)
 }

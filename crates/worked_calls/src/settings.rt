@@ -2,210 +2,162 @@
 //!
 //! A value is told as `SECTION.KEY=VALUE`, a key with its values as `SECTION.KEY=` and these, a list of dependencies as its
 //! kind and `:` and the names, and a note as its code and `SECTION.KEY`.
-use crate::calls::{CallFault, Words, append_text};
+use crate::answer_text::Answer;
+use crate::calls::{CallFault, Words};
+use crate::name_lists::append_names;
+use crate::sections::read_next;
 use byte_strings::Bytes;
-use section_reader::{Assignment, Items, read};
+use section_reader::{Assignment, Items};
 use setting_rules::{
-    DepKind, DependencyList, Row, SettingNote, Settings, apply, dependencies, for_unit,
+    DepKind, Dependencies, SettingNote, Settings, Values, apply, dependencies, for_unit,
     refuses_manual_start, values,
 };
-use std::alloc::{AllocError, Global};
 use unit_name::UnitName;
 
-/// What a call on settings answers.
-pub fn answer(alloc: Global, words: &mut Words) -> Result<Vec<u8>, CallFault> {
-    match words.word()? {
-        b"apply" => told_map(alloc, words),
-        b"values" => told_values(alloc, words),
-        b"dependencies" => told_dependencies(alloc, words),
-        b"manual" => told_manual(alloc, words),
-        b"kinds" => told_kinds(alloc),
-        b"key" => told_key(alloc, words),
-        b"for" => told_name(alloc, words),
+/// Writes what a call on settings answers.
+pub fn answer(words: &mut Words, out: &mut Answer) -> Result<(), CallFault> {
+    let call = words.word()?;
+    match call {
+        b"kinds" => append_kinds(out),
+        b"key" => told_key(words, out),
+        b"for" => told_name(words, out),
+        b"apply" | b"manual" => of_files(call, &settings(words)?, out),
+        _ => told(call, words, out),
+    }
+}
+
+// What a call answers of files alone.
+fn of_files(call: &[u8], settings: &Settings, out: &mut Answer) -> Result<(), CallFault> {
+    match call {
+        b"apply" => append_settings(out, settings),
+        _ => out.either(refuses_manual_start(settings), b"refused", b"allowed"),
+    }
+}
+
+// What a call answers of a unit and its files.
+fn told(call: &[u8], words: &mut Words, out: &mut Answer) -> Result<(), CallFault> {
+    let unit = words.name()?;
+    of_unit(call, &unit, &settings(words)?, out)
+}
+
+// What a call answers of a unit and what its files come to.
+fn of_unit(
+    call: &[u8],
+    unit: &UnitName,
+    settings: &Settings,
+    out: &mut Answer,
+) -> Result<(), CallFault> {
+    match call {
+        b"values" => append_values(out, &values(out.alloc, settings, unit)?),
+        b"dependencies" => append_dependencies(out, &dependencies(out.alloc, settings, unit)?),
         _ => Err(CallFault::Line),
     }
 }
 
 // The assignments of the files that the words left spell.
-fn assignments(alloc: Global, words: &mut Words) -> Result<Items<Assignment>, CallFault> {
-    let mut all = Items::new(alloc);
-    for _ in 0..words.count() {
-        let file = words.text()?;
-        all.append(read(alloc, &file)?.items)?;
+fn assignments(words: &mut Words) -> Result<Items<Assignment>, CallFault> {
+    let mut all = Items::new(words.alloc);
+    for _ in 0..words.most() {
+        if words.is_over() {
+            break;
+        }
+        all.append(read_next(words)?.items)?;
     }
     Ok(all)
 }
 
 // What the files that the words left spell come to.
-fn settings(alloc: Global, words: &mut Words) -> Result<Settings, CallFault> {
-    let assignments = assignments(alloc, words)?;
-    Ok(apply(alloc, assignments.as_slice())?)
+fn settings(words: &mut Words) -> Result<Settings, CallFault> {
+    let assignments = assignments(words)?;
+    Ok(apply(words.alloc, assignments.as_slice())?)
 }
 
-// Writes a space, if something stands there, and a key of a section.
-fn append_key(out: &mut Vec<u8>, section: &Bytes, key: &Bytes) -> Result<(), AllocError> {
-    if !out.is_empty() {
-        out.push(b' ')?;
-    }
-    append_text(out, section.as_slice())?;
-    out.push(b'.')?;
-    append_text(out, key.as_slice())
+// Writes a key of a section, behind a space if something stands there.
+fn append_key(out: &mut Answer, section: &Bytes, key: &Bytes) -> Result<(), CallFault> {
+    out.part(b" ")?;
+    out.spell(section.as_slice())?;
+    out.spell_marked(&[(b'.', key.as_slice())])
 }
 
-// Writes a note.
-fn append_note(alloc: Global, out: &mut Vec<u8>, note: &SettingNote) -> Result<(), AllocError> {
-    if !out.is_empty() {
-        out.push(b' ')?;
-    }
-    let kind = note.kind;
-    out.extend_from_slice(format!(in alloc; "{kind}")?.as_bytes())?;
-    append_key(out, &note.section, &note.key)
-}
-
-// Writes notes.
-fn append_notes(alloc: Global, out: &mut Vec<u8>, notes: &[SettingNote]) -> Result<(), AllocError> {
+// Writes notes, or a word for nothing where nothing stands.
+fn append_notes(out: &mut Answer, notes: &[SettingNote]) -> Result<(), CallFault> {
     for note in notes {
-        append_note(alloc, out, note)?;
+        out.part(b" ")?;
+        out.print(&note.kind)?;
+        append_key(out, &note.section, &note.key)?;
     }
-    Ok(())
+    out.or(b"nothing")
 }
 
 // Writes a key with its values.
 fn append_entry(
-    out: &mut Vec<u8>,
+    out: &mut Answer,
     section: &Bytes,
     key: &Bytes,
     texts: &[Bytes],
-) -> Result<(), AllocError> {
+) -> Result<(), CallFault> {
     append_key(out, section, key)?;
-    out.push(b'=')?;
+    out.write(b"=")?;
     for text in texts {
-        append_text(out, text.as_slice())?;
-        out.push(b',')?;
+        out.spell(text.as_slice())?;
+        out.write(b",")?;
     }
     Ok(())
 }
 
-// Each key with its values, and the notes.
-fn told_map(alloc: Global, words: &mut Words) -> Result<Vec<u8>, CallFault> {
-    let settings = settings(alloc, words)?;
-    let mut out = Vec::new(alloc);
+// Writes each key with its values, and the notes.
+fn append_settings(out: &mut Answer, settings: &Settings) -> Result<(), CallFault> {
     for place in 0..settings.map.len() {
         let (key, texts) = settings.map.entry(place);
-        append_entry(&mut out, &key.section, &key.key, texts)?;
+        append_entry(out, &key.section, &key.key, texts)?;
     }
-    append_notes(alloc, &mut out, settings.notes.as_slice())?;
-    Ok(or_nothing(out)?)
+    append_notes(out, settings.notes.as_slice())
 }
 
-// Writes a row.
-fn append_row(out: &mut Vec<u8>, row: &Row) -> Result<(), AllocError> {
-    append_key(out, &row.section, &row.key)?;
-    out.push(b'=')?;
-    append_text(out, row.value.as_slice())
-}
-
-// The rows of a unit, and the notes.
-fn told_values(alloc: Global, words: &mut Words) -> Result<Vec<u8>, CallFault> {
-    let unit = words.name()?;
-    let settings = settings(alloc, words)?;
-    let values = values(alloc, &settings, &unit)?;
-    let mut out = Vec::new(alloc);
+// Writes rows, and the notes.
+fn append_values(out: &mut Answer, values: &Values) -> Result<(), CallFault> {
     for row in values.rows.as_slice() {
-        append_row(&mut out, row)?;
+        append_key(out, &row.section, &row.key)?;
+        out.spell_marked(&[(b'=', row.value.as_slice())])?;
     }
-    append_notes(alloc, &mut out, values.notes.as_slice())?;
-    Ok(or_nothing(out)?)
+    append_notes(out, values.notes.as_slice())
 }
 
-// Writes a list of dependencies that isn't empty.
-fn append_list(out: &mut Vec<u8>, list: &DependencyList) -> Result<(), AllocError> {
-    if list.names.as_slice().is_empty() {
-        return Ok(());
+// Writes those lists of dependencies that aren't empty, and the notes.
+fn append_dependencies(out: &mut Answer, all: &Dependencies) -> Result<(), CallFault> {
+    for list in all.lists.as_slice() {
+        if !list.names.as_slice().is_empty() {
+            out.part(b" ")?;
+            out.write(list.kind.word().as_bytes())?;
+            out.write(b":")?;
+            append_names(out, list.names.as_slice())?;
+        }
     }
-    if !out.is_empty() {
-        out.push(b' ')?;
-    }
-    out.extend_from_slice(list.kind.word().as_bytes())?;
-    out.push(b':')?;
-    append_names(out, list.names.as_slice())
+    append_notes(out, all.notes.as_slice())
 }
 
-// Writes names, each behind a space.
-fn append_names(out: &mut Vec<u8>, names: &[UnitName]) -> Result<(), AllocError> {
-    for name in names {
-        out.push(b' ')?;
-        out.extend_from_slice(name.bytes())?;
+// Writes all kinds, each with its inverse.
+fn append_kinds(out: &mut Answer) -> Result<(), CallFault> {
+    for kind in DepKind::all() {
+        out.part(b" ")?;
+        out.write(kind.word().as_bytes())?;
+        out.write(b"/")?;
+        out.write(kind.inverse().word().as_bytes())?;
     }
     Ok(())
-}
-
-// The lists of a unit that aren't empty, and the notes.
-fn told_dependencies(alloc: Global, words: &mut Words) -> Result<Vec<u8>, CallFault> {
-    let unit = words.name()?;
-    let settings = settings(alloc, words)?;
-    let all = dependencies(alloc, &settings, &unit)?;
-    let mut out = Vec::new(alloc);
-    for list in all.lists.as_slice() {
-        append_list(&mut out, list)?;
-    }
-    append_notes(alloc, &mut out, all.notes.as_slice())?;
-    Ok(or_nothing(out)?)
-}
-
-// Whether a unit refuses a manual start.
-fn told_manual(alloc: Global, words: &mut Words) -> Result<Vec<u8>, CallFault> {
-    let settings = settings(alloc, words)?;
-    let text: &[u8] = if refuses_manual_start(&settings) {
-        b"refused"
-    } else {
-        b"allowed"
-    };
-    Ok(Vec::from_slice(alloc, text)?)
-}
-
-// All kinds, each with its inverse.
-fn told_kinds(alloc: Global) -> Result<Vec<u8>, CallFault> {
-    let mut out = Vec::new(alloc);
-    for kind in DepKind::all() {
-        append_word(&mut out, kind.word())?;
-        out.push(b'/')?;
-        out.extend_from_slice(kind.inverse().word().as_bytes())?;
-    }
-    Ok(out)
-}
-
-// Writes a space, if something stands there, and a word.
-fn append_word(out: &mut Vec<u8>, word: &str) -> Result<(), AllocError> {
-    if !out.is_empty() {
-        out.push(b' ')?;
-    }
-    out.extend_from_slice(word.as_bytes())
 }
 
 // The kind that a key sets.
-fn told_key(alloc: Global, words: &mut Words) -> Result<Vec<u8>, CallFault> {
-    let word = match DepKind::of_key(&words.text()?) {
-        Some(kind) => kind.word(),
-        None => "none",
-    };
-    Ok(Vec::from_slice(alloc, word.as_bytes())?)
+fn told_key(words: &mut Words, out: &mut Answer) -> Result<(), CallFault> {
+    match DepKind::of_key(&words.text()?) {
+        Some(kind) => out.write(kind.word().as_bytes()),
+        None => out.write(b"none"),
+    }
 }
 
 // The unit that a unit means by a name.
-fn told_name(alloc: Global, words: &mut Words) -> Result<Vec<u8>, CallFault> {
+fn told_name(words: &mut Words, out: &mut Answer) -> Result<(), CallFault> {
     let unit = words.name()?;
     let name = words.name()?;
-    match for_unit(&unit, name)? {
-        Some(named) => Ok(Vec::from_slice(alloc, named.bytes())?),
-        None => Ok(Vec::from_slice(alloc, b"none")?),
-    }
-}
-
-// What was written, or a word for nothing.
-fn or_nothing(mut out: Vec<u8>) -> Result<Vec<u8>, AllocError> {
-    if out.is_empty() {
-        out.extend_from_slice(b"nothing")?;
-    }
-    Ok(out)
+    out.spell_name(for_unit(&unit, name)?)
 }

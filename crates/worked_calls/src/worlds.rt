@@ -2,122 +2,115 @@
 //!
 //! An event is a node's number and `!EDIT` for a put, `?` for an ask, `/ASK` for a cut, with `@PATH,PATH` behind it for
 //! a cut at some paths; and a piece's number and `>NODE` for a gift.
-use crate::calls::{CallFault, Words, number_of, path_of};
+use crate::answer_text::Answer;
+use crate::calls::{CallFault, Words, cut_at, number_of, parts_of, path_of, writer_of};
 use crate::edits::{append_store, edit_of};
-use crate::replicas::{replica, writer};
+use crate::replicas::replica;
 use delta_gossip::{Event, Paths, World, exchange, run_world, sweep};
-use delta_pieces::Piece;
 use replica_store::{Path, Replica};
-use std::alloc::{AllocError, Global};
+use std::alloc::Global;
 
-/// What a call on worlds answers.
-pub fn answer(alloc: Global, words: &mut Words) -> Result<Vec<u8>, CallFault> {
+/// Writes what a call on worlds answers.
+pub fn answer(words: &mut Words, out: &mut Answer) -> Result<(), CallFault> {
     match words.word()? {
-        b"exchange" => exchanged(alloc, words),
-        b"sweep" => swept(alloc, words),
-        b"run" => run(alloc, words),
+        b"exchange" => exchanged(words, out),
+        b"sweep" => swept(words, out),
+        b"run" => run(words, out),
         _ => Err(CallFault::Line),
     }
 }
 
-// The two replicas of an exchange, and how many paths changed in each.
-fn exchanged(alloc: Global, words: &mut Words) -> Result<Vec<u8>, CallFault> {
-    let a = replica(alloc, 1, words)?;
-    let b = replica(alloc, 2, words)?;
-    both(alloc, a, b)
+// Two replicas after an exchange.
+fn exchanged(words: &mut Words, out: &mut Answer) -> Result<(), CallFault> {
+    let mut a = replica(1, words)?;
+    let mut b = replica(2, words)?;
+    append_exchange(out, &mut a, &mut b)
 }
 
-// Two replicas after an exchange, behind how many paths changed in each.
-fn both(alloc: Global, mut a: Replica, mut b: Replica) -> Result<Vec<u8>, CallFault> {
-    let (first, second) = exchange(&mut a, &mut b)?;
-    let mut out = format!(in alloc; "{first} and {second} changed; ")?.into_bytes();
-    append_replicas(alloc, &mut out, &[a, b])?;
-    Ok(out)
+// Exchanges, and writes how many paths changed in each of two replicas, and then both.
+fn append_exchange(out: &mut Answer, a: &mut Replica, b: &mut Replica) -> Result<(), CallFault> {
+    let (first, second) = exchange(a, b)?;
+    out.write(format!(in out.alloc; "{first} and {second} changed; ")?.as_bytes())?;
+    append_both(out, a, b)
 }
 
-// As many replicas as the first word says, after a sweep.
-fn swept(alloc: Global, words: &mut Words) -> Result<Vec<u8>, CallFault> {
-    let mut replicas = Vec::new(alloc);
-    for writer in 0..writer(words)? {
-        replicas.push(replica(alloc, writer, words)?)?;
+/// As many replicas as the next word says.
+pub fn replicas(words: &mut Words) -> Result<Vec<Replica>, CallFault> {
+    let mut replicas = Vec::new(words.alloc);
+    for writer in 0..writer_of(words.word()?)? {
+        replicas.push(replica(writer, words)?)?;
     }
+    Ok(replicas)
+}
+
+// Replicas after a sweep.
+fn swept(words: &mut Words, out: &mut Answer) -> Result<(), CallFault> {
+    let mut replicas = replicas(words)?;
     sweep(&mut replicas)?;
-    replicas_told(alloc, &replicas)
+    append_replicas(out, &replicas)
 }
 
-/// Each replica with its writer and what it holds.
-pub fn replicas_told(alloc: Global, replicas: &[Replica]) -> Result<Vec<u8>, CallFault> {
-    let mut out = Vec::new(alloc);
-    append_replicas(alloc, &mut out, replicas)?;
-    Ok(out)
+// Writes what a replica holds, behind its writer.
+fn append_replica(out: &mut Answer, replica: &Replica) -> Result<(), CallFault> {
+    out.print(&replica.writer())?;
+    out.write(b" has")?;
+    append_store(out, replica.store())
 }
 
-// Each replica with its writer.
-fn append_replicas(
-    alloc: Global,
-    out: &mut Vec<u8>,
-    replicas: &[Replica],
-) -> Result<(), AllocError> {
+/// Writes two replicas.
+pub fn append_both(out: &mut Answer, a: &Replica, b: &Replica) -> Result<(), CallFault> {
+    append_replica(out, a)?;
+    out.write(b" | ")?;
+    append_replica(out, b)
+}
+
+/// Writes replicas.
+pub fn append_replicas(out: &mut Answer, replicas: &[Replica]) -> Result<(), CallFault> {
     let mut is_first = true;
     for replica in replicas {
-        if !is_first {
-            out.extend_from_slice(b" | ")?;
-        }
+        out.either(is_first, b"", b" | ")?;
         is_first = false;
-        append_replica(alloc, out, replica)?;
+        append_replica(out, replica)?;
     }
     Ok(())
-}
-
-// What a replica holds, behind its writer.
-fn append_replica(alloc: Global, out: &mut Vec<u8>, replica: &Replica) -> Result<(), AllocError> {
-    let writer = replica.writer();
-    out.extend_from_slice(format!(in alloc; "{writer} has ")?.as_bytes())?;
-    append_store(alloc, out, replica.store())
 }
 
 // The world of the writers of the first word after the events of the others.
-fn run(alloc: Global, words: &mut Words) -> Result<Vec<u8>, CallFault> {
-    let writers = numbers(alloc, words.word()?)?;
-    let events = events(alloc, words)?;
-    let world = run_world(alloc, &writers, &events)?;
-    told(alloc, &world)
+fn run(words: &mut Words, out: &mut Answer) -> Result<(), CallFault> {
+    let writers = writers(words)?;
+    let events = events(words)?;
+    append_world(out, &run_world(words.alloc, &writers, &events)?)
 }
 
-// The numbers that a word writes, parted by commas.
-fn numbers(alloc: Global, word: &[u8]) -> Result<Vec<u32>, CallFault> {
-    let mut numbers = Vec::new(alloc);
-    for part in word.split(|b| *b == b',') {
-        let number = number_of(part)?;
-        numbers.push(u32::try_from(number).map_err(|_| CallFault::Line)?)?;
+// The writers that the next word writes.
+fn writers(words: &mut Words) -> Result<Vec<u32>, CallFault> {
+    let mut writers = Vec::new(words.alloc);
+    for part in &parts_of(words.alloc, words.word()?)? {
+        writers.push(writer_of(part)?)?;
     }
-    Ok(numbers)
+    Ok(writers)
 }
 
-// How many asks there are, what each piece carries, and what each replica holds.
-fn told(alloc: Global, world: &World) -> Result<Vec<u8>, CallFault> {
+// Writes how many asks there are, how many paths each piece carries, and what each replica holds.
+fn append_world(out: &mut Answer, world: &World) -> Result<(), CallFault> {
     let asks = world.asks.len();
-    let mut out = format!(in alloc; "asks {asks}; pieces")?.into_bytes();
-    append_sizes(alloc, &mut out, &world.pieces)?;
-    out.extend_from_slice(b"; ")?;
-    append_replicas(alloc, &mut out, &world.replicas)?;
-    Ok(out)
-}
-
-// How many paths each piece carries.
-fn append_sizes(alloc: Global, out: &mut Vec<u8>, pieces: &[Piece]) -> Result<(), AllocError> {
-    for piece in pieces {
-        let count = piece.len();
-        out.extend_from_slice(format!(in alloc; " {count}")?.as_bytes())?;
+    out.write(format!(in out.alloc; "asks {asks}; pieces")?.as_bytes())?;
+    for piece in &world.pieces {
+        out.write(b" ")?;
+        out.print(&piece.len())?;
     }
-    Ok(())
+    out.write(b"; ")?;
+    append_replicas(out, &world.replicas)
 }
 
 // The events that the words left write.
-fn events(alloc: Global, words: &mut Words) -> Result<Vec<Event>, CallFault> {
-    let mut events = Vec::new(alloc);
-    for _ in 0..words.count() {
-        events.push(event(alloc, words.word()?)?)?;
+fn events(words: &mut Words) -> Result<Vec<Event>, CallFault> {
+    let mut events = Vec::new(words.alloc);
+    for _ in 0..words.most() {
+        if words.is_over() {
+            break;
+        }
+        events.push(event(words.alloc, words.word()?)?)?;
     }
     Ok(events)
 }
@@ -151,23 +144,20 @@ fn give(piece: usize, word: &[u8]) -> Result<Event, CallFault> {
 
 // A node cuts for the ask of a word, at the paths behind it or at all.
 fn cut(alloc: Global, node: usize, word: &[u8]) -> Result<Event, CallFault> {
-    let Some(place) = word.iter().position(|b| *b == b'@') else {
+    let Some((ask, names)) = cut_at(word, b'@') else {
         let ask = number_of(word)? as usize;
         let paths = None;
         return Ok(Event::Cut { node, ask, paths });
     };
-    let ask = number_of(&word[..place])? as usize;
-    let paths = Some(Paths::new(named(alloc, &word[place + 1..])?));
+    let ask = number_of(ask)? as usize;
+    let paths = Some(Paths::new(named(alloc, names)?));
     Ok(Event::Cut { node, ask, paths })
 }
 
 // The paths that a word writes, parted by commas.
 fn named(alloc: Global, word: &[u8]) -> Result<Vec<Path>, CallFault> {
     let mut paths = Vec::new(alloc);
-    if word.is_empty() {
-        return Ok(paths);
-    }
-    for part in word.split(|b| *b == b',') {
+    for part in &parts_of(alloc, word)? {
         paths.push(path_of(alloc, part)?)?;
     }
     Ok(paths)

@@ -1,0 +1,119 @@
+//! The answer of a call.
+use crate::calls::CallFault;
+use load_path::Path;
+use std::alloc::Global;
+use std::fmt::Display;
+use unit_name::UnitName;
+
+/// The answer of a call, as far as it is written.
+#[derive(Drop)]
+pub struct Answer {
+    /// Where its memory is from.
+    pub alloc: Global,
+    /// What is written.
+    pub bytes: Vec<u8>,
+}
+
+impl Answer {
+    /// Nothing yet.
+    pub fn new(alloc: Global) -> Self {
+        Answer {
+            alloc,
+            bytes: Vec::new(alloc),
+        }
+    }
+
+    /// Whether nothing stands there.
+    pub fn is_empty(&self) -> bool {
+        self.bytes.is_empty()
+    }
+
+    /// Writes bytes as they are.
+    pub fn write(&mut self, bytes: &[u8]) -> Result<(), CallFault> {
+        Ok(self.bytes.extend_from_slice(bytes)?)
+    }
+
+    /// Writes what a value prints.
+    pub fn print<T: Display>(&mut self, value: &T) -> Result<(), CallFault> {
+        self.write(format!(in self.alloc; "{value}")?.as_bytes())
+    }
+
+    /// Writes one text where it is so, and else another.
+    pub fn either(&mut self, is_so: bool, so: &[u8], other: &[u8]) -> Result<(), CallFault> {
+        self.write(if is_so { so } else { other })
+    }
+
+    /// Writes what parts two things, if something stands there.
+    pub fn part(&mut self, between: &[u8]) -> Result<(), CallFault> {
+        let is_empty = self.is_empty();
+        self.either(is_empty, b"", between)
+    }
+
+    /// Writes a word, if nothing stands there.
+    pub fn or(&mut self, word: &[u8]) -> Result<(), CallFault> {
+        let is_empty = self.is_empty();
+        self.either(is_empty, word, b"")
+    }
+
+    /// Writes bytes as texts are spelled: a backslash, a space, and what isn't printed, as `\xHH`.
+    pub fn spell(&mut self, bytes: &[u8]) -> Result<(), CallFault> {
+        if bytes.is_empty() {
+            return self.write(b"''");
+        }
+        for byte in bytes {
+            self.spell_byte(*byte)?;
+        }
+        Ok(())
+    }
+
+    // Writes one byte as texts are spelled.
+    fn spell_byte(&mut self, byte: u8) -> Result<(), CallFault> {
+        match byte {
+            b'\n' => self.write(b"\\n"),
+            b'\t' => self.write(b"\\t"),
+            b'\\' => self.write(b"\\\\"),
+            0x21..=0x7e => self.write(&[byte]),
+            _ => self.write(format!(in self.alloc; "\\x{byte:02x}")?.as_bytes()),
+        }
+    }
+
+    /// Writes texts as they are spelled, each behind its mark.
+    pub fn spell_marked(&mut self, texts: &[(u8, &[u8])]) -> Result<(), CallFault> {
+        for text in texts {
+            self.write(&[text.0])?;
+            self.spell(text.1)?;
+        }
+        Ok(())
+    }
+
+    /// Writes a text as it is spelled, if there is one.
+    pub fn spell_found(&mut self, text: Option<Vec<u8>>) -> Result<(), CallFault> {
+        match text {
+            Some(text) => self.spell(&text),
+            None => self.write(b"none"),
+        }
+    }
+
+    /// Writes a name, if there is one.
+    pub fn spell_name(&mut self, name: Option<UnitName>) -> Result<(), CallFault> {
+        match name {
+            Some(name) => self.spell(name.bytes()),
+            None => self.write(b"none"),
+        }
+    }
+
+    /// Writes a path, its directory as `E`, `R`, `L` or `U`.
+    pub fn write_path(&mut self, path: &Path) -> Result<(), CallFault> {
+        self.write(match path.rank() {
+            0 => b"E/",
+            1 => b"R/",
+            2 => b"L/",
+            _ => b"U/",
+        })?;
+        if !path.folder().is_empty() {
+            self.write(path.folder())?;
+            self.write(b"/")?;
+        }
+        self.write(path.name())
+    }
+}
