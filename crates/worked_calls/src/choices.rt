@@ -42,11 +42,6 @@ fn append_resolution(out: &mut Answer, end: &Resolution) -> Result<(), CallFault
     append_choice(out, &end.choice)
 }
 
-// Whether a name is a unit's main name.
-fn is_main(alloc: Global, store: &Store, name: &UnitName) -> Result<bool, CallFault> {
-    Ok(resolve(alloc, store, name)?.main.bytes() == name.bytes())
-}
-
 // Writes the names of the unit, if this is its main name.
 fn append_names_of(
     alloc: Global,
@@ -54,7 +49,7 @@ fn append_names_of(
     store: &Store,
     name: &UnitName,
 ) -> Result<(), CallFault> {
-    if is_main(alloc, store, name)? {
+    if resolve(alloc, store, name)?.main.bytes() == name.bytes() {
         append_names(out, &names_of(alloc, store, name)?)
     } else {
         out.write(b"no main name")
@@ -70,7 +65,7 @@ fn append_indexed(
 ) -> Result<(), CallFault> {
     let index = AliasIndex::of(alloc, store)?;
     for unit in units {
-        if is_main(alloc, store, unit)? {
+        if resolve(alloc, store, unit)?.main.bytes() == unit.bytes() {
             out.part(b" +")?;
             append_names(out, &index.names_of(alloc, unit)?)?;
         }
