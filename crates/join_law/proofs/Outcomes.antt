@@ -1,10 +1,22 @@
 -- What holds whatever a call answers.
-use Rattle.std.specs.Prelude.{Result, Ok, Err, OnErr, Bool, true, false}
+use Rattle.std.specs.Prelude.{Result, Ok, Err, OnOk, OnErr, Bool, true, false}
 use Rattle.std.specs.Bool.{OnFalse}
 
 pub on_err : {T E P : Type 0} (r : Result T E) → P → OnErr r P
 on_err (Ok t) p = tt
 on_err (Err e) p = p
+
+pub on_err_weaker : {T E P Q : Type 0} (r : Result T E) → (P → Q) → OnErr r P → OnErr r Q
+on_err_weaker (Ok t) f h = tt
+on_err_weaker (Err e) f h = f h
+
+pub on_ok_weaker : {T E P Q : Type 0} (r : Result T E) → (P → Q) → OnOk r P → OnOk r Q
+on_ok_weaker (Ok t) f h = f h
+on_ok_weaker (Err e) f h = tt
+
+pub by_outcome : {T E P Q A : Type 0} (r : Result T E) → (P → A) → (Q → A) → OnOk r P → OnErr r Q → A
+by_outcome (Ok t) f g p q = f p
+by_outcome (Err e) f g p q = g q
 
 pub on_false_weaker : {P Q : Type 0} (b : Bool) → (P → Q) → OnFalse b P → OnFalse b Q
 on_false_weaker true f h = tt

@@ -1,6 +1,7 @@
 //! Joins of one value into maps of maps.
-ghost use Rattle.std.specs.Prelude.{◌≡◌, [], ◌∷◌, IsSome, IsOk, IfOk, OnOk, OnErr};
+ghost use Rattle.std.specs.Prelude.{◌≡◌, ◌≤◌, [], ◌∷◌, vec_len, IsSome, IsOk, IfOk, OnOk, OnErr};
 ghost use Rattle.std.specs.FinMap.{find};
+ghost use Rattle.sorted_pairs.specs.Places.{IsGap};
 ghost use Rattle.join_law.specs.Maps.{IsHeld, IsMap, MapBelow, or_empty};
 ghost use Rattle.join_law.specs.Order.{IsBetween, IsJoin};
 
@@ -9,6 +10,28 @@ use crate::keys::Key;
 use crate::maps::JoinMap;
 use sorted_pairs::seek;
 use std::alloc::AllocError;
+
+// Inserts the map of one pair at the place of a key that is absent.
+fn insert_within<K: Key, L: Key, V: Join>(
+    pairs: &mut Vec<(K, JoinMap<L, V>)>,
+    at: usize,
+    key: K,
+    inner: L,
+    value: V,
+) -> Result<(), AllocError>
+    requires map { IsMap K.cmp (MapBelow L.cmp V.below) (IsMap L.cmp V.below V.is_valid) pairs.old.items }
+    requires held { IsHeld V.below V.is_valid value }
+    requires gap { IsGap K.cmp key pairs.old.items at }
+    requires within { at ≤ vec_len pairs.old }
+    ensures map { IsMap K.cmp (MapBelow L.cmp V.below) (IsMap L.cmp V.below V.is_valid) pairs.new.items }
+    ensures ok { OnOk result (IsJoin (MapBelow K.cmp (MapBelow L.cmp V.below)) pairs.old.items
+        ((key, (inner, value) ∷ []) ∷ []) pairs.new.items) }
+    ensures refused { OnErr result (pairs.new.items ≡ pairs.old.items) }
+{
+    let made = JoinMap::of_pair(*pairs.allocator(), inner, value)?;
+    pairs.insert(at, (key, made))?;
+    Ok(())
+}
 
 // Joins a value into the one at a key of the map at a key.
 fn join_within<K: Key, L: Key, V: Join>(
@@ -36,11 +59,7 @@ fn join_within<K: Key, L: Key, V: Join>(
                 Err(_) => Err(AllocError),
             }
         }
-        Err(at) => {
-            let made = JoinMap::of_pair(*pairs.allocator(), inner, value)?;
-            pairs.insert(at, (key, made))?;
-            Ok(())
-        }
+        Err(at) => insert_within(pairs, at, key, inner, value),
     }
 }
 
@@ -69,15 +88,11 @@ fn join_deep<K: Key, L: Key, M: Key, V: Join>(
     match seek(pairs, &key) {
         Ok(at) => {
             let place = &mut pairs[at];
-            place.1.join_within(inner, innermost, value)?;
-            Ok(())
+            place.1.join_within(inner, innermost, value)
         }
         Err(at) => {
-            let alloc = *pairs.allocator();
-            let made = JoinMap::of_pair(alloc, innermost, value)?;
-            let outer = JoinMap::of_pair(alloc, inner, made)?;
-            pairs.insert(at, (key, outer))?;
-            Ok(())
+            let made = JoinMap::of_pair(*pairs.allocator(), innermost, value)?;
+            insert_within(pairs, at, key, inner, made)
         }
     }
 }

@@ -1,11 +1,12 @@
-use Rattle.std.proofs.Common.{[], ◌∷◌, Some, ap, sym, ◌∙◌, set, subst}
+use Rattle.std.proofs.Common.{◌≡◌, [], ◌∷◌, Some, ap, sym, ◌∙◌, set, subst}
 use Rattle.std.specs.Prelude.{IsSome}
 use Rattle.std.specs.FinMap.{find}
 use Rattle.sorted_pairs.specs.PlaceLaws.{find_at, find_gap}
 use Rattle.join_law.specs.Maps.{IsMap, MapBelow, or_empty}
+use Rattle.join_law.specs.Order.{IsBetween}
 use Rattle.join_law.specs.MapLaws.{map_itself, map_chain}
-use Rattle.join_law.proofs.MapEdits.{set_same, joined_is_map, joined_is_join, between_is_map, between_is_between, unchanged_is_between, inserted_is_map, inserted_is_join, partial_between, pair_held}
-use Rattle.join_law.proofs.Outcomes.{on_err}
+use Rattle.join_law.proofs.MapEdits.{set_same, joined_is_map, joined_is_join, between_is_map, between_is_between, unchanged_is_between, partial_between, pair_held}
+use Rattle.join_law.proofs.Outcomes.{on_err_weaker}
 use Rattle.join_law.proofs.nested.join_within.Goals as goal
 
 pub seek-requires : goal.seek-requires
@@ -38,32 +39,18 @@ returns-in-Ok-clause-in_place g c = λ in_place some.
     let ok = c.in-Err-join_at.ensures.in_place in_place (subst (λ x. IsSome (find g.L.Ord.cmp c.args.inner (or_empty x))) found some) in
     cc (ok)
 
-pub returns-in_err-made-in-Err-clause-refused : goal.returns-in_err-made-in-Err-clause-refused
-returns-in_err-made-in-Err-clause-refused g c =
-    on_err _ (unchanged_is_between g.K.Ord.cmp g.met.K.Ord.total (IsMap g.L.Ord.cmp g.V.Join.below g.V.Join.is_valid) (MapBelow g.L.Ord.cmp g.V.Join.below) (map_itself g.V.Join.below g.met.V.Join.reflexive g.met.V.Join.transitive g.L.Ord.cmp) (map_chain g.V.Join.below g.met.V.Join.reflexive g.met.V.Join.transitive g.L.Ord.cmp) c.args.key _ c.in-Err.at c.requires.map ((c.args.inner, c.args.value) ∷ []) (pair_held g.L.Ord.cmp g.met.L.Ord.total g.V.Join.below g.V.Join.is_valid c.args.inner c.args.value c.requires.held).not_least)
+pub returns-clause-refused : goal.returns-clause-refused
+returns-clause-refused g c =
+    let unchanged = unchanged_is_between g.K.Ord.cmp g.met.K.Ord.total (IsMap g.L.Ord.cmp g.V.Join.below g.V.Join.is_valid) (MapBelow g.L.Ord.cmp g.V.Join.below) (map_itself g.V.Join.below g.met.V.Join.reflexive g.met.V.Join.transitive g.L.Ord.cmp) (map_chain g.V.Join.below g.met.V.Join.reflexive g.met.V.Join.transitive g.L.Ord.cmp) c.args.key _ c.in-Err.at c.requires.map ((c.args.inner, c.args.value) ∷ []) (pair_held g.L.Ord.cmp g.met.L.Ord.total g.V.Join.below g.V.Join.is_valid c.args.inner c.args.value c.requires.held).not_least in
+    on_err_weaker _ (λ same. subst (IsBetween (MapBelow g.K.Ord.cmp (MapBelow g.L.Ord.cmp g.V.Join.below)) c.args.pairs.now.items ((c.args.key, (c.args.inner, c.args.value) ∷ []) ∷ [])) (sym same) unchanged) c.insert_within.ensures.refused
 
-pub returns-in_err-made-in-Err-clause-in_place : goal.returns-in_err-made-in-Err-clause-in_place
-returns-in_err-made-in-Err-clause-in_place g c = λ in_place some.
+pub returns-clause-single : goal.returns-clause-single
+returns-clause-single g c =
+    let kept : c.insert_within.new.pairs.items ≡ c.args.pairs.now.items → g.V.Join.is_single c.args.value → c.insert_within.new.pairs.items ≡ c.args.pairs.now.items = λ same single. same in
+    on_err_weaker _ kept c.insert_within.ensures.refused
+
+pub returns-clause-in_place : goal.returns-clause-in_place
+returns-clause-in_place g c = λ in_place some.
     let none = find_gap g.K.Ord.cmp c.args.key g.met.K.Ord.total _ _ c.requires.map.sorted (rw c.deref.ensures.value at c.in-Err.ensures.absent) in
     let absent = subst (λ x. IsSome (find g.L.Ord.cmp c.args.inner (or_empty x))) none some in
     cc (absent)
-
-pub returns-in_err-insert-in-Err-clause-refused : goal.returns-in_err-insert-in-Err-clause-refused
-returns-in_err-insert-in-Err-clause-refused g c =
-    rw c.in_err-insert-in-Err.ensures.items (on_err _ (unchanged_is_between g.K.Ord.cmp g.met.K.Ord.total (IsMap g.L.Ord.cmp g.V.Join.below g.V.Join.is_valid) (MapBelow g.L.Ord.cmp g.V.Join.below) (map_itself g.V.Join.below g.met.V.Join.reflexive g.met.V.Join.transitive g.L.Ord.cmp) (map_chain g.V.Join.below g.met.V.Join.reflexive g.met.V.Join.transitive g.L.Ord.cmp) c.args.key _ c.in-Err.at c.requires.map ((c.args.inner, c.args.value) ∷ []) (pair_held g.L.Ord.cmp g.met.L.Ord.total g.V.Join.below g.V.Join.is_valid c.args.inner c.args.value c.requires.held).not_least))
-
-pub returns-in_err-insert-in-Err-clause-in_place : goal.returns-in_err-insert-in-Err-clause-in_place
-returns-in_err-insert-in-Err-clause-in_place g c = λ in_place some.
-    let none = find_gap g.K.Ord.cmp c.args.key g.met.K.Ord.total _ _ c.requires.map.sorted (rw c.deref.ensures.value at c.in-Err.ensures.absent) in
-    let absent = subst (λ x. IsSome (find g.L.Ord.cmp c.args.inner (or_empty x))) none some in
-    cc (absent)
-
-pub returns-clause-map : goal.returns-clause-map
-returns-clause-map g c =
-    rw (c.in_ok-insert-in-Err.ensures.items, c.in_ok-made-in-Err.ensures.pair)
-    (inserted_is_map g.K.Ord.cmp g.met.K.Ord.total (IsMap g.L.Ord.cmp g.V.Join.below g.V.Join.is_valid) (MapBelow g.L.Ord.cmp g.V.Join.below) (map_itself g.V.Join.below g.met.V.Join.reflexive g.met.V.Join.transitive g.L.Ord.cmp) (map_chain g.V.Join.below g.met.V.Join.reflexive g.met.V.Join.transitive g.L.Ord.cmp) c.args.key _ _ c.requires.map ((c.args.inner, c.args.value) ∷ []) (pair_held g.L.Ord.cmp g.met.L.Ord.total g.V.Join.below g.V.Join.is_valid c.args.inner c.args.value c.requires.held).not_least (rw c.deref.ensures.value at c.in-Err.ensures.absent) (pair_held g.L.Ord.cmp g.met.L.Ord.total g.V.Join.below g.V.Join.is_valid c.args.inner c.args.value c.requires.held).lawful)
-
-pub returns-clause-ok : goal.returns-clause-ok
-returns-clause-ok g c =
-    rw (c.in_ok-insert-in-Err.ensures.items, c.in_ok-made-in-Err.ensures.pair)
-    (inserted_is_join g.K.Ord.cmp g.met.K.Ord.total (IsMap g.L.Ord.cmp g.V.Join.below g.V.Join.is_valid) (MapBelow g.L.Ord.cmp g.V.Join.below) (map_itself g.V.Join.below g.met.V.Join.reflexive g.met.V.Join.transitive g.L.Ord.cmp) (map_chain g.V.Join.below g.met.V.Join.reflexive g.met.V.Join.transitive g.L.Ord.cmp) c.args.key _ _ c.requires.map ((c.args.inner, c.args.value) ∷ []) (pair_held g.L.Ord.cmp g.met.L.Ord.total g.V.Join.below g.V.Join.is_valid c.args.inner c.args.value c.requires.held).not_least (rw c.deref.ensures.value at c.in-Err.ensures.absent))
