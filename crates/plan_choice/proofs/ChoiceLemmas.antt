@@ -1,6 +1,9 @@
 -- What is pulled, what loses, and what is chosen, by marks and rows.
 use Rattle.std.proofs.Common.{◌≡◌, ℕ, ◌<◌, ◌⊎◌, ◌↔◌, inl, inr, Bool, true, false, List, [], ◌∷◌, ◌++◌, length, get_or, set, refl, sym, ◌∙◌, subst, length-set, arith, get_or-set_same, get_or-set_other}
+use Rattle.std.specs.Prelude.{Result, Ok, Err, IfOk}
 use Rattle.std.specs.Ordering.{nat_cmp}
+use Rattle.std.specs.declared.vec.Vec.{Vec}
+use Rattle.std.specs.declared.alloc.Global.{Global}
 use Rattle.std.proofs.lemmas.Bool.{cases_eq}
 use Rattle.list_laws.specs.Members.{IsAmong, IsAmong-append_left, IsAmong-append_right}
 use Rattle.name_closure.specs.Chains.{IsReached}
@@ -130,11 +133,15 @@ module _ (p : PlanRows) where
   loser_was extra named u e m l =
       ((e.marked u).1 l.1.extra, (l.0, ((opposite_is (row p.conflicts.now) (row p.conflicted_by.now) p.conflicts_turned u l.0).1 l.1.is_named, (e.marked l.0).1 l.1.other_extra, λ k. cmp_below l.0 u (l.1.greater ((m l.0).0 k)))))
 
-  -- ---- chosen
+  -- ---- remaining and chosen
 
-  module _ (pulled fallen rest : List Bool) (losers : List ℕ)
+  -- pulled, and not dropped
+  abbrev pub Remains : ℕ → Type 0
+  Remains u = IsPulled (case_of p) u × ¬ IsDropped nat_cmp (case_of p) u
+
+  module _ (pulled fallen : List Bool) (losers : List ℕ)
       (is_pulled : AreMarksOf (count_of p) (IsPulled (case_of p)) pulled) (lost : IsListOf (count_of p) (IsLoser (case_of p)) losers)
-      (fell : (v : ℕ) → Marked fallen v ↔ IsReached (Listed losers) (Named (steps_from p.needed_by)) v) (left : (v : ℕ) → Marked rest v ↔ (Marked pulled v × ¬ Marked fallen v)) where
+      (fell : (v : ℕ) → Marked fallen v ↔ IsReached (Listed losers) (Named (steps_from p.needed_by)) v) where
     dropped_fell : (v : ℕ) → IsDropped nat_cmp (case_of p) v → Marked fallen v
     dropped_fell v d = (fell v).1 (source_needed p losers v d.loser ((lost.members d.loser).1 (d.winner, d.lost)) d.needed)
 
@@ -144,18 +151,27 @@ module _ (p : PlanRows) where
         let l = (lost.members s.0).0 s.1.0 in
         record { pulled = (is_pulled.marked v).0 m; loser = s.0; winner = l.0; lost = l.1; needed = s.1.1 }
 
-    pub chosen_is : (marks : List Bool) → AreMarksOf (count_of p) (IsReached (Listed (p.target ∷ [])) (LeadsInside rest (p.needs ++ p.wants))) marks → AreMarksOf (count_of p) (IsChosen nat_cmp (case_of p)) marks
-    chosen_is marks r =
-        marks_along (count_of p) (Listed (p.target ∷ [])) (Listed (p.target ∷ [])) (LeadsInside rest (p.needs ++ p.wants)) (Keeps nat_cmp (case_of p)) marks r (λ u. (λ h. h, λ h. h))
-        (λ u v. (
-          λ h. (let l = (left v).0 h.marked in
-              record { asked = (more_kinds p.needs p.wants u v).0 h.step; pulled = (is_pulled.marked v).0 l.0; stays = λ d. l.1 (dropped_fell v d) }),
-          λ h. record {
-            step = (more_kinds p.needs p.wants u v).1 h.asked;
-            marked = (left v).1 ((is_pulled.marked v).1 h.pulled, λ f. h.stays (fell_dropped v ((is_pulled.marked v).1 h.pulled) f));
-          },
-        ))
+    pub remaining_is : (marks : List Bool) → AreMarksOf (count_of p) (λ v. Marked pulled v × ¬ Marked fallen v) marks → AreMarksOf (count_of p) Remains marks
+    remaining_is marks r = record {
+      units = r.units;
+      marked = λ v. (
+        λ m. (let l = (r.marked v).0 m in ((is_pulled.marked v).0 l.0, λ d. l.1 (dropped_fell v d))),
+        λ h. (let m = (is_pulled.marked v).1 h.0 in (r.marked v).1 (m, λ f. h.1 (fell_dropped v m f))),
+      );
+    }
 
--- marks of units by what a closure ensures of them
-pub marks_are : (count n : ℕ) (set : ℕ → Type 0) (marks : List Bool) → length marks ≡ n → n ≡ count → ((v : ℕ) → Marked marks v ↔ set v) → AreMarksOf count set marks
-marks_are count n set marks e f m = record { units = e ∙ f; marked = m }
+  pub chosen_is : (rest : List Bool) → AreMarksOf (count_of p) Remains rest
+      → (marks : List Bool) → AreMarksOf (count_of p) (IsReached (Listed (p.target ∷ [])) (LeadsInside rest (p.needs ++ p.wants))) marks → AreMarksOf (count_of p) (IsChosen nat_cmp (case_of p)) marks
+  chosen_is rest remaining marks r =
+      marks_along (count_of p) (Listed (p.target ∷ [])) (Listed (p.target ∷ [])) (LeadsInside rest (p.needs ++ p.wants)) (Keeps nat_cmp (case_of p)) marks r (λ u. (λ h. h, λ h. h))
+      (λ u v. (
+        λ h. (let l = (remaining.marked v).0 h.marked in record { asked = (more_kinds p.needs p.wants u v).0 h.step; pulled = l.0; stays = l.1 }),
+        λ h. record { step = (more_kinds p.needs p.wants u v).1 h.asked; marked = (remaining.marked v).1 (h.pulled, h.stays) },
+      ))
+
+-- marks that a call gives, and what they are so
+module _ {E : Type 0} (count n : ℕ) (set other : ℕ → Type 0) (same : n ≡ count) (so : (marks : List Bool) → AreMarksOf count set marks → AreMarksOf count other marks) where
+  pub marks_are : (r : Result (Vec Bool Global) E) → IfOk r (λ marks. length marks.items ≡ n) → IfOk r (λ marks. (v : ℕ) → Marked marks.items v ↔ set v)
+      → IfOk r (λ marks. AreMarksOf count other marks.items)
+  marks_are (Err e) units marked = tt
+  marks_are (Ok marks) units marked = so marks.items (record { units = units ∙ same; marked = marked })

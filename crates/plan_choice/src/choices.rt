@@ -6,7 +6,7 @@ ghost use Rattle.list_laws.specs.Members.{IsAmong};
 ghost use Rattle.index_rows.specs.Rows.{Marked};
 ghost use Rattle.plan_choice.specs.Answers.{IsClearBelow};
 ghost use Rattle.plan_choice.specs.RowCases.{case_of, count_of};
-ghost use Rattle.plan_choice.specs.Sets.{IsNeeded, AreInConflict, IsGood, IsPulled, IsExtra, LosesTo, IsChosen};
+ghost use Rattle.plan_choice.specs.Sets.{IsNeeded, AreInConflict, IsGood, IsPulled, IsExtra, IsDropped, IsChosen};
 ghost use Rattle.plan_choice.specs.Marking.{AreMarksOf, ArePairsOf, IsListOf};
 ghost use Rattle.plan_choice.specs.Soundness.{IsIdle};
 ghost use Rattle.plan_choice.specs.Losing.{IsLoser, SetsMarks};
@@ -22,14 +22,19 @@ fn pulled(
     alloc: Global,
     case: &PlanRows,
     asks: &Steps,
-    good: &[bool],
+    idle: &[bool],
+    needed: &[bool],
+    rivals: &Steps,
 ) -> Result<Vec<bool>, AllocError>
     requires asks { asks.now ≡ case.now.needs ++ case.now.wants }
-    requires good { AreMarksOf (count_of case.now) (IsGood (case_of case.now)) good.now }
+    requires idle { AreMarksOf (count_of case.now) (IsIdle (count_of case.now) (case_of case.now)) idle.now }
+    requires needed { AreMarksOf (count_of case.now) (IsNeeded (case_of case.now)) needed.now }
+    requires rivals { ArePairsOf (count_of case.now) (AreInConflict (case_of case.now)) rivals.now }
     requires clear { IsClearBelow nat_cmp (case_of case.now) 6 }
     ensures { IfOk result (λ marks. AreMarksOf (count_of case.now) (IsPulled (case_of case.now)) marks.items) }
 {
-    Ok(reached_inside(alloc, asks, good, &[case.target])?)
+    let good = good_wishes(alloc, case, idle, needed, rivals)?;
+    reached_inside(alloc, asks, &good, &[case.target])
 }
 
 // Sets the marks of the nodes.
@@ -77,7 +82,25 @@ fn losers(alloc: Global, case: &PlanRows, extra: &[bool]) -> Result<Vec<usize>, 
     Ok(units)
 }
 
-// Marks at what is chosen: what is reached inside what is pulled and needs no loser.
+// Marks at what is left of what is pulled: neither a loser nor in need of one.
+fn remaining(
+    alloc: Global,
+    case: &PlanRows,
+    needed: &[bool],
+    pulled: &[bool],
+) -> Result<Vec<bool>, AllocError>
+    requires needed { AreMarksOf (count_of case.now) (IsNeeded (case_of case.now)) needed.now }
+    requires pulled { AreMarksOf (count_of case.now) (IsPulled (case_of case.now)) pulled.now }
+    ensures { IfOk result (λ marks. AreMarksOf (count_of case.now)
+        (λ u. IsPulled (case_of case.now) u × ¬ IsDropped nat_cmp (case_of case.now) u) marks.items) }
+{
+    let extra = without(alloc, pulled, needed)?;
+    let losers = losers(alloc, case, &extra)?;
+    let fallen = reached(alloc, case.loaded.len(), &case.needed_by, &losers)?;
+    without(alloc, pulled, &fallen)
+}
+
+// Marks at what is chosen: what is reached inside what is pulled and not dropped.
 pub fn chosen(
     alloc: Global,
     case: &PlanRows,
@@ -91,12 +114,8 @@ pub fn chosen(
     requires clear { IsClearBelow nat_cmp (case_of case.now) 6 }
     ensures { IfOk result (λ marks. AreMarksOf (count_of case.now) (IsChosen nat_cmp (case_of case.now)) marks.items) }
 {
-    let good = good_wishes(alloc, case, idle, needed, rivals)?;
     let asks = Steps::both(alloc, &case.needs, &case.wants)?;
-    let pulled = pulled(alloc, case, &asks, &good)?;
-    let extra = without(alloc, &pulled, needed)?;
-    let losers = losers(alloc, case, &extra)?;
-    let fallen = reached(alloc, case.loaded.len(), &case.needed_by, &losers)?;
-    let rest = without(alloc, &pulled, &fallen)?;
-    Ok(reached_inside(alloc, &asks, &rest, &[case.target])?)
+    let pulled = pulled(alloc, case, &asks, idle, needed, rivals)?;
+    let rest = remaining(alloc, case, needed, &pulled)?;
+    reached_inside(alloc, &asks, &rest, &[case.target])
 }

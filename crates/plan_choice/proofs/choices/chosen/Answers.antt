@@ -1,4 +1,5 @@
-use Rattle.std.proofs.Common.{◌≡◌, ◌<◌, ◌++◌, ◌∷◌, [], ◌↔◌, ℕ, Bool, List, length, ap, subst, sym, ◌∙◌, arith}
+use Rattle.std.proofs.Common.{◌≡◌, ◌<◌, ◌++◌, ◌∷◌, [], ◌↔◌, ℕ, Bool, List, length, ap, subst, sym, ◌∙◌}
+use Rattle.std.specs.Prelude.{IfOk}
 use Rattle.std.specs.List.{All}
 use Rattle.std.specs.declared.vec.Vec.{Vec}
 use Rattle.std.specs.declared.alloc.Global.{Global}
@@ -8,26 +9,15 @@ use Rattle.index_rows.specs.Rows.{Marked}
 use Rattle.index_rows.specs.Steps.{AreStepsOf, LeadsInside}
 use Rattle.index_rows.specs.StepLaws.{within-both}
 use Rattle.plan_choice.specs.RowCases.{count_of}
-use Rattle.plan_choice.proofs.Fitting.{all_places, one_place, steps_fit}
+use Rattle.plan_choice.proofs.Fitting.{one_place, steps_fit}
 use Rattle.plan_choice.proofs.ChoiceLemmas.{chosen_is, marks_are}
 use Rattle.plan_choice.proofs.choices.chosen.Goals as goal
-
-pub reached-requires : goal.reached-requires
-reached-requires c =
-    let case = c.args.case.now in
-    let same : c.len.result ≡ count_of case = omega (arith, c.len.ensures, case.loaded.ok) in
-    let P : ℕ → Type 0 = λ n. All (λ v. v < n) c.deref-4.result.now in
-    let Q : List ℕ → Type 0 = λ l. All (λ v. v < count_of case) l in
-    record {
-      steps = steps_fit c.len.result (count_of case) case.needed_by case.lawful_needed_by same;
-      sources = subst P (sym same) (subst Q (sym c.deref-4.ensures.value) (all_places (λ v. v < count_of case) _ c.in_ok-losers.ensures.below));
-    }
 
 pub reached_inside-requires : goal.reached_inside-requires
 reached_inside-requires c =
     let case = c.args.case.now in
-    let rest : length c.deref-7.result.now ≡ count_of case = ap (λ l. length l) c.deref-7.ensures.value ∙ c.in_ok-rest.ensures.units ∙ ap (λ l. length l) c.deref-5.ensures.value ∙ c.in_ok-pulled.ensures.units in
-    let P : List (List (Vec ℕ Global)) → Type 0 = λ ks. AreStepsOf (length c.deref-7.result.now) ks in
+    let rest : length c.deref-2.result.now ≡ count_of case = ap (λ l. length l) c.deref-2.ensures.value ∙ c.in_ok-rest.ensures.units in
+    let P : List (List (Vec ℕ Global)) → Type 0 = λ ks. AreStepsOf (length c.deref-2.result.now) ks in
     let Q : ℕ → Type 0 = λ n. All (λ v. v < n) (case.target ∷ []) in
     record {
       steps = subst P (sym c.in_ok-asks.ensures.both) (steps_fit _ (count_of case) (case.needs ++ case.wants) (within-both (count_of case) case.needs case.wants case.lawful_needs case.lawful_wants) rest);
@@ -37,11 +27,7 @@ reached_inside-requires c =
 pub returns : goal.returns
 returns c =
     let case = c.args.case.now in
-    let fell = rw c.deref-4.ensures.value at c.in_ok-fallen.ensures.reached in
-    let left = rw (c.deref-5.ensures.value, c.deref-6.ensures.value) at c.in_ok-rest.ensures.left in
-    let rest : length c.deref-7.result.now ≡ count_of case = ap (λ l. length l) c.deref-7.ensures.value ∙ c.in_ok-rest.ensures.units ∙ ap (λ l. length l) c.deref-5.ensures.value ∙ c.in_ok-pulled.ensures.units in
-    let P : List (List (Vec ℕ Global)) → Type 0 = λ ks. (v : ℕ) → Marked c.in_ok-reached_inside.field-0.items v ↔ IsReached (Listed (case.target ∷ [])) (LeadsInside c.deref-7.result.now ks) v in
-    let R : List Bool → Type 0 = λ m. (v : ℕ) → Marked c.in_ok-reached_inside.field-0.items v ↔ IsReached (Listed (case.target ∷ [])) (LeadsInside m (case.needs ++ case.wants)) v in
-    let reached = subst R c.deref-7.ensures.value (subst P c.in_ok-asks.ensures.both c.in_ok-reached_inside.ensures.reached) in
-    chosen_is case c.in_ok-pulled.pulled.items c.in_ok-fallen.fallen.items c.in_ok-rest.rest.items c.in_ok-losers.losers.items c.in_ok-pulled.ensures c.in_ok-losers.ensures fell left
-    c.in_ok-reached_inside.field-0.items (marks_are _ _ _ _ c.in_ok-reached_inside.ensures.units rest reached)
+    let rest : length c.deref-2.result.now ≡ count_of case = ap (λ l. length l) c.deref-2.ensures.value ∙ c.in_ok-rest.ensures.units in
+    let P : List Bool → List (List (Vec ℕ Global)) → Type 0 = λ m ks. IfOk c.reached_inside.result (λ marks. (v : ℕ) → Marked marks.items v ↔ IsReached (Listed (case.target ∷ [])) (LeadsInside m ks) v) in
+    let reached = subst (λ m. P m (case.needs ++ case.wants)) c.deref-2.ensures.value (subst (P c.deref-2.result.now) c.in_ok-asks.ensures.both c.reached_inside.ensures.reached) in
+    marks_are _ _ _ _ rest (chosen_is case c.in_ok-rest.rest.items c.in_ok-rest.ensures) c.reached_inside.result c.reached_inside.ensures.units reached

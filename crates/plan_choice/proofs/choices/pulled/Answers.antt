@@ -1,4 +1,5 @@
-use Rattle.std.proofs.Common.{◌<◌, ◌++◌, ◌∷◌, [], ◌↔◌, ℕ, List, length, subst, sym}
+use Rattle.std.proofs.Common.{◌≡◌, ◌<◌, ◌++◌, ◌∷◌, [], ◌↔◌, ℕ, Bool, List, length, ap, subst, sym, ◌∙◌}
+use Rattle.std.specs.Prelude.{IfOk}
 use Rattle.std.specs.List.{All}
 use Rattle.std.specs.declared.vec.Vec.{Vec}
 use Rattle.std.specs.declared.alloc.Global.{Global}
@@ -15,16 +16,18 @@ use Rattle.plan_choice.proofs.choices.pulled.Goals as goal
 pub reached_inside-requires : goal.reached_inside-requires
 reached_inside-requires c =
     let case = c.args.case.now in
-    let P : List (List (Vec ℕ Global)) → Type 0 = λ ks. AreStepsOf (length c.args.good.now) ks in
+    let units : length c.deref.result.now ≡ count_of case = ap (λ l. length l) c.deref.ensures.value ∙ c.in_ok-good.ensures.units in
+    let P : List (List (Vec ℕ Global)) → Type 0 = λ ks. AreStepsOf (length c.deref.result.now) ks in
     let Q : ℕ → Type 0 = λ n. All (λ v. v < n) (case.target ∷ []) in
     record {
-      steps = subst P (sym c.requires.asks) (steps_fit _ (count_of case) (case.needs ++ case.wants) (within-both (count_of case) case.needs case.wants case.lawful_needs case.lawful_wants) c.requires.good.units);
-      sources = subst Q (sym c.requires.good.units) (one_place (count_of case) case.target case.lawful_target);
+      steps = subst P (sym c.requires.asks) (steps_fit _ (count_of case) (case.needs ++ case.wants) (within-both (count_of case) case.needs case.wants case.lawful_needs case.lawful_wants) units);
+      sources = subst Q (sym units) (one_place (count_of case) case.target case.lawful_target);
     }
 
 pub returns : goal.returns
 returns c =
     let case = c.args.case.now in
-    let P : List (List (Vec ℕ Global)) → Type 0 = λ ks. (v : ℕ) → Marked c.in_ok-reached_inside.field-0.items v ↔ IsReached (Listed (case.target ∷ [])) (LeadsInside c.args.good.now ks) v in
-    pulled_is case c.requires.clear c.args.good.now c.requires.good c.in_ok-reached_inside.field-0.items
-    (marks_are _ _ _ _ c.in_ok-reached_inside.ensures.units c.requires.good.units (subst P c.requires.asks c.in_ok-reached_inside.ensures.reached))
+    let units : length c.deref.result.now ≡ count_of case = ap (λ l. length l) c.deref.ensures.value ∙ c.in_ok-good.ensures.units in
+    let P : List Bool → List (List (Vec ℕ Global)) → Type 0 = λ m ks. IfOk c.reached_inside.result (λ marks. (v : ℕ) → Marked marks.items v ↔ IsReached (Listed (case.target ∷ [])) (LeadsInside m ks) v) in
+    let reached = subst (λ m. P m (case.needs ++ case.wants)) c.deref.ensures.value (subst (P c.deref.result.now) c.requires.asks c.reached_inside.ensures.reached) in
+    marks_are _ _ _ _ units (pulled_is case c.requires.clear c.in_ok-good.good.items c.in_ok-good.ensures) c.reached_inside.result c.reached_inside.ensures.units reached
