@@ -79,8 +79,9 @@ pub fn close_by_rounds<
     ensures not_over { IfOk result (λ _. ¬ HasOver (Listed sources.now)
         (LeadsByLoad (L.is_loaded loader.now) (L.named loader.now)) K.cmp limit) }
 {
+    let sources = copy_of(alloc, sources)?;
     let mut found = BTreeMap::new(alloc);
-    let mut fresh = new_of(&found, copy_of(alloc, sources)?);
+    let mut fresh = new_of(&found, sources);
     'rounds: while !fresh.is_empty() {
         if fresh.len() > limit - found.len() {
             return Err(CloseFault::TooMany);

@@ -13,7 +13,7 @@ rounds-init g c =
     record {
       way =
           under_way_start g.K.Ord.cmp (g.L.Loads.is_node loader) (g.L.Loads.is_loaded loader) (g.L.Loads.named loader) c.args.sources.now _ _
-          c.new-found.ensures.empty c.new-found.ensures.ordered c.requires.sources (rw c.in_ok-copy_of.ensures.copy at c.new_of-fresh.ensures.fresh);
+          c.new-found.ensures.empty c.new-found.ensures.ordered c.requires.sources (rw c.in_ok-sources.ensures.copy at c.new_of-fresh.ensures.fresh);
       room = search rules;
     }
 
