@@ -1,6 +1,6 @@
 //! What replicas send each other: digests, which tell the version at each path, and pieces, which carry entries. A
-//! piece that is cut for a digest carries the entries whose version is greater than the digest's, or whose path the
-//! digest lacks.
+//! piece that is cut for a digest carries what its owner lacks: entries of a greater version than the digest tells,
+//! and those at paths of which it tells nothing.
 //!
 //! Promise: pieces are exact; a refused merge lies between; what was consumed comes back.
 //!

@@ -4,7 +4,7 @@
 //! Promise: every world converges.
 //!
 //! A world is told by its list of events alone (`specs/Worlds.antt`). Pieces of stores may be delayed, reordered,
-//! lost or repeated: any piece may be given to any node at any later time, again or never.
+//! lost or repeated: each may reach any node, at once, late, twice or not at all.
 #![tactic(auto)]
 
 mod events;
