@@ -3,6 +3,7 @@ use Rattle.std.proofs.Common.{◌≡◌, ℕ, List, ◌++◌, subst}
 use Rattle.std.specs.Prelude.{Some, reverse, slice_get}
 use Rattle.edit_sums.specs.Sums.{EntryMap, sum_of}
 use Rattle.replica_store.specs.Replicas.{Replicated}
+use Rattle.unit_name.specs.Names.{Name}
 use Rattle.world_law.specs.Took.{IsSumOf, Took}
 use Rattle.world_law.specs.Worlds.{Node}
 use Rattle.world_law.specs.declared.events.Event.{Event}
@@ -12,31 +13,31 @@ use Rattle.delta_gossip.specs.declared.worlds.World.{World}
 use Rattle.fleet_answers.specs.AnswerLaws.{one_answer}
 use Rattle.fleet_answers.specs.Answers.{IsAnswer}
 use Rattle.fleet_answers.specs.Fleets.{AgreesLater, AnswersAsTold, AnswersItsStore, AnswersItsSum}
-use Rattle.fleet_answers.specs.declared.answers.Answer.{Answer}
-use Rattle.fleet_answers.specs.declared.answers.Question.{Question}
+use Rattle.fleet_answers.specs.declared.questions.Answer.{Answer}
+use Rattle.fleet_answers.specs.declared.questions.Question.{Question}
 use Rattle.fleet_answers.proofs.Held.{if_some, of_found, shown_at}
 
-module _ (n : ℕ) (events : List Event) (world : World) (k : ℕ) (question : Question) (r : Replicated) (answer : Answer) (here : slice_get world.replicas.items k ≡ Some r)
-    (is : IsAnswer r.store question answer) where
-  pub of_store : IsWorld (world_after n events) world → AnswersItsStore n events k question answer
+module _ (n : ℕ) (events : List Event) (world : World) (k : ℕ) (extra : List Name) (question : Question) (r : Replicated) (answer : Answer) (here : slice_get world.replicas.items k ≡ Some r)
+    (is : IsAnswer r.store extra question answer) where
+  pub of_store : IsWorld (world_after n events) world → AnswersItsStore n events k extra question answer
   of_store shows =
-      shown_at (λ (x : Replicated). x.store) (λ (x : Node). x.store) (λ (s : EntryMap). IsAnswer s question answer) world.replicas.items (world_after n events).nodes k r
+      shown_at (λ (x : Replicated). x.store) (λ (x : Node). x.store) (λ (s : EntryMap). IsAnswer s extra question answer) world.replicas.items (world_after n events).nodes k r
       shows.stores_are here is
 
-  pub of_sum : HoldsSums n events world → AnswersItsSum n events k question answer
+  pub of_sum : HoldsSums n events world → AnswersItsSum n events k extra question answer
   of_sum sums honest =
-      subst (λ (s : EntryMap). IsAnswer s question answer)
+      subst (λ (s : EntryMap). IsAnswer s extra question answer)
       (of_found (λ (x : Replicated). x.store ≡ sum_of (took_after n events k)) world.replicas.items k r here (sums honest k)) is
 
-  pub as_told : HoldsSumsAsTold n events world → AnswersAsTold n events k question answer
+  pub as_told : HoldsSumsAsTold n events world → AnswersAsTold n events k extra question answer
   as_told told honest = record {
     store = r.store;
     sum = of_found (λ (x : Replicated). IsSumOf (Took n (reverse events) k) x.store) world.replicas.items k r here (told honest k);
     answers = is;
   }
 
-  pub agrees : ((later : List Event) → HoldsLater n events world later) → (later : List Event) → AgreesLater n events k question later answer
+  pub agrees : ((later : List Event) → HoldsLater n events world later) → (later : List Event) → AgreesLater n events k extra question later answer
   agrees same later honest l edits other =
-      if_some (λ (x : Node). r.store ≡ x.store) (λ (x : Node). IsAnswer x.store question other → other ≡ answer)
-      (λ x e h. one_answer x.store question other answer h (subst (λ (s : EntryMap). IsAnswer s question answer) e is)) (slice_get (world_after n (events ++ later)).nodes l)
+      if_some (λ (x : Node). r.store ≡ x.store) (λ (x : Node). IsAnswer x.store extra question other → other ≡ answer)
+      (λ x e h. one_answer x.store extra question other answer h (subst (λ (s : EntryMap). IsAnswer s extra question answer) e is)) (slice_get (world_after n (events ++ later)).nodes l)
       (of_found (λ (x : Replicated). NodeHolds n (events ++ later) l (λ late. x.store ≡ late)) world.replicas.items k r here (same later honest k l edits))

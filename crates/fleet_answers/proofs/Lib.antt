@@ -1,3 +1,3 @@
-mod Asked
 mod Fleets
 mod Held
+mod Told

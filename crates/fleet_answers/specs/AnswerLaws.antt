@@ -1,31 +1,105 @@
 -- Laws of answers: a store and a question have one.
-use Rattle.std.proofs.Common.{◌≡◌, inl, inr, refl, ap, subst, ◌∙◌}
+use Rattle.std.proofs.Common.{◌≡◌, ℕ, Some, List, [], ◌∷◌, map, inl, inr, refl, ap, sym, subst, ◌∙◌}
+use mathlib.Core.Path.{fun_ext}
+use Rattle.std.specs.Prelude.{◌↔◌}
+use Rattle.std.specs.Cmp.Lexicographic.{nat_list_cmp_total}
+use Rattle.list_laws.specs.Members.{IsAmong, IsAmong-append_right}
 use Rattle.edit_sums.specs.Sums.{EntryMap}
 use Rattle.unit_name.specs.Names.{Name, name_cmp}
+use Rattle.setting_rules.specs.declared.dependency_lists.DependencyList.{DependencyList}
+use Rattle.setting_rules.specs.declared.kinds.DepKind.{DepKind}
+use Rattle.setting_rules.specs.Kinds.{kinds}
+use Rattle.name_closure.specs.Chains.{IsDistance, IsDistances}
+use Rattle.name_closure.specs.DistanceLaws.{one_list_of_distances}
+use Rattle.name_closure.specs.ListedLaws.{Listed}
+use Rattle.name_closure.specs.SourceLaws.{AreSameSteps, same_distance}
+use Rattle.unit_loads.specs.declared.units.Unit.{Unit as LoadedUnit}
 use Rattle.parallel_load.specs.LoadLaws.{one_load}
-use Rattle.parallel_load.specs.Loads.{LoadMap}
+use Rattle.parallel_load.specs.Loads.{IsLoad, LoadMap, unit_in}
+use Rattle.inverse_deps.specs.EdgeLaws.{one_list_of_edges}
 use Rattle.inverse_deps.specs.Edges.{AreEdges, EdgeMap}
+use Rattle.unit_graph.specs.GraphLaws.{known_names}
+use Rattle.unit_graph.specs.Graphs.{AreDepths, GraphMap, IsKnown, LeadsBy, pulling}
 use Rattle.plan_choice.specs.Answers.{IsPlan, IsRefusal, Refusal as Why}
 use Rattle.plan_choice.specs.Case.{Case}
-use Rattle.start_plan.specs.declared.requests.Plan.{Plan}
+use Rattle.start_plan.specs.declared.requests.Plan.{Plan as PlanMap}
 use Rattle.start_plan.specs.declared.requests.Refusal.{Refusal}
 use Rattle.start_plan.specs.declared.requests.Refusal.TheVariants.{Template, NotFound, Masked, Bad, ManualStart, Requisite, Conflict, Cycle, Memory}
 use Rattle.start_plan.specs.declared.requests.Request.{Request}
 use Rattle.start_plan.specs.Outcomes.{IsFault, IsPlanned, IsRefused, IsRefusalOf}
 use Rattle.start_plan.specs.PlanLaws.{one_case, one_plan, one_refusal_told, plan_or_refusal}
-use Rattle.fleet_answers.specs.Answers.{IsAnswer, IsLoadedFor, IsPlannedFrom, IsRefusedFrom, asked}
-use Rattle.fleet_answers.specs.declared.answers.Answer.{Answer}
-use Rattle.fleet_answers.specs.declared.answers.Answer.TheVariants as answer
-use Rattle.fleet_answers.specs.declared.answers.Question.{Question}
+use Rattle.fleet_answers.specs.Answers.{AreKnown, IsAnswer, IsLinkedUnit, IsPlanTold, IsTold, IsToldFrom, IsWholeAnswer, asked, edge_lists, names_of}
+use Rattle.fleet_answers.specs.declared.questions.Answer.{Answer}
+use Rattle.fleet_answers.specs.declared.questions.Answer.TheVariants as answer
+use Rattle.fleet_answers.specs.declared.questions.LinkedUnit.{LinkedUnit}
+use Rattle.fleet_answers.specs.declared.questions.Question.{Question}
+use Rattle.fleet_answers.specs.declared.questions.Question.TheVariants.{Unit as OfUnit, Pulled as OfPulled, Plan as OfPlan}
 
 -- A store and a question have one answer.
 abbrev pub OneAnswer : Type 0
-OneAnswer = (s : EntryMap) (question : Question) (a b : Answer) → IsAnswer s question a → IsAnswer s question b → a ≡ b
+OneAnswer = (s : EntryMap) (extra : List Name) (question : Question) (a b : Answer) → IsAnswer s extra question a → IsAnswer s extra question b → a ≡ b
 
--- ---- a request is answered the same by any lists of the load's edges
+-- ---- the names of a question are known to a load of them
+
+pub names_are_known : (s : EntryMap) (names : List Name) (load : LoadMap) → IsLoad s names load → AreKnown load names
+names_are_known s names load is n a = (known_names s names load n is).1 (record { steps = 0; chain = inl a })
+
+pub own_are_known : (s : EntryMap) (extra : List Name) (question : Question) (load : LoadMap) → IsLoad s (asked extra question) load → AreKnown load (names_of question)
+own_are_known s extra question load is n a = names_are_known s (asked extra question) load is n (IsAmong-append_right n extra (names_of question) a)
+
+-- ---- units
+
+same_some : {X : Type 0} (x y : X) → Some x ≡ Some y → x ≡ y
+same_some x y e = cc (e)
+
+linked : LoadedUnit → List DependencyList → LinkedUnit
+linked unit edges = record { unit = unit; edges = edges }
+
+linked_is : (a b : LinkedUnit) → a.unit ≡ b.unit → a.edges ≡ b.edges → a ≡ b
+unfolding linked
+linked_is a b p q = ap (λ x. linked x a.edges) p ∙ ap (linked b.unit) q
+
+lists_by : (DepKind → List Name) → List DependencyList
+lists_by names = map (λ dep. record { kind = dep; names = names dep }) kinds
+
+-- ---- a load answers the same by any lists of its edges
+
+abbrev graph_of : LoadMap → EdgeMap → GraphMap
+graph_of load edges = record { load = load; edges = edges }
+
+module _ (load : LoadMap) (x y : EdgeMap) (p : AreEdges load x) (q : AreEdges load y) where
+  same_lists : (unit : Name) → edge_lists x unit ≡ edge_lists y unit
+  unfolding lists_by
+  same_lists unit = ap lists_by (fun_ext (λ dep. one_list_of_edges load x y p q dep unit))
+
+  one_linked : (name : Name) (a b : LinkedUnit) → IsLinkedUnit (graph_of load x) name a → IsLinkedUnit (graph_of load y) name b → a ≡ b
+  one_linked name a b l m =
+      let mains : l.main ≡ m.main = same_some l.main m.main (sym l.main_is ∙ m.main_is) in
+      linked_is a b (same_some a.unit b.unit (sym l.unit_is ∙ ap (unit_in load) mains ∙ m.unit_is))
+      (l.edges_are ∙ same_lists l.main ∙ ap (edge_lists y) mains ∙ sym m.edges_are)
+
+  same_steps : AreSameSteps (LeadsBy x pulling) (LeadsBy y pulling)
+  same_steps u v = (
+    λ l. (l.0, (l.1.0, subst (λ (ns : List Name). IsAmong v ns) (one_list_of_edges load x y p q l.0 u) l.1.1)),
+    λ l. (l.0, (l.1.0, subst (λ (ns : List Name). IsAmong v ns) (sym (one_list_of_edges load x y p q l.0 u)) l.1.1)),
+  )
+
+  one_distances : (from : Name) (a b : List (ℕ × Name)) → IsDistances (Listed (from ∷ [])) (LeadsBy x pulling) name_cmp a
+      → IsDistances (Listed (from ∷ [])) (LeadsBy y pulling) name_cmp b → a ≡ b
+  one_distances from a b d e =
+      one_list_of_distances (Listed (from ∷ [])) (LeadsBy x pulling) name_cmp nat_list_cmp_total a b d (record {
+        rising = e.rising;
+        members = λ k n. (λ h. (same n k).1 ((e.members k n).0 h), λ h. (e.members k n).1 ((same n k).0 h));
+      })
+    where
+      same : (n : Name) (k : ℕ) → IsDistance (Listed (from ∷ [])) (LeadsBy x pulling) n k ↔ IsDistance (Listed (from ∷ [])) (LeadsBy y pulling) n k
+      same = same_distance (Listed (from ∷ [])) (Listed (from ∷ [])) (LeadsBy x pulling) (LeadsBy y pulling) (λ n. (λ h. h, λ h. h)) same_steps
+
+  one_pulled : (name : Name) (a b : List (ℕ × Name)) → IsKnown load name → AreDepths (graph_of load x) name a → AreDepths (graph_of load y) name b → a ≡ b
+  one_pulled name a b known d e = one_distances known.0 a b (d known.0 known.1) (e known.0 known.1)
 
 module _ (load : LoadMap) (request : Request) (x y : EdgeMap) (p : AreEdges load x) (q : AreEdges load y) where
-  planned_by : (plan : Plan) → IsPlanned load x request plan → IsPlanned load y request plan
+  planned_by : (plan : PlanMap) → IsPlanned load x request plan → IsPlanned load y request plan
   planned_by plan h = record {
     no_template = h.no_template;
     planned = subst (λ (c : Case Name). IsPlan name_cmp c plan.stop plan.start) (one_case load request x y p q) h.planned;
@@ -52,43 +126,35 @@ module _ (load : LoadMap) (request : Request) (x y : EdgeMap) (p : AreEdges load
   refused_by (Cycle units) h = caused_by _ h
   refused_by Memory h = h
 
+  one_plan_told : (a b : Answer) → IsPlanTold (graph_of load x) request a → IsPlanTold (graph_of load y) request b → a ≡ b
+  one_plan_told a b (inl f) (inl g) = f.2 ∙ ap answer.Planned (one_plan load y request f.0 g.0 (planned_by f.0 f.1) g.1) ∙ sym g.2
+  one_plan_told a b (inl f) (inr g) = absurd (plan_or_refusal load y request f.0 g.0 (planned_by f.0 f.1) g.1 g.2)
+  one_plan_told a b (inr f) (inl g) = absurd (plan_or_refusal load y request g.0 f.0 g.1 (refused_by f.0 f.1) f.2)
+  one_plan_told a b (inr f) (inr g) = f.3 ∙ ap answer.Refused (one_refusal_told load y request f.0 g.0 (refused_by f.0 f.1) g.1 f.2 g.2) ∙ sym g.3
+
 -- ---- answers
 
-module _ (s : EntryMap) (question : Question) where
-  same_load : (x y : LoadMap) → IsLoadedFor s question x → IsLoadedFor s question y → x ≡ y
-  same_load x y p q = one_load s (asked question) x y p.is_load q.is_load
+one_told : (load : LoadMap) (x y : EdgeMap) → AreEdges load x → AreEdges load y → (question : Question) → AreKnown load (names_of question) → (a b : Answer)
+    → IsTold (graph_of load x) question a → IsTold (graph_of load y) question b → a ≡ b
+one_told load x y p q (OfUnit name) known a b f g = f.2 ∙ ap answer.Unit (one_linked load x y p q name f.0 g.0 f.1 g.1) ∙ sym g.2
+one_told load x y p q (OfPulled name) known a b f g = f.2 ∙ ap answer.Pulled (one_pulled load x y p q name f.0 g.0 (known name (inl refl)) f.1 g.1) ∙ sym g.2
+one_told load x y p q (OfPlan request) known a b f g = one_plan_told load request x y p q a b f g
 
-  same_plan : (load : LoadMap) (a b : Plan) → IsPlannedFrom s question load a → IsPlannedFrom s question load b → a ≡ b
-  same_plan load a b p q =
-      one_plan load q.edges question.request a b (planned_by load question.request p.edges q.edges p.edges_are q.edges_are a p.planned) q.planned
+module _ (s : EntryMap) (names : List Name) (question : Question) (own : (load : LoadMap) → IsLoad s names load → AreKnown load (names_of question)) (a b : Answer) where
+  one_from : IsToldFrom s names question a → IsToldFrom s names question b → a ≡ b
+  one_from f g =
+      let same : f.graph.load ≡ g.graph.load = one_load s names f.graph.load g.graph.load f.snapshot.is_load g.snapshot.is_load in
+      one_told g.graph.load f.graph.edges g.graph.edges (subst (λ (l : LoadMap). AreEdges l f.graph.edges) same f.snapshot.edges_are) g.snapshot.edges_are question
+      (own g.graph.load g.snapshot.is_load) a b (subst (λ (l : LoadMap). IsTold (graph_of l f.graph.edges) question a) same f.told_is) g.told_is
 
-  same_refusal : (load : LoadMap) (a b : Refusal) → IsRefusedFrom s question load a → IsRefusedFrom s question load b → a ≡ b
-  same_refusal load a b p q =
-      one_refusal_told load q.edges question.request a b (refused_by load question.request p.edges q.edges p.edges_are q.edges_are a p.refused) q.refused p.known q.known
-
-  not_both : (load : LoadMap) (plan : Plan) (r : Refusal) → IsPlannedFrom s question load plan → IsRefusedFrom s question load r → ⊥
-  not_both load plan r p q =
-      plan_or_refusal load q.edges question.request plan r (planned_by load question.request p.edges q.edges p.edges_are q.edges_are plan p.planned) q.refused q.known
-
-  parted : (x y : LoadMap) (plan : Plan) (r : Refusal) → IsPlannedFrom s question x plan → IsRefusedFrom s question y r → ⊥
-  parted x y plan r p q = not_both y plan r (subst (λ (l : LoadMap). IsPlannedFrom s question l plan) (same_load x y p.loaded q.loaded) p) q
-
-  pub one_answer_of : (a b : Answer) → IsAnswer s question a → IsAnswer s question b → a ≡ b
-  one_answer_of answer.TooManyUnits answer.TooManyUnits p q = refl
-  one_answer_of answer.TooManyUnits (answer.Planned load plan) p q = absurd (q.loaded.within p)
-  one_answer_of answer.TooManyUnits (answer.Refused load refusal) p q = absurd (q.loaded.within p)
-  one_answer_of (answer.Planned load plan) answer.TooManyUnits p q = absurd (p.loaded.within q)
-  one_answer_of (answer.Refused load refusal) answer.TooManyUnits p q = absurd (p.loaded.within q)
-  one_answer_of (answer.Planned x a) (answer.Planned y b) p q =
-      let e = same_load x y p.loaded q.loaded in
-      ap (λ (l : LoadMap). answer.Planned l a) e
-      ∙ ap (answer.Planned y) (same_plan y a b (subst (λ (l : LoadMap). IsPlannedFrom s question l a) e p) q)
-  one_answer_of (answer.Planned x plan) (answer.Refused y r) p q = absurd (parted x y plan r p q)
-  one_answer_of (answer.Refused x r) (answer.Planned y plan) p q = absurd (parted y x plan r q p)
-  one_answer_of (answer.Refused x a) (answer.Refused y b) p q =
-      let e = same_load x y p.loaded q.loaded in
-      ap (λ (l : LoadMap). answer.Refused l a) e
-      ∙ ap (answer.Refused y) (same_refusal y a b (subst (λ (l : LoadMap). IsRefusedFrom s question l a) e p) q)
+  one_whole : IsWholeAnswer s names question a → IsWholeAnswer s names question b → a ≡ b
+  one_whole (inl f) (inl g) = f.1 ∙ sym g.1
+  one_whole (inl f) (inr g) = absurd (g.snapshot.within f.0)
+  one_whole (inr f) (inl g) = absurd (f.snapshot.within g.0)
+  one_whole (inr f) (inr g) = one_from f g
 
 pub one_answer : OneAnswer
-one_answer s question a b p q = one_answer_of s question a b p q
+one_answer s extra question a b (inl f) (inl g) = f.1 ∙ sym g.1
+one_answer s extra question a b (inl f) (inr g) = absurd (g.0 f.0)
+one_answer s extra question a b (inr f) (inl g) = absurd (f.0 g.0)
+one_answer s extra question a b (inr f) (inr g) = one_whole s (asked extra question) question (own_are_known s extra question) a b f.1 g.1

@@ -2,29 +2,30 @@
 -- Source (strong eventual consistency): Shapiro, Preguica, Baquero, Zawirski 2011.
 use Rattle.std.specs.Prelude.{◌≡◌, ℕ, List, ◌++◌, reverse}
 use Rattle.edit_sums.specs.Sums.{EntryMap, sum_of}
+use Rattle.unit_name.specs.Names.{Name}
 use Rattle.world_law.specs.Took.{IsSumOf, Took}
 use Rattle.world_law.specs.Worlds.{AreSameEdits}
 use Rattle.world_law.specs.declared.events.Event.{Event}
 use Rattle.delta_gossip.specs.Convergence.{AreHonest}
 use Rattle.delta_gossip.specs.Shows.{NodeHolds, took_after}
 use Rattle.fleet_answers.specs.Answers.{IsAnswer}
-use Rattle.fleet_answers.specs.declared.answers.Answer.{Answer}
-use Rattle.fleet_answers.specs.declared.answers.Question.{Question}
+use Rattle.fleet_answers.specs.declared.questions.Answer.{Answer}
+use Rattle.fleet_answers.specs.declared.questions.Question.{Question}
 
-module _ (nodes : ℕ) (events : List Event) (k : ℕ) (question : Question) where
+module _ (nodes : ℕ) (events : List Event) (k : ℕ) (extra : List Name) (question : Question) where
   -- it is what the store of node k answers
   abbrev pub AnswersItsStore : Answer → Type 0
-  AnswersItsStore answer = NodeHolds nodes events k (λ store. IsAnswer store question answer)
+  AnswersItsStore answer = NodeHolds nodes events k (λ store. IsAnswer store extra question answer)
 
   -- where no version stands for two edits: what the sum of the edits that the node took answers
   abbrev pub AnswersItsSum : Answer → Type 0
-  AnswersItsSum answer = AreHonest nodes events → IsAnswer (sum_of (took_after nodes events k)) question answer
+  AnswersItsSum answer = AreHonest nodes events → IsAnswer (sum_of (took_after nodes events k)) extra question answer
 
   -- what a store answers that is the sum of the edits that the node took, as the events alone tell them
   pub record IsOfSum (answer : Answer) : Type 0 where
     pub store : EntryMap
     pub sum : IsSumOf (Took nodes (reverse events) k) store
-    pub answers : IsAnswer store question answer
+    pub answers : IsAnswer store extra question answer
 
   abbrev pub AnswersAsTold : Answer → Type 0
   AnswersAsTold answer = AreHonest nodes events → IsOfSum answer
@@ -32,4 +33,4 @@ module _ (nodes : ℕ) (events : List Event) (k : ℕ) (question : Question) whe
   -- any answer of a node that by a later moment took the same edits is this one
   abbrev pub AgreesLater : List Event → Answer → Type 0
   AgreesLater later answer = AreHonest nodes (events ++ later) → (l : ℕ) → AreSameEdits (took_after nodes events k) (took_after nodes (events ++ later) l)
-      → (other : Answer) → NodeHolds nodes (events ++ later) l (λ store. IsAnswer store question other → other ≡ answer)
+      → (other : Answer) → NodeHolds nodes (events ++ later) l (λ store. IsAnswer store extra question other → other ≡ answer)

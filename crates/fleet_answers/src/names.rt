@@ -1,20 +1,64 @@
 //! The names that a question asks for.
-ghost use Rattle.std.specs.Prelude.{◌≡◌, ◌++◌, IfOk, OnOk};
-ghost use Rattle.fleet_answers.specs.Answers.{asked};
+ghost use Rattle.std.specs.Prelude.{◌≡◌, [], ◌∷◌, ◌++◌, IfOk, MatchOption, OnOk};
+ghost use Rattle.std.specs.Option.{IfSome};
+ghost use Rattle.start_plan.specs.Requests.{HasTemplate};
+ghost use Rattle.fleet_answers.specs.Answers.{asked, names_of};
 
-use crate::answers::Question;
+use crate::questions::Question;
+use start_plan::has_template;
 use std::alloc::{AllocError, Global};
 use unit_name::UnitName;
 
-// The names of a question: those beside its request, then the target, then those that run.
-pub fn asked_names(alloc: Global, question: &Question) -> Result<Vec<UnitName>, AllocError>
-    ensures names { IfOk result (λ names. names.items ≡ asked question.now) }
+/// The names that are asked for beside a question, and then its own. None where one of them is a template.
+pub(crate) fn whole_names(
+    alloc: Global,
+    extra: &[UnitName],
+    question: &Question,
+) -> Result<Option<Vec<UnitName>>, AllocError>
+    ensures template { IfOk result (λ found. MatchOption found (HasTemplate (asked extra.now question.now))
+        (λ _. ¬ HasTemplate (asked extra.now question.now))) }
+    ensures names { IfOk result (λ found. IfSome found (λ names. names.items ≡ asked extra.now question.now)) }
+{
+    let names = asked_names(alloc, extra, question)?;
+    if has_template(&names) {
+        return Ok(None);
+    }
+    Ok(Some(names))
+}
+
+// The names that are asked for beside a question, and then its own.
+fn asked_names(
+    alloc: Global,
+    extra: &[UnitName],
+    question: &Question,
+) -> Result<Vec<UnitName>, AllocError>
+    ensures names { IfOk result (λ names. names.items ≡ asked extra.now question.now) }
 {
     let mut names = Vec::new(alloc);
-    append_copies(&mut names, question.extra.as_slice())?;
-    names.push(question.request.target.try_clone()?)?;
-    append_copies(&mut names, question.request.running.as_slice())?;
+    append_copies(&mut names, extra)?;
+    append_own(&mut names, question)?;
     Ok(names)
+}
+
+// Appends the names of a question.
+fn append_own(names: &mut Vec<UnitName>, question: &Question) -> Result<(), AllocError>
+    ensures appended { OnOk result (names.new.items ≡ names.old.items ++ names_of question.now) }
+{
+    match question {
+        Question::Unit(name) | Question::Pulled(name) => append_copy(names, name),
+        Question::Plan(request) => {
+            append_copy(names, &request.target)?;
+            append_copies(names, request.running.as_slice())
+        }
+    }
+}
+
+// Appends a copy of a name.
+fn append_copy(names: &mut Vec<UnitName>, name: &UnitName) -> Result<(), AllocError>
+    ensures appended { OnOk result (names.new.items ≡ names.old.items ++ name.now ∷ []) }
+{
+    names.push(name.try_clone()?)?;
+    Ok(())
 }
 
 // Appends copies of names.
@@ -22,7 +66,7 @@ fn append_copies(names: &mut Vec<UnitName>, others: &[UnitName]) -> Result<(), A
     ensures appended { OnOk result (names.new.items ≡ names.old.items ++ others.now) }
 {
     for other in others {
-        names.push(other.try_clone()?)?;
+        append_copy(names, other)?;
     }
     Ok(())
 }

@@ -1,5 +1,5 @@
 -- Between two lines of a script each node has room for a crowd.
-use Rattle.std.proofs.Common.{◌≡◌, ◌≤◌, ◌++◌, ℕ, List, Option, length, length-append, ap, ◌∙◌, arith}
+use Rattle.std.proofs.Common.{◌≤◌, ◌++◌, ℕ, List, Option, length, length-append, ap, ◌∙◌, arith}
 use Rattle.edit_sums.specs.Sums.{high_of}
 use Rattle.script_words.specs.Lines.{lines_of}
 use Rattle.fleet_script.specs.Holds.{HasRoom, Keeps}

@@ -28,17 +28,13 @@ use Rattle.script_worlds.specs.CountsLaws.{put_next, put_same, puts_merged_all}
 use Rattle.script_worlds.specs.Lawful.{IsLawful, puts}
 use Rattle.script_worlds.specs.NodeLaws.{named_within}
 use Rattle.script_worlds.specs.LawfulLaws.{lawful_answered, lawful_given, lawful_merged, lawful_put, lawful_with_node, puts_with_node}
-use Rattle.unit_answers.specs.Units.{TellsFiles}
-use Rattle.unit_answers.specs.UnitLaws.{files_are_told_once, files_spend_nothing}
-use Rattle.load_answers.specs.Lists.{TellsList}
-use Rattle.load_answers.specs.ListLaws.{lists_are_told_once, lists_spend_nothing}
-use Rattle.load_answers.specs.Loads.{IsCrew}
-use Rattle.load_answers.specs.Shows.{TellsUnit}
-use Rattle.load_answers.specs.ShowLaws.{units_are_told_once, units_spend_nothing}
-use Rattle.plan_answers.specs.Plans.{TellsPlan}
-use Rattle.plan_answers.specs.PlanLaws.{plans_are_told_once, plans_spend_nothing}
-use Rattle.crowd_answers.specs.Tells.{TellsCrowd}
-use Rattle.crowd_answers.specs.TellsLaws.{crowds_are_told_once, crowds_spend_nothing}
+use Rattle.script_answers.specs.CrowdLaws.{crowds_are_told_once, crowds_spend_nothing}
+use Rattle.script_answers.specs.Crowds.{TellsCrowd}
+use Rattle.script_answers.specs.FileLaws.{files_are_told_once, files_spend_nothing}
+use Rattle.script_answers.specs.Files.{TellsFiles}
+use Rattle.script_answers.specs.Tells.{TellsList, TellsPlan, TellsUnit, plan_asked, pulled_asked, unit_asked}
+use Rattle.script_answers.specs.TellsLaws.{questions_are_told_once, questions_spend_nothing}
+use Rattle.script_answers.specs.Crews.{IsCrew}
 use Rattle.fleet_script.specs.Does.{AtNode, AtPath, AtPaths, AtPiece, Does, Gives, IsRead, Reads, Refuses, RefusesPath, TellsPaths, WithFile, WithTarget, WithText, Writes, if_any}
 use Rattle.fleet_script.proofs.Between.{merged_all-append, merged_nodes}
 
@@ -284,9 +280,9 @@ module _ (old : ScriptWorld) where
       gives (codes "ok\n") (swept old) (puts_nothing (swept old) (lawful_swept old) (puts_merged_all old (map (λ k. (k, 0)) others ++ map (λ k. (0, k)) others)))
   does (Files node) = reads node TellsPaths (λ s a b p q. p ∙ sym q) (λ s outcome p. ap is_spent p)
   does (Cat node unit) = reads node (TellsFiles unit) (files_are_told_once unit) (files_spend_nothing unit)
-  does (Show node unit) = reads node (TellsUnit unit) (units_are_told_once unit) (units_spend_nothing unit)
-  does (ListUnits node unit) = reads node (TellsList unit) (lists_are_told_once unit) (lists_spend_nothing unit)
-  does (Plan node unit running) = reads node (TellsPlan unit running) (plans_are_told_once unit running) (plans_spend_nothing unit running)
+  does (Show node unit) = reads node (TellsUnit unit) (questions_are_told_once (unit_asked unit)) (questions_spend_nothing (unit_asked unit))
+  does (ListUnits node unit) = reads node (TellsList unit) (questions_are_told_once (pulled_asked unit)) (questions_spend_nothing (pulled_asked unit))
+  does (Plan node unit running) = reads node (TellsPlan unit running) (questions_are_told_once (plan_asked unit running)) (questions_spend_nothing (plan_asked unit running))
   does (Workers count) = gives_or_refuses (IsCrew count) (codes "ok\n") NoCrew refl
   does (Same left right) =
       let C : ℕ → ℕ → Outcome → ScriptWorld → Type 0 = λ j k outcome new. ((held old j ≡ held old k) × Gives (codes "same\n") old outcome new) ⊎ ((held old j ≡ held old k → ⊥) × Gives (codes "differ\n") old outcome new) in

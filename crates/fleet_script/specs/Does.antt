@@ -18,13 +18,11 @@ use Rattle.script_commands.specs.declared.commands.Refusal.{Refusal}
 use Rattle.script_commands.specs.Paths.{paths_of}
 use Rattle.script_commands.specs.declared.commands.Refusal.TheVariants.{UnknownNode, BadText, UnknownPiece, NodeTaken, WriterTaken, Directory, Depth, Component, FileTooLarge, BadLink, VersionsSpent, Nothing, Workers}
 use Rattle.script_commands.specs.Outcomes.{Outcome}
+use Rattle.script_answers.specs.Crews.{IsCrew}
+use Rattle.script_answers.specs.Crowds.{TellsCrowd}
+use Rattle.script_answers.specs.Files.{TellsFiles}
+use Rattle.script_answers.specs.Tells.{TellsList, TellsPlan, TellsUnit}
 use Rattle.script_answers.specs.Texts.{ok_line, changed_line, entries_line, files_text}
-use Rattle.unit_answers.specs.Units.{TellsFiles}
-use Rattle.load_answers.specs.Lists.{TellsList}
-use Rattle.load_answers.specs.Loads.{IsCrew}
-use Rattle.load_answers.specs.Shows.{TellsUnit}
-use Rattle.plan_answers.specs.Plans.{TellsPlan}
-use Rattle.crowd_answers.specs.Tells.{TellsCrowd}
 use Rattle.script_worlds.specs.Worlds.{ScriptWorld, held, happened, with_node, node_named, has_writer, next_edit, parted, piece_named, merged, swept}
 
 -- the answer is these words, and the new world is that one

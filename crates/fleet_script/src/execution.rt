@@ -8,13 +8,12 @@ ghost use Rattle.fleet_script.specs.Scripts.{AnswersLine};
 
 use crate::states::Shell;
 use byte_strings::Bytes;
-use crowd_answers::tell_crowd;
 use edit_sums::Content;
-use load_answers::{Crew, tell_list, tell_unit};
 use load_path::Path;
-use plan_answers::tell_plan;
 use replica_store::Replica;
-use script_answers::{list_files, put_done, refused};
+use script_answers::{
+    Crew, list_files, put_done, refused, tell_crowd, tell_files, tell_list, tell_plan, tell_unit,
+};
 use script_commands::{
     Command, EditCount, Fault, Refusal, Words, parse, read_file, read_link, read_path,
 };
@@ -23,7 +22,6 @@ use std::alloc::{AllocError, Global};
 use std::collections::{BTreeMap, BTreeSet};
 use std::sync::Wait;
 use std::thread::Threads;
-use unit_answers::tell_files;
 
 /// The most bytes of a line of a script, its line end not counted.
 pub const LINE_LIMIT: usize = 300_000;

@@ -1,8 +1,8 @@
 //! What the shell keeps.
 use byte_strings::Bytes;
 use delta_pieces::Piece;
-use load_answers::Crew;
 use replica_store::Replica;
+use script_answers::Crew;
 use std::collections::{BTreeMap, BTreeSet};
 
 /// Each node's replica of now, in the order of their making; by name the numbers of the nodes, from 0, and the pieces

@@ -100,6 +100,28 @@ impl Loaded {
         Ok(units)
     }
 
+    /// The unit of a main name, moved out of the load, of which nothing else is kept. None for an alias, and for a name that
+    /// isn't in the universe. It takes no memory.
+    pub fn into_unit(self, name: &UnitName) -> Option<Unit>
+        ensures unit { result ≡ unit_in self name.now }
+    {
+        match self.into_load(name) {
+            Some(NameLoad::Unit(unit)) => Some(unit),
+            Some(NameLoad::Alias(_)) | None => None,
+        }
+    }
+
+    // What a name stands for, moved out of the load.
+    fn into_load(self, name: &UnitName) -> Option<NameLoad>
+        ensures load { result ≡ load_at self name.now }
+    {
+        let Loaded { mut names, .. } = self;
+        match seek(&names, name) {
+            Ok(at) => Some(names.swap_remove(at).1),
+            Err(_) => None,
+        }
+    }
+
     // What a name stands for.
     fn at(&self, name: &UnitName) -> Option<&NameLoad>
         ensures load { option_copied result ≡ load_at self.now name.now }

@@ -1,1 +1,12 @@
+pub mod Crews
+pub mod CrowdLaws
+pub mod Crowds
+pub mod FileLaws
+pub mod Files
+pub mod Plans
+pub mod PulledLines
+pub mod Requests
+pub mod Tells
+pub mod TellsLaws
 pub mod Texts
+pub mod UnitLines

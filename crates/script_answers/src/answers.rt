@@ -113,7 +113,7 @@ pub fn part_done(alloc: Global, entries: usize) -> Result<Vec<u8>, AllocError>
 }
 
 /// The line of a crowd: its takes, and the paths that it held.
-pub fn crowd_done(alloc: Global, takes: u64, paths: u64) -> Result<Vec<u8>, AllocError>
+pub(crate) fn crowd_done(alloc: Global, takes: u64, paths: u64) -> Result<Vec<u8>, AllocError>
     ensures line { IfOk result (λ line. line.items ≡ crowd_line takes paths) }
 {
     Ok(format!(in alloc; "takes {takes} paths {paths}\n")?.into_bytes())

@@ -6,7 +6,7 @@ use std::alloc::AllocError;
 use unit_name::UnitName;
 
 /// Appends names, each behind a space. Linear in what is written. It fails for want of memory alone.
-pub fn append_names(out: &mut Vec<u8>, names: &[UnitName]) -> Result<(), AllocError>
+pub(crate) fn append_names(out: &mut Vec<u8>, names: &[UnitName]) -> Result<(), AllocError>
     ensures appended { OnOk result (out.new.items ≡ out.old.items ++ spaced_names names.now) }
 {
     for name in names {

@@ -5,15 +5,15 @@ ghost use Rattle.start_plan.specs.Requests.{AsksTemplate, HasTemplate};
 use crate::requests::Request;
 use unit_name::UnitName;
 
-/// Whether the target or a running name is a template, for which there is no plan. Linear in the names, without memory.
-pub fn asks_template(request: &Request) -> bool
+/// Whether the target or a running name is a template, for which there is no plan.
+pub(crate) fn asks_template(request: &Request) -> bool
     ensures template { IsTrue result ↔ AsksTemplate request.now }
 {
     request.target.is_template() || has_template(request.running.as_slice())
 }
 
-// Whether one of the names is a template.
-fn has_template(names: &[UnitName]) -> bool
+/// Whether one of the names is a template. Linear in the names, without memory.
+pub fn has_template(names: &[UnitName]) -> bool
     ensures template { IsTrue result ↔ HasTemplate names.now }
 {
     'names: for name in names {

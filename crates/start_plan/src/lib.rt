@@ -12,7 +12,7 @@ mod names;
 mod planning;
 mod requests;
 
-pub use checks::asks_template;
+pub use checks::has_template;
 pub use laws::plan_laws;
 pub use planning::plan;
 pub use requests::{Plan, Refusal, Request};

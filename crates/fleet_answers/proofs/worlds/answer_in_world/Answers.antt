@@ -9,21 +9,21 @@ use Rattle.fleet_answers.proofs.worlds.answer_in_world.Goals as goal
 here : (c : goal.After-drop-world-in-Some-3) → slice_get c.in_ok-world.world.replicas.items c.args.node ≡ Some c.in-Some.replica.now
 here c = got (λ r. r.now) c.in_ok-world.world.replicas.items c.args.node c.in-Some.replica (rw c.deref.ensures.value at c.in-Some.ensures.lookup)
 
-is : (c : goal.After-drop-world-in-Some-3) → IsAnswer c.in-Some.replica.now.store c.args.question.now c.in_ok-answer_here-in-Some.field-0
-is c = subst (λ (s : EntryMap). IsAnswer s c.args.question.now c.in_ok-answer_here-in-Some.field-0) c.store.ensures.store c.in_ok-answer_here-in-Some.ensures.answer
+is : (c : goal.After-drop-world-in-Some-3) → IsAnswer c.in-Some.replica.now.store c.args.extra.now c.args.question.now c.in_ok-answer_here-in-Some.field-0
+is c = subst (λ (s : EntryMap). IsAnswer s c.args.extra.now c.args.question.now c.in_ok-answer_here-in-Some.field-0) c.store.ensures.store c.in_ok-answer_here-in-Some.ensures.answer
 
 pub returns-in-Some-clause-model : goal.returns-in-Some-clause-model
 returns-in-Some-clause-model c =
-    of_store (length c.args.writers.now) c.args.events.now c.in_ok-world.world c.args.node c.args.question.now c.in-Some.replica.now _ (here c) (is c) c.in_ok-world.ensures.model
+    of_store (length c.args.writers.now) c.args.events.now c.in_ok-world.world c.args.node c.args.extra.now c.args.question.now c.in-Some.replica.now _ (here c) (is c) c.in_ok-world.ensures.model
 
 pub returns-in-Some-clause-sum : goal.returns-in-Some-clause-sum
 returns-in-Some-clause-sum c =
-    of_sum (length c.args.writers.now) c.args.events.now c.in_ok-world.world c.args.node c.args.question.now c.in-Some.replica.now _ (here c) (is c) c.in_ok-world.ensures.sums
+    of_sum (length c.args.writers.now) c.args.events.now c.in_ok-world.world c.args.node c.args.extra.now c.args.question.now c.in-Some.replica.now _ (here c) (is c) c.in_ok-world.ensures.sums
 
 pub returns-in-Some-clause-told : goal.returns-in-Some-clause-told
 returns-in-Some-clause-told c =
-    as_told (length c.args.writers.now) c.args.events.now c.in_ok-world.world c.args.node c.args.question.now c.in-Some.replica.now _ (here c) (is c) c.in_ok-world.ensures.told
+    as_told (length c.args.writers.now) c.args.events.now c.in_ok-world.world c.args.node c.args.extra.now c.args.question.now c.in-Some.replica.now _ (here c) (is c) c.in_ok-world.ensures.told
 
 pub returns-in-Some-clause-same : goal.returns-in-Some-clause-same
 returns-in-Some-clause-same c =
-    agrees (length c.args.writers.now) c.args.events.now c.in_ok-world.world c.args.node c.args.question.now c.in-Some.replica.now _ (here c) (is c) c.in_ok-world.ensures.same
+    agrees (length c.args.writers.now) c.args.events.now c.in_ok-world.world c.args.node c.args.extra.now c.args.question.now c.in-Some.replica.now _ (here c) (is c) c.in_ok-world.ensures.same

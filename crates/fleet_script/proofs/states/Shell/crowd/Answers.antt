@@ -1,5 +1,5 @@
 use Rattle.std.proofs.Common.{rules}
-use Rattle.crowd_answers.specs.Tells.{TellsCrowd}
+use Rattle.script_answers.specs.Crowds.{TellsCrowd}
 use Rattle.fleet_script.specs.Holds.{kept_in}
 use Rattle.fleet_script.proofs.Goes.{read_told, stays, with_node}
 use Rattle.fleet_script.proofs.Nodes.{slice_get_at}

@@ -1,5 +1,5 @@
 use Rattle.std.proofs.Common.{subst}
-use Rattle.plan_answers.specs.Plans.{TellsPlan}
+use Rattle.script_answers.specs.Tells.{TellsPlan}
 use Rattle.fleet_script.specs.Holds.{kept_in}
 use Rattle.fleet_script.proofs.Goes.{IsTold, read_told, stays, with_node}
 use Rattle.fleet_script.proofs.Nodes.{slice_get_at}

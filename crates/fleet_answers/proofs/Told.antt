@@ -1,0 +1,54 @@
+-- What a graph tells is told of its load and its edges.
+use Rattle.std.proofs.Common.{◌≡◌, Global, ℕ, List, ◌∷◌, [], Option, Some, Vec, inl, inr, refl, subst, ◌∙◌}
+use Rattle.std.specs.Prelude.{MatchOption}
+use Rattle.std.specs.Option.{IfSome}
+use Rattle.unit_name.specs.Names.{Name}
+use Rattle.edit_sums.specs.Sums.{EntryMap}
+use Rattle.inverse_deps.specs.Edges.{EdgeMap}
+use Rattle.parallel_load.specs.Loads.{LoadMap}
+use Rattle.unit_graph.specs.Graphs.{AreDepths, GraphMap, IsKnown}
+use Rattle.start_plan.specs.declared.requests.Request.{Request}
+use Rattle.start_plan.specs.Requests.{HasTemplate, IsOfGraph}
+use Rattle.fleet_answers.specs.AnswerLaws.{own_are_known}
+use Rattle.fleet_answers.specs.Answers.{AreKnown, IsAnswer, IsSnapshot, IsTold, asked, names_of}
+use Rattle.fleet_answers.specs.declared.questions.Answer.{Answer}
+use Rattle.fleet_answers.specs.declared.questions.Question.{Question}
+
+pub depths_of : (own graph : GraphMap) (from : Name) (pairs told : List (ℕ × Name)) → graph.load ≡ own.load → graph.edges ≡ own.edges → AreDepths graph from pairs → pairs ≡ told
+    → AreDepths own from told
+depths_of own graph from pairs told same also depths e =
+    subst (λ (ps : List (ℕ × Name)). AreDepths own from ps) e
+    (subst (λ (m : EdgeMap). AreDepths (record { load = own.load; edges = m }) from pairs) also
+    (subst (λ (l : LoadMap). AreDepths (record { load = l; edges = graph.edges }) from pairs) same depths))
+
+-- names that are known are those of the graph
+pub of_graph : (load : LoadMap) (request : Request) → AreKnown load (request.target ∷ request.running) → IsOfGraph load request
+of_graph load request known n among = inr (known n among)
+
+-- a name alone is among its own
+pub known_one : (load : LoadMap) (n : Name) → AreKnown load (n ∷ []) → IsKnown load n
+known_one load n known = known n (inl refl)
+
+-- what holds of what is there
+of_some : {X : Type 0} (P : X → Type 0) (o : Option X) (x : X) → o ≡ Some x → IfSome o P → P x
+of_some P o x e h = subst (λ (p : Option _). IfSome p P) e h
+
+of_there : {X : Type 0} (A B : Type 0) (o : Option X) (x : X) → o ≡ Some x → MatchOption o A (λ _. B) → B
+of_there A B o x e h = subst (λ (p : Option _). MatchOption p A (λ _. B)) e h
+
+-- a snapshot of all names that are asked for answers as the store does
+module _ (s : EntryMap) (extra : List Name) (question : Question) (found : Option (Vec Name Global)) (names : Vec Name Global) (is : found ≡ Some names)
+    (all : IfSome found (λ (ns : Vec Name Global). ns.items ≡ asked extra question)) (lent : List Name) (same : lent ≡ names.items) (graph : GraphMap)
+    (made : IsSnapshot s lent graph) where
+  all_asked : IsSnapshot s (asked extra question) graph
+  all_asked = subst (λ (ns : List Name). IsSnapshot s ns graph) (same ∙ of_some (λ (ns : Vec Name Global). ns.items ≡ asked extra question) found names is all) made
+
+  pub own_known : AreKnown graph.load (names_of question)
+  own_known = own_are_known s extra question graph.load all_asked.is_load
+
+  pub answers : MatchOption found (HasTemplate (asked extra question)) (λ _. ¬ HasTemplate (asked extra question)) → (answer : Answer) → IsTold graph question answer
+      → IsAnswer s extra question answer
+  answers none answer told = inr (
+    of_there (HasTemplate (asked extra question)) (¬ HasTemplate (asked extra question)) found names is none,
+    inr (record { graph = graph; snapshot = all_asked; told_is = told }),
+  )

@@ -1,0 +1,196 @@
+//! What all that must be loaded of a store comes to.
+ghost use Rattle.std.specs.Prelude.{◌≡◌, ◌↔◌, ◌⊎◌, ◌<◌, Err, IfOk, IfErr, Some};
+ghost use Rattle.parallel_load.specs.Refusals.{OnTooMany, OnWorkers};
+ghost use Rattle.parallel_load.specs.Universe.{IsTooLarge};
+ghost use Rattle.parallel_load.specs.declared.faults.LoadFault.TheVariants.{Workers};
+ghost use Rattle.parallel_load.specs.Loads.{main_in};
+ghost use Rattle.unit_graph.specs.Graphs.{AreDepths, IsKnown};
+ghost use Rattle.start_plan.specs.Outcomes.{IsPlanned, IsRefusalOf};
+ghost use Rattle.start_plan.specs.Requests.{IsOfGraph};
+ghost use Rattle.fleet_answers.specs.Answers.{AreKnown, IsLinkedUnit, IsPlanTold, IsSnapshot, IsTold, edge_lists, names_of};
+
+use crate::questions::{Answer, LinkedUnit, Question};
+use inverse_deps::{Edges, edges};
+use parallel_load::{Gate, LoadFault, Loaded, load_fleet, load_here};
+use replica_store::Store;
+use section_reader::Items;
+use setting_rules::{DepKind, DependencyList};
+use start_plan::{Plan, Refusal, Request, plan};
+use std::alloc::{AllocError, Global};
+use std::marker::Model;
+use std::thread::Threads;
+use unit_graph::Graph;
+use unit_name::UnitName;
+
+/// All units that must be loaded of a store, with their edges.
+#[derive(Debug, Drop)]
+pub struct Snapshot {
+    loaded: Loaded,
+    edges: Edges,
+}
+
+impl Model for Snapshot {
+    ghost use Rattle.inverse_deps.specs.Edges.{AreEdges};
+    ghost use Rattle.unit_graph.specs.Graphs.{GraphMap, coded_graph};
+
+    ghost Value = { GraphMap };
+
+    ghost coded = { coded_graph };
+
+    ghost view = { λ s. record { load = s.loaded; edges = s.edges } };
+
+    ghost invariant = { λ s. AreEdges s.loaded s.edges };
+}
+
+impl Snapshot {
+    /// The snapshot of a store with these names asked for beside all at which something is visible, by one thread.
+    /// `TooManyUnits` exactly where more than 4,096 names must be loaded, aliases counted; or `Memory` for want of memory.
+    ///
+    /// One load (systemd.unit(5)), and then its edges.
+    pub fn of(alloc: Global, store: &Store, extra: &[UnitName]) -> Result<Snapshot, LoadFault>
+        ensures snapshot { IfOk result (IsSnapshot store.now extra.now) }
+        ensures over { IfErr result (λ fault. OnTooMany fault (IsTooLarge store.now extra.now)) }
+        ensures no_workers { IfErr result (λ fault. OnWorkers fault ⊥) }
+    {
+        let loaded = load_here(alloc, store, extra)?;
+        Ok(Snapshot::with_edges(alloc, loaded)?)
+    }
+
+    /// The same snapshot by 1 to 64 workers, whatever their number and whatever the gate answers. `Workers` exactly where
+    /// they aren't 1 to 64, before anything else. It may wait for threads; one worker needs none.
+    pub fn by_workers<R: Threads + Sync, G: Gate + Sync>(
+        rt: &R,
+        alloc: Global,
+        store: &Store,
+        extra: &[UnitName],
+        workers: usize,
+        gate: &G,
+    ) -> Result<Snapshot, LoadFault>
+        ensures workers { (result ≡ Err Workers) ↔ ((workers ≡ 0) ⊎ (64 < workers)) }
+        ensures snapshot { IfOk result (IsSnapshot store.now extra.now) }
+        ensures over { IfErr result (λ fault. OnTooMany fault (IsTooLarge store.now extra.now)) }
+    {
+        if workers == 1 {
+            return Snapshot::of(alloc, store, extra);
+        }
+        let loaded = load_fleet(rt, alloc, store, extra, workers, gate)?;
+        Ok(Snapshot::with_edges(alloc, loaded)?)
+    }
+
+    // A load with its edges.
+    fn with_edges(alloc: Global, loaded: Loaded) -> Result<Snapshot, AllocError>
+        ensures load { IfOk result (λ snapshot. snapshot.load ≡ loaded) }
+    {
+        let edges = edges(alloc, &loaded)?;
+        Ok(Snapshot { loaded, edges })
+    }
+
+    /// The units.
+    pub fn loaded(&self) -> &Loaded
+        ensures load { result.now ≡ self.now.load }
+    {
+        &self.loaded
+    }
+
+    /// The edges between the units.
+    pub fn edges(&self) -> &Edges
+        ensures edges { result.now ≡ self.now.edges }
+    {
+        &self.edges
+    }
+
+    /// Answers a question all of whose names stand for units. It fails for want of memory alone.
+    pub fn answer(self, alloc: Global, question: &Question) -> Result<Answer, AllocError>
+        requires known { AreKnown self.load (names_of question.now) }
+        ensures told { IfOk result (IsTold self question.now) }
+    {
+        match question {
+            Question::Unit(name) => Ok(Answer::Unit(self.linked_unit(alloc, name)?)),
+            Question::Pulled(name) => Ok(Answer::Pulled(self.pulled(alloc, name)?)),
+            Question::Plan(request) => self.planned(alloc, request),
+        }
+    }
+
+    // The unit for which a name stands, with its edges.
+    fn linked_unit(self, alloc: Global, name: &UnitName) -> Result<LinkedUnit, AllocError>
+        requires known { IsKnown self.load name.now }
+        ensures unit { IfOk result (IsLinkedUnit self name.now) }
+    {
+        let Snapshot { loaded, edges } = self;
+        let main = main_of(&loaded, name).try_clone()?;
+        let edges = edge_lists(alloc, &edges, &main)?;
+        match loaded.into_unit(&main) {
+            Some(unit) => Ok(LinkedUnit { unit, edges }),
+            None => unreachable!(),
+        }
+    }
+
+    // What the unit pulls for which a name stands.
+    fn pulled(&self, alloc: Global, name: &UnitName) -> Result<Items<(u64, UnitName)>, AllocError>
+        requires known { IsKnown self.now.load name.now }
+        ensures depths { IfOk result (AreDepths self.now name.now) }
+    {
+        let graph = Graph::build(alloc, &self.loaded, &self.edges)?;
+        Ok(Items::from_vec(graph.depths(alloc, name)?))
+    }
+
+    // The plan of a request, or why there is none.
+    fn planned(&self, alloc: Global, request: &Request) -> Result<Answer, AllocError>
+        requires names { IsOfGraph self.now.load request.now }
+        ensures told { IfOk result (IsPlanTold self.now request.now) }
+    {
+        match self.plan(alloc, request) {
+            Ok(plan) => Ok(Answer::Planned(plan)),
+            Err(Refusal::Memory) => Err(AllocError),
+            Err(refusal) => Ok(Answer::Refused(refusal)),
+        }
+    }
+
+    // The plan of a request, or the first reason why there is none.
+    fn plan(&self, alloc: Global, request: &Request) -> Result<Plan, Refusal>
+        requires names { IsOfGraph self.now.load request.now }
+        ensures plan { IfOk result (IsPlanned self.now.load self.now.edges request.now) }
+        ensures refusal { IfErr result (IsRefusalOf self.now.load self.now.edges request.now) }
+    {
+        let graph = Graph::build(alloc, &self.loaded, &self.edges)?;
+        plan(alloc, &graph, request)
+    }
+}
+
+// The main name of a name of a load.
+fn main_of<'a>(loaded: &'a Loaded, name: &UnitName) -> &'a UnitName
+    requires known { IsKnown loaded.now name.now }
+    ensures main { main_in loaded.now name.now ≡ Some result.now }
+{
+    match loaded.main(name) {
+        Some(main) => main,
+        None => unreachable!(),
+    }
+}
+
+// The lists of a unit's edges, for each kind in order.
+fn edge_lists(
+    alloc: Global,
+    edges: &Edges,
+    unit: &UnitName,
+) -> Result<Items<DependencyList>, AllocError>
+    ensures lists { IfOk result (λ lists. lists ≡ edge_lists edges.now unit.now) }
+{
+    let mut lists = Items::new(alloc);
+    for kind in DepKind::all() {
+        let names = copies(alloc, edges.of(*kind, unit))?;
+        lists.push(DependencyList { kind: *kind, names })?;
+    }
+    Ok(lists)
+}
+
+// Copies of names.
+fn copies(alloc: Global, names: &[UnitName]) -> Result<Items<UnitName>, AllocError>
+    ensures copies { IfOk result (λ copies. copies ≡ names.now) }
+{
+    let mut copies = Items::new(alloc);
+    for name in names {
+        copies.push(name.try_clone()?)?;
+    }
+    Ok(copies)
+}

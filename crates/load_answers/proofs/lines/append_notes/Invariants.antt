@@ -1,7 +1,0 @@
-use Rattle.std.proofs.Common.{◌≡◌, ◌++◌, take}
-use Rattle.std.specs.List.{flat_map}
-use Rattle.load_answers.specs.Lines.{note_line}
-use Rattle.load_answers.proofs.lines.append_notes.Given as goal
-
-abbrev pub invariant-loop-note : goal.invariant-loop-note
-invariant-loop-note l = l.out.items ≡ l.initial.out.items ++ flat_map note_line (take l.note-index l.notes)

@@ -1,0 +1,3 @@
+mod Lent
+mod Reading
+mod Told

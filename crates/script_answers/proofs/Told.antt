@@ -1,0 +1,64 @@
+-- From what is told of a question to what is told of words.
+use Rattle.std.proofs.Common.{◌≡◌, inl, inr, Global, ℕ, [], Result, Ok, Err, Vec, refl, ap, sym, subst}
+use Rattle.edit_sums.specs.Sums.{EntryMap}
+use Rattle.unit_name.specs.declared.names.NameFault.{NameFault}
+use Rattle.unit_name.specs.declared.names.NameFault.TheVariants as name
+use Rattle.script_commands.specs.declared.commands.Fault.{Fault}
+use Rattle.script_commands.specs.declared.commands.Fault.TheVariants as fault
+use Rattle.script_commands.specs.Faults.{fault_of_name}
+use Rattle.script_commands.specs.Outcomes.{IsSaid, Outcome}
+use Rattle.fleet_answers.specs.Answers.{IsAnswer}
+use Rattle.fleet_answers.specs.declared.questions.Answer.{Answer}
+use Rattle.fleet_answers.specs.declared.questions.Answer.TheVariants as answer
+use Rattle.fleet_answers.specs.declared.questions.Question.{Question}
+use Rattle.start_plan.specs.declared.requests.Refusal.{Refusal as PlanRefusal}
+use Rattle.script_answers.specs.Files.{RefusesName}
+use Rattle.script_answers.specs.Plans.{fault_of_plan}
+use Rattle.script_answers.specs.Requests.{IsNameFault}
+use Rattle.script_answers.specs.Tells.{IsOutcomeOf, TellsQuestion, TellsWords, asks}
+
+-- what was answered in words
+abbrev pub Told : Type 0
+Told = Result (Vec ℕ Global) Fault
+
+abbrev pub IsTold : Told → (Outcome → Type 0) → Type 0
+IsTold r P = IsSaid (λ (text : Vec ℕ Global). text.items) r P
+
+-- what is said holds of what follows from it
+pub weaker : (r : Told) (P Q : Outcome → Type 0) → ((outcome : Outcome) → P outcome → Q outcome) → IsTold r P → IsTold r Q
+weaker (Ok text) P Q f p = f _ p
+weaker (Err (fault.Refused refusal)) P Q f p = f _ p
+weaker (Err fault.Memory) P Q f p = tt
+
+-- a refusal of a plan is said by its fault
+pub refusal_said : (cause : PlanRefusal) (f : Fault) → f ≡ fault_of_plan cause → IsTold (Err f) (IsOutcomeOf (answer.Refused cause))
+refusal_said cause (fault.Refused r) e = record { refusal = r; told = sym e; outcome_is = refl }
+refusal_said cause fault.Memory e = tt
+
+-- a name's fault says why it is refused
+fault_told : (P : Outcome → Type 0) (f : NameFault) → ((outcome : Outcome) → RefusesName f outcome → P outcome) → IsTold (Err (fault_of_name f)) P
+fault_told P name.Length say = say _ refl
+fault_told P name.Kind say = say _ refl
+fault_told P name.EmptyPrefix say = say _ refl
+fault_told P (name.BadByte place) say = say _ refl
+fault_told P name.Memory say = tt
+
+module _ {X : Type 0} (make : X → Question) (read : Result X NameFault) (s : EntryMap) where
+  abbrev Tells : Outcome → Result Question NameFault → Type 0
+  Tells outcome r = TellsWords r s outcome
+
+  -- words that are no names are refused
+  pub words_told : (f : Fault) → IsNameFault read f → IsTold (Err f) (TellsWords (asks make read) s)
+  words_told f (inl e) = subst (λ (x : Fault). IsTold (Err x) (TellsWords (asks make read) s)) (sym e) tt
+  words_told f (inr why) =
+      subst (λ (x : Fault). IsTold (Err x) (TellsWords (asks make read) s)) (sym why.2)
+      (fault_told (TellsWords (asks make read) s) why.0 (λ outcome told. subst (Tells outcome) (sym (ap (asks make) why.1)) told))
+
+  -- and what is told of the question is told of the words
+  pub question_told : (x : X) → read ≡ Ok x → (r : Told) → IsTold r (TellsQuestion (make x) s) → IsTold r (TellsWords (asks make read) s)
+  question_told x are r told =
+      weaker r (TellsQuestion (make x) s) (TellsWords (asks make read) s) (λ outcome whole. subst (Tells outcome) (sym (ap (asks make) are)) whole) told
+
+-- what is told of an answer is told of its question
+pub answer_told : (s : EntryMap) (question : Question) (told : Answer) → IsAnswer s [] question told → (r : Told) → IsTold r (IsOutcomeOf told) → IsTold r (TellsQuestion question s)
+answer_told s question told is r said = weaker r (IsOutcomeOf told) (TellsQuestion question s) (λ outcome o. (told, is, o)) said

@@ -1,0 +1,14 @@
+-- How what a unit pulls is written: each unit with its least distance.
+-- Source: systemctl(1), "list-dependencies"; the texts are this project's own.
+use Rattle.std.specs.Prelude.{ℕ, codes, List, ◌++◌}
+use Rattle.std.specs.Fmt.{decimal}
+use Rattle.std.specs.List.{flat_map}
+use Rattle.unit_name.specs.Names.{Name}
+
+-- a distance and a name
+abbrev pub depth_line : ℕ × Name → List ℕ
+depth_line p = decimal p.0 ++ codes " " ++ p.1 ++ codes "\n"
+
+-- a line for each unit, by distance and then by name
+abbrev pub pulled_text : List (ℕ × Name) → List ℕ
+pulled_text pairs = flat_map depth_line pairs ++ codes "end\n"

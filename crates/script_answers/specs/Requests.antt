@@ -1,0 +1,32 @@
+-- The request that words make, and the names that it asks for.
+-- Source: this project's own.
+use Rattle.std.specs.Prelude.{◌≡◌, ◌⊎◌, ℕ, List, [], ◌∷◌, Result, Ok, Err}
+use Rattle.unit_name.specs.declared.names.NameFault.{NameFault}
+use Rattle.unit_name.specs.Names.{Name, name_of}
+use Rattle.script_commands.specs.declared.commands.Fault.{Fault}
+use Rattle.script_commands.specs.declared.commands.Fault.TheVariants.{Memory}
+use Rattle.script_commands.specs.Faults.{fault_of_name}
+use Rattle.start_plan.specs.declared.requests.Request.{Request}
+
+abbrev name_then : Result Name NameFault → Result (List Name) NameFault → Result (List Name) NameFault
+name_then (Err fault) names = Err fault
+name_then (Ok name) (Err fault) = Err fault
+name_then (Ok name) (Ok names) = Ok (name ∷ names)
+
+-- the unit names that some words are, or the first thing wrong with the first that is none
+abbrev pub names_of : List (List ℕ) → Result (List Name) NameFault
+names_of [] = Ok []
+names_of (word ∷ words) = name_then (name_of word) (names_of words)
+
+abbrev pub request_with : Result Name NameFault → Result (List Name) NameFault → Result Request NameFault
+request_with (Err fault) running = Err fault
+request_with (Ok target) (Err fault) = Err fault
+request_with (Ok target) (Ok running) = Ok (record { target = target; running = running })
+
+-- the request to start the unit of one word while those of the others run, or the first thing wrong with the first that is none
+abbrev pub request_of : List ℕ → List (List ℕ) → Result Request NameFault
+request_of unit running = request_with (name_of unit) (names_of running)
+
+-- the fault of words that are no unit names, or want of memory
+abbrev pub IsNameFault : {T : Type 0} → Result T NameFault → Fault → Type 0
+IsNameFault {T} read fault = (fault ≡ Memory) ⊎ ((f : NameFault) × (◌≡◌ {A = Result T NameFault} read (Err f)) × (fault ≡ fault_of_name f))

@@ -1,0 +1,109 @@
+//! The files of a unit, as they are told.
+ghost use Rattle.std.specs.Prelude.{◌≡◌, ◌++◌, IfOk, OnOk};
+ghost use Rattle.std.specs.Option.{option_copied};
+ghost use Rattle.edit_sums.specs.Sums.{shown};
+ghost use Rattle.fragment_choice.specs.Resolutions.{main};
+ghost use Rattle.script_commands.specs.Outcomes.{IsSaid};
+ghost use Rattle.script_answers.specs.Files.{AreFiles, IsCat, IsFile, IsFileAt, TellsFiles, entry_lines, file_bytes, file_lines, lent_text};
+
+use dropins::UnitFolders;
+use edit_sums::Content;
+use fragment_choice::{Choice, Resolution, names_of, resolve};
+use load_path::Path;
+use replica_store::{Placed, Store};
+use script_commands::{Fault, Refusal};
+use std::alloc::{AllocError, Global};
+use unit_name::UnitName;
+
+// The bytes of a content that is a file.
+fn bytes_of<'a>(content: Option<&'a Content>) -> &'a [u8]
+    requires file { IsFile (option_copied content) }
+    ensures bytes { result.now ≡ file_bytes (option_copied content.entry) }
+{
+    match content {
+        Some(Content::File(file)) => file.bytes(),
+        _ => unreachable!(),
+    }
+}
+
+// Appends a file: its path behind `# `, and its bytes, with a line feed added if the last of them
+// is none.
+fn append_file(out: &mut Vec<u8>, path: &Path, bytes: &[u8]) -> Result<(), AllocError>
+    ensures appended { OnOk result (out.new.items ≡ out.old.items ++ file_lines path.now bytes.now) }
+{
+    out.extend_from_slice(b"# ")?;
+    path.append_to(out)?;
+    out.push(b'\n')?;
+    out.extend_from_slice(bytes)?;
+    if bytes.last() != Some(&b'\n') {
+        out.push(b'\n')?;
+    }
+    Ok(())
+}
+
+// The same of an entry that is a file.
+fn append_entry(out: &mut Vec<u8>, placed: &Placed) -> Result<(), AllocError>
+    requires file { IsFile (shown placed.now.1) }
+    ensures appended { OnOk result (out.new.items ≡ out.old.items ++ entry_lines placed.now) }
+{
+    append_file(out, &placed.path()?, bytes_of(placed.visible()))
+}
+
+// The files of a unit: its fragment, and then its drop-ins. Linear in what is written, and a
+// search in the store for the fragment.
+fn files_text(
+    alloc: Global,
+    store: &Store,
+    fragment: &Path,
+    dropins: &[Placed],
+) -> Result<Vec<u8>, AllocError>
+    requires file { IsFileAt store.now fragment.now }
+    requires files { AreFiles dropins.now }
+    ensures lines { IfOk result (λ text. text.items ≡ lent_text store.now fragment.now dropins.now) }
+{
+    let mut out = Vec::new(alloc);
+    append_file(&mut out, fragment, bytes_of(store.visible(fragment)))?;
+    for placed in dropins {
+        append_entry(&mut out, placed)?;
+    }
+    out.extend_from_slice(b"end\n")?;
+    Ok(out)
+}
+
+// The files of the unit of this main name, whose fragment is at this path.
+fn files_of_unit(
+    alloc: Global,
+    store: &Store,
+    unit: &UnitName,
+    fragment: &Path,
+) -> Result<Vec<u8>, AllocError>
+    requires main { main store.now unit.now ≡ unit.now }
+    requires file { IsFileAt store.now fragment.now }
+    ensures files { IfOk result (λ text. IsCat store.now unit.now fragment.now text.items) }
+{
+    let names = names_of(alloc, store, unit)?;
+    let folders = UnitFolders::of(alloc, &names)?;
+    let dropins = folders.drop_ins(alloc, store)?;
+    files_text(alloc, store, fragment, &dropins)
+}
+
+/// Tells the files of the unit that a word names: its fragment, and then its drop-ins. Refused are a word that is no
+/// unit name, and a unit that isn't found, is masked or is bad, which is told by its main name.
+///
+/// It loads this unit alone; linear in what is told, beside the search for the unit's names.
+pub fn tell_files(alloc: Global, store: &Store, unit: &[u8]) -> Result<Vec<u8>, Fault>
+    ensures told { IsSaid (λ text. text.items) result (TellsFiles unit.now store.now) }
+{
+    let name = match UnitName::parse(alloc, unit) {
+        Ok(name) => name,
+        Err(fault) => return Err(Fault::from(fault)),
+    };
+    let Resolution { main, choice } = resolve(alloc, store, &name)?;
+    match choice {
+        Choice::NotFound => Err(Fault::Refused(Refusal::NotFound(main))),
+        Choice::Masked => Err(Fault::Refused(Refusal::Masked(main))),
+        Choice::Fragment(path) => Ok(files_of_unit(alloc, store, &main, &path)?),
+        Choice::Alias(_) => unreachable!(),
+        Choice::Bad(_) => Err(Fault::Refused(Refusal::Bad(main))),
+    }
+}

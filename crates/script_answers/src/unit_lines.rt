@@ -1,0 +1,182 @@
+//! How a unit is written.
+ghost use Rattle.std.specs.Prelude.{◌≡◌, ◌++◌, IfOk, OnOk};
+ghost use Rattle.std.specs.List.{flat_map};
+ghost use Rattle.script_answers.specs.UnitLines.{cause_text, dropin_line, head_text, kind_line, note_line, row_line, status_text, unit_text};
+
+use crate::names::append_names;
+use fleet_answers::LinkedUnit;
+use fragment_choice::Cause;
+use load_path::Path;
+use setting_rules::{DependencyList, Row};
+use std::alloc::{AllocError, Global};
+use std::fmt::Write;
+use unit_loads::{Status, Unit, UnitNote};
+use unit_name::UnitName;
+
+// The code and the name of a cause.
+fn cause_text(cause: Cause) -> &'static [u8]
+    ensures text { result.now ≡ cause_text cause }
+{
+    match cause {
+        Cause::Kind => b"B1 Kind",
+        Cause::Shape => b"B2 Shape",
+        Cause::Loop => b"B3 Loop",
+        Cause::Target => b"B4 Target",
+    }
+}
+
+// Appends what stands for a unit.
+fn append_status(out: &mut Vec<u8>, status: &Status) -> Result<(), AllocError>
+    ensures appended { OnOk result (out.new.items ≡ out.old.items ++ status_text status.now) }
+{
+    match status {
+        Status::Loaded(path) => {
+            out.extend_from_slice(b"loaded ")?;
+            path.append_to(out)
+        }
+        Status::NotFound => out.extend_from_slice(b"not-found"),
+        Status::Masked => out.extend_from_slice(b"masked"),
+        Status::Bad(cause) => {
+            out.extend_from_slice(b"bad ")?;
+            out.extend_from_slice(cause_text(*cause))
+        }
+    }
+}
+
+// Appends a line for each drop-in.
+fn append_dropins(out: &mut Vec<u8>, dropins: &[Path]) -> Result<(), AllocError>
+    ensures appended { OnOk result (out.new.items ≡ out.old.items ++ flat_map dropin_line dropins.now) }
+{
+    for dropin in dropins {
+        append_dropin(out, dropin)?;
+    }
+    Ok(())
+}
+
+// Appends the line of a drop-in.
+fn append_dropin(out: &mut Vec<u8>, dropin: &Path) -> Result<(), AllocError>
+    ensures appended { OnOk result (out.new.items ≡ out.old.items ++ dropin_line dropin.now) }
+{
+    out.extend_from_slice(b"dropin ")?;
+    dropin.append_to(out)?;
+    out.push(b'\n')?;
+    Ok(())
+}
+
+// Appends a line for each value.
+fn append_rows(out: &mut Vec<u8>, rows: &[Row]) -> Result<(), AllocError>
+    ensures appended { OnOk result (out.new.items ≡ out.old.items ++ flat_map row_line rows.now) }
+{
+    for row in rows {
+        append_row(out, row)?;
+    }
+    Ok(())
+}
+
+// Appends the line of a value.
+fn append_row(out: &mut Vec<u8>, row: &Row) -> Result<(), AllocError>
+    ensures appended { OnOk result (out.new.items ≡ out.old.items ++ row_line row.now) }
+{
+    out.extend_from_slice(row.section.as_slice())?;
+    out.push(b'.')?;
+    out.extend_from_slice(row.key.as_slice())?;
+    out.push(b'=')?;
+    out.extend_from_slice(row.value.as_slice())?;
+    out.push(b'\n')?;
+    Ok(())
+}
+
+// Appends a line for each kind by which a unit has edges.
+fn append_kinds(out: &mut Vec<u8>, lists: &[DependencyList]) -> Result<(), AllocError>
+    ensures appended { OnOk result (out.new.items ≡ out.old.items ++ flat_map kind_line lists.now) }
+{
+    for list in lists {
+        append_kind(out, list)?;
+    }
+    Ok(())
+}
+
+// Appends the line of a kind, if there are names.
+fn append_kind(out: &mut Vec<u8>, list: &DependencyList) -> Result<(), AllocError>
+    ensures appended { OnOk result (out.new.items ≡ out.old.items ++ kind_line list.now) }
+{
+    let names = list.names.as_slice();
+    if names.is_empty() {
+        return Ok(());
+    }
+    out.extend_from_slice(list.kind.word().as_bytes())?;
+    out.push(b':')?;
+    append_names(out, names)?;
+    out.push(b'\n')?;
+    Ok(())
+}
+
+// Appends a line for each note. The scratch is room for numbers.
+fn append_notes(
+    out: &mut Vec<u8>,
+    scratch: &mut String,
+    notes: &[UnitNote],
+) -> Result<(), AllocError>
+    ensures appended { OnOk result (out.new.items ≡ out.old.items ++ flat_map note_line notes.now) }
+{
+    for note in notes {
+        append_note(out, scratch, note)?;
+    }
+    Ok(())
+}
+
+// Appends the line of a note. The scratch is room for a number.
+fn append_note(out: &mut Vec<u8>, scratch: &mut String, note: &UnitNote) -> Result<(), AllocError>
+    ensures appended { OnOk result (out.new.items ≡ out.old.items ++ note_line note.now) }
+{
+    out.extend_from_slice(b"note ")?;
+    match note {
+        UnitNote::File(path, note) => {
+            let line = note.line;
+            out.extend_from_slice(note.kind.code().as_bytes())?;
+            out.push(b' ')?;
+            path.append_to(out)?;
+            scratch.clear();
+            write!(scratch, ":{line}\n")?;
+            out.extend_from_slice(scratch.as_bytes())
+        }
+        UnitNote::Setting(note) => {
+            out.extend_from_slice(note.kind.code().as_bytes())?;
+            out.push(b' ')?;
+            out.extend_from_slice(note.section.as_slice())?;
+            out.push(b'.')?;
+            out.extend_from_slice(note.key.as_slice())?;
+            out.push(b'\n')?;
+            Ok(())
+        }
+    }
+}
+
+/// All that is told of a unit with its edges. Linear in what is written.
+pub(crate) fn unit_text(alloc: Global, linked: &LinkedUnit) -> Result<Vec<u8>, AllocError>
+    ensures text { IfOk result (λ text. text.items ≡ unit_text linked.now) }
+{
+    let unit = &linked.unit;
+    let mut out = Vec::from_slice(alloc, b"unit ")?;
+    append_head(&mut out, unit)?;
+    append_dropins(&mut out, unit.dropins.as_slice())?;
+    append_rows(&mut out, unit.values.as_slice())?;
+    append_kinds(&mut out, linked.edges.as_slice())?;
+    let mut scratch = String::new(alloc);
+    append_notes(&mut out, &mut scratch, unit.notes.as_slice())?;
+    out.extend_from_slice(b"end\n")?;
+    Ok(out)
+}
+
+// Appends a unit's main name, what stands for it, and all its names.
+fn append_head(out: &mut Vec<u8>, unit: &Unit) -> Result<(), AllocError>
+    ensures appended { OnOk result (out.new.items ≡ out.old.items ++ head_text unit.now) }
+{
+    out.extend_from_slice(unit.name.bytes())?;
+    out.extend_from_slice(b"\nstatus ")?;
+    append_status(out, &unit.status)?;
+    out.extend_from_slice(b"\nnames")?;
+    append_names(out, unit.names.as_slice())?;
+    out.push(b'\n')?;
+    Ok(())
+}

@@ -1,8 +1,0 @@
-use Rattle.std.proofs.Common.{◌≡◌, ◌++◌, take}
-use Rattle.std.specs.List.{flat_map}
-use Rattle.edit_sums.specs.Sums.{visible_at}
-use Rattle.unit_answers.specs.Units.{entry_lines, file_bytes, file_lines}
-use Rattle.unit_answers.proofs.files.files_text.Given as goal
-
-abbrev pub invariant-loop-placed : goal.invariant-loop-placed
-invariant-loop-placed l = l.out.items ≡ file_lines l.fragment (file_bytes (visible_at l.store l.fragment)) ++ flat_map entry_lines (take l.placed-index l.dropins)

@@ -1,2 +1,0 @@
-pub mod UnitLaws
-pub mod Units
