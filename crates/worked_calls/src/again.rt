@@ -3,7 +3,7 @@
 //! The answer is that of the call where nothing is refused. Where something was, what stood between the two calls comes
 //! behind it, after the words `; refused at`.
 use crate::answer_text::Answer;
-use crate::calls::{CallFault, Words};
+use crate::calls::{CallFault, Words, is};
 use crate::edits::{append_store, store};
 use crate::join_maps::{append_map, map};
 use crate::pieces::{append_parts, append_piece, holder, piece};
@@ -26,15 +26,23 @@ pub fn answer(words: &mut Words, out: &mut Answer) -> Result<(), CallFault> {
 
 // The answer, and what stood between two calls, if there were two.
 fn told(words: &mut Words, out: &mut Answer, between: &mut Answer) -> Result<(), CallFault> {
-    match words.word()? {
-        b"join" => joined(words, out, between),
-        b"absorb" => absorbed(words, out, between),
-        b"merge" => merged(words, out, between),
-        b"take" => taken(words, out, between),
-        b"split" => split(words, out, between),
-        b"exchange" => exchanged(words, out, between),
-        b"sweep" => swept(words, out, between),
-        _ => Err(CallFault::Line),
+    let call = words.word()?;
+    if is(call, b"join") {
+        joined(words, out, between)
+    } else if is(call, b"absorb") {
+        absorbed(words, out, between)
+    } else if is(call, b"merge") {
+        merged(words, out, between)
+    } else if is(call, b"take") {
+        taken(words, out, between)
+    } else if is(call, b"split") {
+        split(words, out, between)
+    } else if is(call, b"exchange") {
+        exchanged(words, out, between)
+    } else if is(call, b"sweep") {
+        swept(words, out, between)
+    } else {
+        Err(CallFault::Line)
     }
 }
 

@@ -118,11 +118,7 @@ impl<'a> Words<'a> {
     pub fn listed(&mut self) -> Option<&'a [u8]> {
         let (word, rest) = cut_word(self.rest)?;
         self.rest = rest;
-        if word == b"+".as_slice() {
-            None
-        } else {
-            Some(word)
-        }
+        if is(word, b"+") { None } else { Some(word) }
     }
 
     /// What the next word spells.
@@ -154,9 +150,14 @@ impl<'a> Words<'a> {
     }
 }
 
+/// Whether a word is this one. Calls are told apart by it: a `match` on byte strings costs three times as much proof.
+pub fn is(word: &[u8], other: &[u8]) -> bool {
+    word == other
+}
+
 /// What a word spells.
 pub fn text_of(alloc: Global, word: &[u8]) -> Result<Vec<u8>, CallFault> {
-    if word == b"''".as_slice() {
+    if is(word, b"''") {
         return Ok(Vec::new(alloc));
     }
     unescape(alloc, word)?.ok_or(CallFault::Line)
@@ -201,7 +202,7 @@ pub fn cut_at(word: &[u8], byte: u8) -> Option<(&[u8], &[u8])> {
 /// The parts of a word that commas part; an empty word and `none` have none.
 pub fn parts_of(alloc: Global, word: &[u8]) -> Result<Vec<&[u8]>, CallFault> {
     let mut parts = Vec::new(alloc);
-    if word.is_empty() || word == b"none".as_slice() {
+    if word.is_empty() || is(word, b"none") {
         return Ok(parts);
     }
     for part in word.split(|b| *b == b',') {

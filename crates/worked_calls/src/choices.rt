@@ -1,6 +1,6 @@
 //! Calls on what stands for a unit: the store in words, `+`, and the unit's name, or the names of several.
 use crate::answer_text::Answer;
-use crate::calls::{CallFault, Words};
+use crate::calls::{CallFault, Words, is};
 use crate::edits::store;
 use crate::name_lists::{append_names, names};
 use fragment_choice::{AliasIndex, Choice, Resolution, choose, names_of, resolve};
@@ -12,15 +12,28 @@ use unit_name::UnitName;
 pub fn answer(words: &mut Words, out: &mut Answer) -> Result<(), CallFault> {
     let call = words.word()?;
     let store = store(words)?;
-    if call == b"index".as_slice() {
+    if is(call, b"index") {
         return append_indexed(words.alloc, out, &store, &names(words)?);
     }
-    let name = words.name()?;
-    match call {
-        b"choose" => append_choice(out, &choose(words.alloc, &store, &name)?),
-        b"resolve" => append_resolution(out, &resolve(words.alloc, &store, &name)?),
-        b"names" => append_names_of(words.alloc, out, &store, &name),
-        _ => Err(CallFault::Line),
+    told(call, words.alloc, &store, &words.name()?, out)
+}
+
+// What a call answers of one name in a store.
+fn told(
+    call: &[u8],
+    alloc: Global,
+    store: &Store,
+    name: &UnitName,
+    out: &mut Answer,
+) -> Result<(), CallFault> {
+    if is(call, b"choose") {
+        append_choice(out, &choose(alloc, store, name)?)
+    } else if is(call, b"resolve") {
+        append_resolution(out, &resolve(alloc, store, name)?)
+    } else if is(call, b"names") {
+        append_names_of(alloc, out, store, name)
+    } else {
+        Err(CallFault::Line)
     }
 }
 

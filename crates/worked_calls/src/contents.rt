@@ -1,18 +1,24 @@
 //! Calls on contents, and on edits that are copied.
 use crate::answer_text::Answer;
-use crate::calls::{CallFault, Words};
+use crate::calls::{CallFault, Words, is};
 use crate::edits::{append_content, append_edit, edit_of};
 use replica_store::{Content, ContentFault};
 
 /// Writes what a call on contents answers.
 pub fn answer(words: &mut Words, out: &mut Answer) -> Result<(), CallFault> {
-    match words.word()? {
-        b"file" => made(out, Content::file(words.text()?)),
-        b"link" => made(out, Content::link(words.text()?)),
-        b"filled_file" => counted(out, Content::file(filled(words)?)),
-        b"filled_link" => counted(out, Content::link(filled(words)?)),
-        b"copy" => append_edit(out, &edit_of(words.alloc, words.word()?)?.try_clone()?),
-        _ => Err(CallFault::Line),
+    let call = words.word()?;
+    if is(call, b"file") {
+        made(out, Content::file(words.text()?))
+    } else if is(call, b"link") {
+        made(out, Content::link(words.text()?))
+    } else if is(call, b"filled_file") {
+        counted(out, Content::file(filled(words)?))
+    } else if is(call, b"filled_link") {
+        counted(out, Content::link(filled(words)?))
+    } else if is(call, b"copy") {
+        append_edit(out, &edit_of(words.alloc, words.word()?)?.try_clone()?)
+    } else {
+        Err(CallFault::Line)
     }
 }
 

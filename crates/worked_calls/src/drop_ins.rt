@@ -1,6 +1,6 @@
 //! Calls on the folders, the drop-ins and the link folders of units: the store in words, `+`, and the unit's names.
 use crate::answer_text::Answer;
-use crate::calls::{CallFault, Words};
+use crate::calls::{CallFault, Words, is};
 use crate::edits::{append_paths, append_placed, store};
 use crate::name_lists::{append_names, names};
 use dropins::{Folder, UnitFolders, folders, links, order};
@@ -10,23 +10,38 @@ use unit_name::UnitName;
 
 /// Writes what a call on drop-ins answers.
 pub fn answer(words: &mut Words, out: &mut Answer) -> Result<(), CallFault> {
-    match words.word()? {
-        b"folders" => append_names(out, &folders(words.alloc, &names(words)?)?),
-        call => told(call, words, out),
+    let call = words.word()?;
+    if is(call, b"folders") {
+        append_names(out, &folders(words.alloc, &names(words)?)?)
+    } else {
+        told(call, words, out)
     }
 }
 
-// What a call answers of the unit that has these names in a store.
+// What a call answers of a unit, the store and the unit's names being the words left.
 fn told(call: &[u8], words: &mut Words, out: &mut Answer) -> Result<(), CallFault> {
     let store = store(words)?;
-    let names = names(words)?;
-    let alloc = words.alloc;
-    match call {
-        b"order" => append_paths(out, &order(alloc, &store, &names)?),
-        b"lend" => append_lent(alloc, out, &store, &names),
-        b"wants" => append_names(out, &links(alloc, &store, &names, Folder::Wants)?),
-        b"requires" => append_names(out, &links(alloc, &store, &names, Folder::Requires)?),
-        _ => Err(CallFault::Line),
+    told_of(call, words.alloc, &store, &names(words)?, out)
+}
+
+// What a call answers of the unit that has these names in a store.
+fn told_of(
+    call: &[u8],
+    alloc: Global,
+    store: &Store,
+    names: &[UnitName],
+    out: &mut Answer,
+) -> Result<(), CallFault> {
+    if is(call, b"order") {
+        append_paths(out, &order(alloc, store, names)?)
+    } else if is(call, b"lend") {
+        append_lent(alloc, out, store, names)
+    } else if is(call, b"wants") {
+        append_names(out, &links(alloc, store, names, Folder::Wants)?)
+    } else if is(call, b"requires") {
+        append_names(out, &links(alloc, store, names, Folder::Requires)?)
+    } else {
+        Err(CallFault::Line)
     }
 }
 

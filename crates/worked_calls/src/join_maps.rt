@@ -4,7 +4,7 @@
 //! A map is written as its pairs, `KEY:VERSION=NUMBER`, parted by commas; `none` has no pair. In a map of maps of
 //! maps a key is three numbers, parted by slashes.
 use crate::answer_text::Answer;
-use crate::calls::{CallFault, Words, byte_of, cut_at, parts_of};
+use crate::calls::{CallFault, Words, byte_of, cut_at, is, parts_of};
 use crate::joins::{append_value, joined, versioned};
 use join_law::{Join, JoinMap, Versioned};
 
@@ -15,10 +15,13 @@ type Tree = JoinMap<u8, JoinMap<u8, Numbers>>;
 
 /// Writes what a call on maps of joins answers.
 pub fn answer(words: &mut Words, out: &mut Answer) -> Result<(), CallFault> {
-    match words.word()? {
-        b"deep" => joined_trees(words, out),
-        b"last" => last(words, out),
-        call => told(call, &map(words)?, words, out),
+    let call = words.word()?;
+    if is(call, b"deep") {
+        joined_trees(words, out)
+    } else if is(call, b"last") {
+        last(words, out)
+    } else {
+        told(call, &map(words)?, words, out)
     }
 }
 
@@ -29,12 +32,16 @@ fn told(
     words: &mut Words,
     out: &mut Answer,
 ) -> Result<(), CallFault> {
-    match call {
-        b"join" => append_joined(out, first, &map(words)?),
-        b"at" => joined_at(first, words, out),
-        b"keys" => append_keys(out, first),
-        b"get" => found(first, words, out),
-        _ => Err(CallFault::Line),
+    if is(call, b"join") {
+        append_joined(out, first, &map(words)?)
+    } else if is(call, b"at") {
+        joined_at(first, words, out)
+    } else if is(call, b"keys") {
+        append_keys(out, first)
+    } else if is(call, b"get") {
+        found(first, words, out)
+    } else {
+        Err(CallFault::Line)
     }
 }
 

@@ -1,23 +1,27 @@
 //! Calls on the joins of contents with versions: numbers below 256 with versions, or nothing yet.
 use crate::answer_text::Answer;
-use crate::calls::{CallFault, Words, byte_of, cut_at};
+use crate::calls::{CallFault, Words, byte_of, cut_at, is};
 use crate::edits::{append_version, version_of};
 use join_law::{Entry, Join, Key, Versioned};
 use std::cmp::Ordering;
 
 /// Writes what a call on joins answers.
 pub fn answer(words: &mut Words, out: &mut Answer) -> Result<(), CallFault> {
-    match words.word()? {
-        b"join" => append_compared(out, &versioned(words.word()?)?, &versioned(words.word()?)?),
-        b"bottom" => out.either(versioned(words.word()?)?.is_bottom(), b"yes", b"no"),
-        b"copy_key" => out.print(&Key::try_clone(&byte_of(words.word()?)?)?),
-        _ => Err(CallFault::Line),
+    let call = words.word()?;
+    if is(call, b"join") {
+        append_compared(out, &versioned(words.word()?)?, &versioned(words.word()?)?)
+    } else if is(call, b"bottom") {
+        out.either(versioned(words.word()?)?.is_bottom(), b"yes", b"no")
+    } else if is(call, b"copy_key") {
+        out.print(&Key::try_clone(&byte_of(words.word()?)?)?)
+    } else {
+        Err(CallFault::Line)
     }
 }
 
 /// A word as `never` or as a version and a number.
 pub fn versioned(word: &[u8]) -> Result<Versioned<u8>, CallFault> {
-    if word == b"never".as_slice() {
+    if is(word, b"never") {
         return Ok(Versioned::Never);
     }
     let (version, content) = cut_at(word, b'=').ok_or(CallFault::Line)?;

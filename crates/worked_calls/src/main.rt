@@ -30,7 +30,7 @@ mod stores;
 mod worlds;
 
 use answer_text::Answer;
-use calls::{CallFault, Words};
+use calls::{CallFault, Words, is};
 use script_pipes::{Watched, read_all, write_all};
 use script_words::{cut_line, cut_word, is_passed_over};
 use std::alloc::{AllocError, Global};
@@ -39,24 +39,40 @@ use std::process::ExitCode;
 
 // Writes what a call answers.
 fn answer(subject: &[u8], words: &mut Words, out: &mut Answer) -> Result<(), CallFault> {
-    match subject {
-        b"again" => again::answer(words, out),
-        b"path" => paths::answer(words, out),
-        b"name" => names::answer(words, out),
-        b"section" => sections::answer(words, out),
-        b"setting" => settings::answer(words, out),
-        b"script" => script_lines::answer(words, out),
-        b"version" => joins::answer(words, out),
-        b"map" => join_maps::answer(words, out),
-        b"content" => contents::answer(words, out),
-        b"store" => stores::answer(words, out),
-        b"replica" => replicas::answer(words, out),
-        b"piece" => pieces::answer(words, out),
-        b"digest" => pieces::answer_digest(words, out),
-        b"world" => worlds::answer(words, out),
-        b"fragment" => choices::answer(words, out),
-        b"dropins" => drop_ins::answer(words, out),
-        _ => Err(CallFault::Line),
+    if is(subject, b"again") {
+        again::answer(words, out)
+    } else if is(subject, b"path") {
+        paths::answer(words, out)
+    } else if is(subject, b"name") {
+        names::answer(words, out)
+    } else if is(subject, b"section") {
+        sections::answer(words, out)
+    } else if is(subject, b"setting") {
+        settings::answer(words, out)
+    } else if is(subject, b"script") {
+        script_lines::answer(words, out)
+    } else if is(subject, b"version") {
+        joins::answer(words, out)
+    } else if is(subject, b"map") {
+        join_maps::answer(words, out)
+    } else if is(subject, b"content") {
+        contents::answer(words, out)
+    } else if is(subject, b"store") {
+        stores::answer(words, out)
+    } else if is(subject, b"replica") {
+        replicas::answer(words, out)
+    } else if is(subject, b"piece") {
+        pieces::answer(words, out)
+    } else if is(subject, b"digest") {
+        pieces::answer_digest(words, out)
+    } else if is(subject, b"world") {
+        worlds::answer(words, out)
+    } else if is(subject, b"fragment") {
+        choices::answer(words, out)
+    } else if is(subject, b"dropins") {
+        drop_ins::answer(words, out)
+    } else {
+        Err(CallFault::Line)
     }
 }
 

@@ -1,6 +1,6 @@
 //! Calls on unit names, escapes and specifiers.
 use crate::answer_text::Answer;
-use crate::calls::{CallFault, Words};
+use crate::calls::{CallFault, Words, is};
 use crate::name_lists::names;
 use crate::orders::append_signs;
 use unit_name::{ExpandFault, NameFault, UnitName, escape, expand, unescape};
@@ -8,19 +8,23 @@ use unit_name::{ExpandFault, NameFault, UnitName, escape, expand, unescape};
 /// Writes what a call on names answers.
 pub fn answer(words: &mut Words, out: &mut Answer) -> Result<(), CallFault> {
     let call = words.word()?;
-    match call {
-        b"order" => append_signs(out, &names(words)?),
-        b"parse" | b"escape" | b"unescape" => of_text(call, &words.text()?, out),
-        _ => of_name(call, &words.name()?, words, out),
+    if is(call, b"order") {
+        append_signs(out, &names(words)?)
+    } else if is(call, b"parse") || is(call, b"escape") || is(call, b"unescape") {
+        of_text(call, &words.text()?, out)
+    } else {
+        of_name(call, &words.name()?, words, out)
     }
 }
 
 // What a call answers of a text.
 fn of_text(call: &[u8], text: &[u8], out: &mut Answer) -> Result<(), CallFault> {
-    match call {
-        b"parse" => parse(text, out),
-        b"escape" => out.spell(&escape(out.alloc, text)?),
-        _ => out.spell_found(unescape(out.alloc, text)?),
+    if is(call, b"parse") {
+        parse(text, out)
+    } else if is(call, b"escape") {
+        out.spell(&escape(out.alloc, text)?)
+    } else {
+        out.spell_found(unescape(out.alloc, text)?)
     }
 }
 
@@ -31,13 +35,18 @@ fn of_name(
     words: &mut Words,
     out: &mut Answer,
 ) -> Result<(), CallFault> {
-    match call {
-        b"parts" => append_parts(out, name),
-        b"template_of" => out.spell_name(name.template_of()?),
-        b"with_instance" => with_instance(name, words, out),
-        b"clone" => append_clone(out, name),
-        b"expand" => expanded(name, words, out),
-        _ => Err(CallFault::Line),
+    if is(call, b"parts") {
+        append_parts(out, name)
+    } else if is(call, b"template_of") {
+        out.spell_name(name.template_of()?)
+    } else if is(call, b"with_instance") {
+        with_instance(name, words, out)
+    } else if is(call, b"clone") {
+        append_clone(out, name)
+    } else if is(call, b"expand") {
+        expanded(name, words, out)
+    } else {
+        Err(CallFault::Line)
     }
 }
 

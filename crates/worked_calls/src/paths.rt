@@ -1,28 +1,36 @@
 //! Calls on paths of the load path, written in full, and on byte strings.
 use crate::answer_text::Answer;
-use crate::calls::{CallFault, Words};
+use crate::calls::{CallFault, Words, is};
 use crate::orders::append_signs;
 use byte_strings::Bytes;
 use load_path::{Path, PathFault};
 
 /// Writes what a call on paths answers.
 pub fn answer(words: &mut Words, out: &mut Answer) -> Result<(), CallFault> {
-    match words.word()? {
-        b"parse" => parse(words, out),
-        b"order" => append_signs(out, &full_paths(words)?),
-        b"bytes" => bytes(words, out),
-        b"bytes_order" => append_signs(out, &all_bytes(words)?),
-        call => of_path(call, &full_path(words)?, out),
+    let call = words.word()?;
+    if is(call, b"parse") {
+        parse(words, out)
+    } else if is(call, b"order") {
+        append_signs(out, &full_paths(words)?)
+    } else if is(call, b"bytes") {
+        bytes(words, out)
+    } else if is(call, b"bytes_order") {
+        append_signs(out, &all_bytes(words)?)
+    } else {
+        of_path(call, &full_path(words)?, out)
     }
 }
 
 // What a call answers of one path.
 fn of_path(call: &[u8], path: &Path, out: &mut Answer) -> Result<(), CallFault> {
-    match call {
-        b"parts" => append_parts(out, path),
-        b"text" => append_text(out, path),
-        b"clone" => append_clone(out, path),
-        _ => Err(CallFault::Line),
+    if is(call, b"parts") {
+        append_parts(out, path)
+    } else if is(call, b"text") {
+        append_text(out, path)
+    } else if is(call, b"clone") {
+        append_clone(out, path)
+    } else {
+        Err(CallFault::Line)
     }
 }
 

@@ -1,6 +1,6 @@
 //! Calls on digests and pieces.
 use crate::answer_text::Answer;
-use crate::calls::{CallFault, Words};
+use crate::calls::{CallFault, Words, is};
 use crate::edits::{append_store, append_version, edits, paths};
 use crate::stores::append_changed;
 use delta_pieces::{Digest, Piece, delta_at, delta_between, delta_for, digest, digest_at, take};
@@ -8,27 +8,41 @@ use replica_store::Replica;
 
 /// Writes what a call on pieces answers.
 pub fn answer(words: &mut Words, out: &mut Answer) -> Result<(), CallFault> {
-    match words.word()? {
-        b"of" => append_piece(out, &piece(words)?),
-        b"copy" => append_piece(out, &piece(words)?.try_clone()?),
-        b"split" => split(words, out),
-        b"only" => only(words, out),
-        b"delta" => delta(words, out),
-        b"delta_at" => delta_at_some(words, out),
-        b"between" => between(words, out),
-        b"take" => taken(words, out),
-        _ => Err(CallFault::Line),
+    let call = words.word()?;
+    if is(call, b"of") {
+        append_piece(out, &piece(words)?)
+    } else if is(call, b"copy") {
+        append_piece(out, &piece(words)?.try_clone()?)
+    } else if is(call, b"split") {
+        split(words, out)
+    } else if is(call, b"only") {
+        only(words, out)
+    } else if is(call, b"delta") {
+        delta(words, out)
+    } else if is(call, b"delta_at") {
+        delta_at_some(words, out)
+    } else if is(call, b"between") {
+        between(words, out)
+    } else if is(call, b"take") {
+        taken(words, out)
+    } else {
+        Err(CallFault::Line)
     }
 }
 
 /// Writes what a call on digests answers.
 pub fn answer_digest(words: &mut Words, out: &mut Answer) -> Result<(), CallFault> {
-    match words.word()? {
-        b"of" => append_digest(out, &asked(words)?),
-        b"copy" => append_digest(out, &asked(words)?.try_clone()?),
-        b"at" => versions_at(words, out),
-        b"get" => version_at(words, out),
-        _ => Err(CallFault::Line),
+    let call = words.word()?;
+    if is(call, b"of") {
+        append_digest(out, &asked(words)?)
+    } else if is(call, b"copy") {
+        append_digest(out, &asked(words)?.try_clone()?)
+    } else if is(call, b"at") {
+        versions_at(words, out)
+    } else if is(call, b"get") {
+        version_at(words, out)
+    } else {
+        Err(CallFault::Line)
     }
 }
 

@@ -1,6 +1,6 @@
 //! Calls on replicas.
 use crate::answer_text::Answer;
-use crate::calls::{CallFault, Words, writer_of};
+use crate::calls::{CallFault, Words, is, writer_of};
 use crate::edits::{append_store, append_version, placed_of, store};
 use crate::stores::append_changed;
 use replica_store::{EditFault, Replica, Version};
@@ -9,14 +9,20 @@ use replica_store::{EditFault, Replica, Version};
 pub fn answer(words: &mut Words, out: &mut Answer) -> Result<(), CallFault> {
     let call = words.word()?;
     let writer = writer_of(words.word()?)?;
-    match call {
-        b"of" => append_whole(out, replica(writer, words)?),
-        b"copy" => append_whole(out, replica(writer, words)?.try_clone()?),
-        b"put" => put(writer, words, out),
-        b"remove" => removed(writer, words, out),
-        b"merge" => merged(writer, words, out),
-        b"absorb" => absorbed(writer, words, out),
-        _ => Err(CallFault::Line),
+    if is(call, b"of") {
+        append_whole(out, replica(writer, words)?)
+    } else if is(call, b"copy") {
+        append_whole(out, replica(writer, words)?.try_clone()?)
+    } else if is(call, b"put") {
+        put(writer, words, out)
+    } else if is(call, b"remove") {
+        removed(writer, words, out)
+    } else if is(call, b"merge") {
+        merged(writer, words, out)
+    } else if is(call, b"absorb") {
+        absorbed(writer, words, out)
+    } else {
+        Err(CallFault::Line)
     }
 }
 

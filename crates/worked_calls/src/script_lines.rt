@@ -1,28 +1,36 @@
 //! Calls on the lines of scripts and their words.
 use crate::answer_text::Answer;
-use crate::calls::{CallFault, Words};
+use crate::calls::{CallFault, Words, is};
 use script_words::{
     cut_line, cut_word, is_name, is_passed_over, parse_number, text_of_rest, unescape,
 };
 
 /// Writes what a call on lines answers.
 pub fn answer(words: &mut Words, out: &mut Answer) -> Result<(), CallFault> {
-    match words.word()? {
-        b"text_behind" => text_behind(words, out),
-        call => told(call, &words.text()?, out),
+    let call = words.word()?;
+    if is(call, b"text_behind") {
+        text_behind(words, out)
+    } else {
+        told(call, &words.text()?, out)
     }
 }
 
 // What a call answers of a text.
 fn told(call: &[u8], text: &[u8], out: &mut Answer) -> Result<(), CallFault> {
-    match call {
-        b"lines" => lines(text, out),
-        b"passed_over" => out.either(is_passed_over(text), b"yes", b"no"),
-        b"words" => parts(text, out),
-        b"number" => number(text, out),
-        b"name" => out.either(is_name(text), b"yes", b"no"),
-        b"text" => out.spell_found(unescape(out.alloc, text)?),
-        _ => Err(CallFault::Line),
+    if is(call, b"lines") {
+        lines(text, out)
+    } else if is(call, b"passed_over") {
+        out.either(is_passed_over(text), b"yes", b"no")
+    } else if is(call, b"words") {
+        parts(text, out)
+    } else if is(call, b"number") {
+        number(text, out)
+    } else if is(call, b"name") {
+        out.either(is_name(text), b"yes", b"no")
+    } else if is(call, b"text") {
+        out.spell_found(unescape(out.alloc, text)?)
+    } else {
+        Err(CallFault::Line)
     }
 }
 

@@ -2,27 +2,33 @@
 //!
 //! An assignment is told as `LINE:SECTION.KEY=VALUE`, and a note as `LINE:` and its words.
 use crate::answer_text::Answer;
-use crate::calls::{CallFault, Words};
+use crate::calls::{CallFault, Words, is};
 use section_reader::{Assignment, Sections, read};
 use std::alloc::{AllocError, Global};
 use std::fmt::Display;
 
 /// Writes what a call on sections answers.
 pub fn answer(words: &mut Words, out: &mut Answer) -> Result<(), CallFault> {
-    match words.word()? {
-        b"long" => long(words, out),
-        b"compare" => compare(words, out),
-        call => told(call, &read_next(words)?, out),
+    let call = words.word()?;
+    if is(call, b"long") {
+        long(words, out)
+    } else if is(call, b"compare") {
+        compare(words, out)
+    } else {
+        told(call, &read_next(words)?, out)
     }
 }
 
 // What a call answers of one file.
 fn told(call: &[u8], sections: &Sections, out: &mut Answer) -> Result<(), CallFault> {
-    match call {
-        b"read" => append_sections(out, sections),
-        b"codes" => append_codes(out, sections),
-        b"clone" => append_clone(out, sections),
-        _ => Err(CallFault::Line),
+    if is(call, b"read") {
+        append_sections(out, sections)
+    } else if is(call, b"codes") {
+        append_codes(out, sections)
+    } else if is(call, b"clone") {
+        append_clone(out, sections)
+    } else {
+        Err(CallFault::Line)
     }
 }
 

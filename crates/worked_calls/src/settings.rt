@@ -3,7 +3,7 @@
 //! A value is told as `SECTION.KEY=VALUE`, a key with its values as `SECTION.KEY=` and these, a list of dependencies as its
 //! kind and `:` and the names, and a note as its code and `SECTION.KEY`.
 use crate::answer_text::Answer;
-use crate::calls::{CallFault, Words};
+use crate::calls::{CallFault, Words, is};
 use crate::name_lists::append_names;
 use crate::sections::read_next;
 use byte_strings::Bytes;
@@ -17,20 +17,25 @@ use unit_name::UnitName;
 /// Writes what a call on settings answers.
 pub fn answer(words: &mut Words, out: &mut Answer) -> Result<(), CallFault> {
     let call = words.word()?;
-    match call {
-        b"kinds" => append_kinds(out),
-        b"key" => told_key(words, out),
-        b"for" => told_name(words, out),
-        b"apply" | b"manual" => of_files(call, &settings(words)?, out),
-        _ => told(call, words, out),
+    if is(call, b"kinds") {
+        append_kinds(out)
+    } else if is(call, b"key") {
+        told_key(words, out)
+    } else if is(call, b"for") {
+        told_name(words, out)
+    } else if is(call, b"apply") || is(call, b"manual") {
+        of_files(call, &settings(words)?, out)
+    } else {
+        told(call, words, out)
     }
 }
 
 // What a call answers of files alone.
 fn of_files(call: &[u8], settings: &Settings, out: &mut Answer) -> Result<(), CallFault> {
-    match call {
-        b"apply" => append_settings(out, settings),
-        _ => out.either(refuses_manual_start(settings), b"refused", b"allowed"),
+    if is(call, b"apply") {
+        append_settings(out, settings)
+    } else {
+        out.either(refuses_manual_start(settings), b"refused", b"allowed")
     }
 }
 
@@ -47,10 +52,12 @@ fn of_unit(
     settings: &Settings,
     out: &mut Answer,
 ) -> Result<(), CallFault> {
-    match call {
-        b"values" => append_values(out, &values(out.alloc, settings, unit)?),
-        b"dependencies" => append_dependencies(out, &dependencies(out.alloc, settings, unit)?),
-        _ => Err(CallFault::Line),
+    if is(call, b"values") {
+        append_values(out, &values(out.alloc, settings, unit)?)
+    } else if is(call, b"dependencies") {
+        append_dependencies(out, &dependencies(out.alloc, settings, unit)?)
+    } else {
+        Err(CallFault::Line)
     }
 }
 

@@ -1,6 +1,6 @@
 //! Calls on stores.
 use crate::answer_text::Answer;
-use crate::calls::{CallFault, Words, byte_of};
+use crate::calls::{CallFault, Words, byte_of, is};
 use crate::edits::{
     append_content, append_entries, append_paths, append_placed, append_store, append_version,
     edit_of, store,
@@ -10,27 +10,39 @@ use replica_store::{Content, Entry, Placed, Store};
 /// Writes what a call on stores answers.
 pub fn answer(words: &mut Words, out: &mut Answer) -> Result<(), CallFault> {
     let call = words.word()?;
-    match call {
-        b"join" => joined(words, out),
-        b"merge" => merged(words, out),
-        b"absorb" => absorbed(words, out),
-        b"get" | b"visible" => at_path(call, words, out),
-        b"entries_in" | b"folder" => in_folder(call, words, out),
-        b"visible_at" | b"placed_at" => at_parts(call, words, out),
-        _ => told(call, &store(words)?, words, out),
+    if is(call, b"join") {
+        joined(words, out)
+    } else if is(call, b"merge") {
+        merged(words, out)
+    } else if is(call, b"absorb") {
+        absorbed(words, out)
+    } else if is(call, b"get") || is(call, b"visible") {
+        at_path(call, words, out)
+    } else if is(call, b"entries_in") || is(call, b"folder") {
+        in_folder(call, words, out)
+    } else if is(call, b"visible_at") || is(call, b"placed_at") {
+        at_parts(call, words, out)
+    } else {
+        told(call, &store(words)?, words, out)
     }
 }
 
 // What a call answers of a whole store, or of two.
 fn told(call: &[u8], first: &Store, words: &mut Words, out: &mut Answer) -> Result<(), CallFault> {
-    match call {
-        b"of" => append_store(out, first),
-        b"copy" => append_store(out, &first.try_clone()?),
-        b"same" => out.either(first.same(&store(words)?), b"yes", b"no"),
-        b"high" => out.print(&first.high()),
-        b"len" => append_sizes(out, first),
-        b"list" => append_paths(out, &first.list()?),
-        _ => Err(CallFault::Line),
+    if is(call, b"of") {
+        append_store(out, first)
+    } else if is(call, b"copy") {
+        append_store(out, &first.try_clone()?)
+    } else if is(call, b"same") {
+        out.either(first.same(&store(words)?), b"yes", b"no")
+    } else if is(call, b"high") {
+        out.print(&first.high())
+    } else if is(call, b"len") {
+        append_sizes(out, first)
+    } else if is(call, b"list") {
+        append_paths(out, &first.list()?)
+    } else {
+        Err(CallFault::Line)
     }
 }
 
@@ -93,7 +105,7 @@ fn append_entry(out: &mut Answer, entry: Option<&Entry>) -> Result<(), CallFault
 fn at_path(call: &[u8], words: &mut Words, out: &mut Answer) -> Result<(), CallFault> {
     let path = words.path()?;
     let store = store(words)?;
-    if call == b"visible".as_slice() {
+    if is(call, b"visible") {
         return append_visible(out, store.visible(&path));
     }
     append_entry(out, store.get(&path))
@@ -104,7 +116,7 @@ fn in_folder(call: &[u8], words: &mut Words, out: &mut Answer) -> Result<(), Cal
     let rank = byte_of(words.word()?)?;
     let folder = words.text()?;
     let store = store(words)?;
-    if call == b"folder".as_slice() {
+    if is(call, b"folder") {
         return append_paths(out, &store.folder(rank, &folder)?);
     }
     append_entries(out, store.entries_in(rank, &folder))
@@ -116,7 +128,7 @@ fn at_parts(call: &[u8], words: &mut Words, out: &mut Answer) -> Result<(), Call
     let folder = words.text()?;
     let name = words.text()?;
     let store = store(words)?;
-    if call == b"visible_at".as_slice() {
+    if is(call, b"visible_at") {
         return append_visible(out, store.visible_at(rank, &folder, &name));
     }
     append_held(out, store.placed_at(rank, &folder, &name))

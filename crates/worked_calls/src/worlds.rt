@@ -3,7 +3,7 @@
 //! An event is a node's number and `!EDIT` for a put, `?` for an ask, `/ASK` for a cut, with `@PATH,PATH` behind it for
 //! a cut at some paths; and a piece's number and `>NODE` for a gift.
 use crate::answer_text::Answer;
-use crate::calls::{CallFault, Words, cut_at, number_of, parts_of, path_of, writer_of};
+use crate::calls::{CallFault, Words, cut_at, is, number_of, parts_of, path_of, writer_of};
 use crate::edits::{append_store, edit_of};
 use crate::replicas::replica;
 use delta_gossip::{Event, Paths, World, exchange, run_world, sweep};
@@ -12,11 +12,15 @@ use std::alloc::Global;
 
 /// Writes what a call on worlds answers.
 pub fn answer(words: &mut Words, out: &mut Answer) -> Result<(), CallFault> {
-    match words.word()? {
-        b"exchange" => exchanged(words, out),
-        b"sweep" => swept(words, out),
-        b"run" => run(words, out),
-        _ => Err(CallFault::Line),
+    let call = words.word()?;
+    if is(call, b"exchange") {
+        exchanged(words, out)
+    } else if is(call, b"sweep") {
+        swept(words, out)
+    } else if is(call, b"run") {
+        run(words, out)
+    } else {
+        Err(CallFault::Line)
     }
 }
 

@@ -1,6 +1,6 @@
 //! What is done at a node.
 use crate::bench::{Bench, store_text};
-use crate::words::{LineFault, Words};
+use crate::words::{LineFault, Words, is};
 use crossbeam_channel::{Receiver, Sender, unbounded};
 use delta_pieces::Piece;
 use join_law::Version;
@@ -18,14 +18,20 @@ pub fn step<N: NodeName, R: Wait>(
     word: &[u8],
     words: &mut Words,
 ) -> Result<bool, LineFault> {
-    let done = match word {
-        b"seat" => take_seat(rt, node, bench),
-        b"edit" => edit(rt, node, bench, words),
-        b"absorb" => absorb(rt, node, bench, words),
-        b"learn" => learn(bench, words),
-        b"view" => view(bench, words),
-        b"serve" => work_inbox(rt, node, bench, words),
-        _ => return Ok(false),
+    let done = if is(word, b"seat") {
+        take_seat(rt, node, bench)
+    } else if is(word, b"edit") {
+        edit(rt, node, bench, words)
+    } else if is(word, b"absorb") {
+        absorb(rt, node, bench, words)
+    } else if is(word, b"learn") {
+        learn(bench, words)
+    } else if is(word, b"view") {
+        view(bench, words)
+    } else if is(word, b"serve") {
+        work_inbox(rt, node, bench, words)
+    } else {
+        return Ok(false)
     };
     done?;
     Ok(true)
