@@ -13,7 +13,7 @@ use Rattle.dropins.specs.declared.precedence.Take.{Take}
 use Rattle.dropins.specs.declared.precedence.Take.TheVariants.{Nothing, Placed}
 use Rattle.dropins.specs.Taken.{Candidate, as_found, candidate_at, IsTaken}
 use Rattle.dropins.specs.Taken.Candidate.{Mask, At}
-use Rattle.load_levels.specs.Levels.{levels}
+use Rattle.load_path.specs.Levels.{levels}
 use Rattle.dropins.specs.Walks.{lent, path, take_at, take_of, taken, taken_in, took, took_in}
 use Rattle.dropins.specs.WalkLaws.{found_iff_taken, found_name, path_or, found_path}
 

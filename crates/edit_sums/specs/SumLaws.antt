@@ -1,5 +1,5 @@
 -- The laws of sums and joins.
-use Rattle.std.proofs.Common.{◌≡◌, true, false, cond, Some, None, List, [], ◌∷◌, ◌++◌, sym, ap, subst, ◌∙◌}
+use Rattle.std.proofs.Common.{◌≡◌, ◌↔◌, true, false, cond, Some, None, List, [], ◌∷◌, ◌++◌, sym, ap, subst, ◌∙◌}
 use Rattle.std.specs.FinMap as finmap
 use Rattle.std.specs.Ordering.{eq_by_cmp}
 use Rattle.std.specs.FinMap.{same_map}
@@ -8,9 +8,9 @@ use Rattle.load_path.specs.Paths.{PathParts, path_cmp}
 use Rattle.load_path.specs.PathLaws.{path_cmp_total, path_cmp-IsAntisymmetric}
 use Rattle.edit_sums.specs.declared.entries.Edit.{Edit}
 use Rattle.edit_sums.specs.Entries.{IsBelow, larger}
-use Rattle.edit_sums.specs.Sums.{EntryMap, entry_of, greatest_at, with_edit, sum_of, edits_of, join, IsStoreBelow, IsSum}
+use Rattle.edit_sums.specs.Sums.{EntryMap, entry_of, greatest_at, with_edit, sum_of, edits_of, join, IsAboveEdits, IsStoreBelow, IsSum}
 use Rattle.edit_sums.specs.EntryLaws.{larger_assoc, larger_comm, larger_idem, larger-None, larger-left, larger-right, larger-least, below_refl, below_trans, below_antisym}
-use Rattle.edit_sums.specs.GreatestLaws.{get-with_edit, get-sum_of, get-join, greatest_at-append, greatest_at-edits_of, greatest_at-mono, greatest_at-above, greatest_at-found}
+use Rattle.edit_sums.specs.GreatestLaws.{get-with_edit, get-sum_of, get-join, greatest_at-append, greatest_at-edits_of, greatest_at-mono, greatest_at-above, greatest_at-found, greatest_at-least}
 
 -- stores that have the same at each path are the same
 pub same_store : (s t : EntryMap) → ((q : PathParts) → finmap.get s q ≡ finmap.get t q) → s ≡ t
@@ -67,6 +67,14 @@ sum_of-IsSum es = record {
   above = λ e a. subst (λ y. IsBelow (Some (entry_of e)) y) (sym (get-sum_of es e.path)) (greatest_at-above e es a);
   found = λ q x h. greatest_at-found q es x (sym (get-sum_of es q) ∙ h);
 }
+
+-- the sum lies below just those stores that are above its edits
+pub sum_of-least : (es : List Edit) (s : EntryMap) → IsStoreBelow (sum_of es) s ↔ IsAboveEdits es s
+sum_of-least es s = (
+  λ below e a. below_trans (Some (entry_of e)) (finmap.get (sum_of es) e.path) (finmap.get s e.path) ((sum_of-IsSum es).above e a) (below e.path),
+  λ above q. subst (λ x. IsBelow x (finmap.get s q)) (sym (get-sum_of es q))
+      (greatest_at-least q es (finmap.get s q) (λ e a same. subst (λ p. IsBelow (Some (entry_of e)) (finmap.get s p)) same (above e a))),
+)
 
 pub with_edit-join : (s : EntryMap) (e : Edit) → with_edit s e ≡ join s (sum_of (e ∷ []))
 with_edit-join s e =

@@ -58,6 +58,10 @@ join s t = sum_of (edits_of s ++ edits_of t)
 abbrev pub IsStoreBelow : EntryMap → EntryMap → Type 0
 IsStoreBelow s t = (q : PathParts) → IsBelow (finmap.get s q) (finmap.get t q)
 
+-- the store is above each of these edits: at its path it has the edit or a greater one
+abbrev pub IsAboveEdits : List Edit → EntryMap → Type 0
+IsAboveEdits es s = (e : Edit) → IsAmong e es → IsBelow (Some (entry_of e)) (finmap.get s e.path)
+
 -- the content of an entry that is no removal
 abbrev pub shown : Entry → Option Content
 shown x = shown_content x.content

@@ -3,8 +3,7 @@ ghost use Rattle.std.specs.Prelude.{◌≡◌, ◌≤◌, ◌⊎◌, length, Err
 ghost use Rattle.std.specs.List.{list_all};
 ghost use Rattle.edit_sums.specs.Limits.{is_target, is_graphic};
 
-use byte_strings::SharedBytes;
-use join_law::Key;
+use plain_values::{Key, SharedBytes, TryClone};
 use std::alloc::AllocError;
 use std::cmp::Ordering;
 use std::marker::Model;
@@ -278,12 +277,14 @@ impl Ord for Content {
     }
 }
 
+impl TryClone for Content {
+    fn try_clone(&self) -> Result<Content, AllocError> {
+        Content::try_clone(self)
+    }
+}
+
 impl Key for Content {
     ghost use Rattle.edit_sums.specs.ContentLaws.{content_cmp-IsAntisymmetric};
 
     ghost exact = { content_cmp-IsAntisymmetric };
-
-    fn try_clone(&self) -> Result<Content, AllocError> {
-        Content::try_clone(self)
-    }
 }

@@ -2,7 +2,8 @@
 ghost use Rattle.std.specs.Prelude.{◌≡◌, IfOk};
 
 use crate::contents::Content;
-use join_law::{Key, Version};
+use join_law::Version;
+use plain_values::Key;
 use load_path::Path;
 use std::alloc::AllocError;
 

@@ -1,15 +1,18 @@
 //! Laws of sums and joins, for all lists of edits and all stores.
-ghost use Rattle.std.specs.Prelude.{◌≡◌, List, max};
+ghost use Rattle.std.specs.Prelude.{◌≡◌, ◌↔◌, ◌++◌, List, max};
 ghost use Rattle.list_laws.specs.Members.{IsAmong};
 ghost use Rattle.edit_sums.specs.declared.entries.Edit.{Edit};
-ghost use Rattle.edit_sums.specs.Sums.{EntryMap, IsSum, IsStoreBelow, sum_of, join, high_of, high_among};
+ghost use Rattle.edit_sums.specs.Sums.{EntryMap, IsAboveEdits, IsSum, IsStoreBelow, sum_of, join, high_of, high_among};
 
-/// The sum of edits holds at each path the greatest of the edits there, and nothing else; it
-/// depends on which edits there are, and not on their order or number.
+/// The sum of edits holds at each path the greatest of the edits there, and nothing else. It depends on which edits there
+/// are, and not on their order or number. It lies below just those stores that are above each of the edits, and the sum of
+/// two lists is the join of their sums.
 pub fn sums_of_edits()
     ensures sum { (es : List Edit) → IsSum es (sum_of es) }
     ensures members { (xs ys : List Edit) → ((e : Edit) → IsAmong e xs → IsAmong e ys)
         → ((e : Edit) → IsAmong e ys → IsAmong e xs) → sum_of xs ≡ sum_of ys }
+    ensures least { (es : List Edit) (s : EntryMap) → IsStoreBelow (sum_of es) s ↔ IsAboveEdits es s }
+    ensures append { (xs ys : List Edit) → sum_of (xs ++ ys) ≡ join (sum_of xs) (sum_of ys) }
 {}
 
 /// To be below is an order of stores: each is below itself, what is below one that is below a third

@@ -1,18 +1,18 @@
 -- What the replica of a node answers, the node does.
-use Rattle.std.proofs.Common.{◌≡◌, ℕ, List, ◌++◌, subst}
-use Rattle.std.specs.Prelude.{Some, reverse, slice_get}
-use Rattle.edit_sums.specs.Sums.{EntryMap, sum_of}
+use Rattle.std.proofs.Common.{◌≡◌, ◌↔◌, ℕ, List, ◌++◌, Option, Some, None, sym, subst}
+use Rattle.std.specs.Prelude.{IfSome, reverse, slice_get}
+use Rattle.edit_sums.specs.Sums.{EntryMap, IsAboveEdits, IsStoreBelow, sum_of}
 use Rattle.replica_store.specs.Replicas.{Replicated}
 use Rattle.unit_name.specs.Names.{Name}
 use Rattle.world_law.specs.Took.{IsSumOf, Took}
-use Rattle.world_law.specs.Worlds.{Node}
+use Rattle.world_law.specs.Worlds.{AreSameEdits, EachStoreIsLeast, Node, SameTookSameStore, took_by}
 use Rattle.world_law.specs.declared.events.Event.{Event}
 use Rattle.delta_gossip.specs.Convergence.{AgreesLater as HoldsLater, HoldsSums, HoldsSumsAsTold}
 use Rattle.delta_gossip.specs.Shows.{IsWorld, NodeHolds, took_after, world_after}
 use Rattle.delta_gossip.specs.declared.worlds.World.{World}
 use Rattle.fleet_answers.specs.AnswerLaws.{one_answer}
 use Rattle.fleet_answers.specs.Answers.{IsAnswer}
-use Rattle.fleet_answers.specs.Fleets.{AgreesLater, AnswersAsTold, AnswersItsStore, AnswersItsSum}
+use Rattle.fleet_answers.specs.Fleets.{AgreesLater, AnswersAsTold, AnswersItsStore, AnswersItsSum, HoldsLeast, HoldsSameLater}
 use Rattle.fleet_answers.specs.declared.questions.Answer.{Answer}
 use Rattle.fleet_answers.specs.declared.questions.Question.{Question}
 use Rattle.fleet_answers.proofs.Held.{if_some, of_found, shown_at}
@@ -41,3 +41,21 @@ module _ (n : ℕ) (events : List Event) (world : World) (k : ℕ) (extra : List
       if_some (λ (x : Node). r.store ≡ x.store) (λ (x : Node). IsAnswer x.store extra question other → other ≡ answer)
       (λ x e h. one_answer x.store extra question other answer h (subst (λ (s : EntryMap). IsAnswer s extra question answer) e is)) (slice_get (world_after n (events ++ later)).nodes l)
       (of_found (λ (x : Replicated). NodeHolds n (events ++ later) l (λ late. x.store ≡ late)) world.replicas.items k r here (same later honest k l edits))
+
+-- ---- stores
+
+least_held : (o : Option Node) → IfSome o (λ node. (s : EntryMap) → IsStoreBelow node.store s ↔ IsAboveEdits node.took s) → IfSome o (λ node. (s : EntryMap) → IsStoreBelow node.store s ↔ IsAboveEdits (took_by o) s)
+least_held None h = tt
+least_held (Some node) h = h
+
+pub holds_least : (n : ℕ) (events : List Event) (k : ℕ) → EachStoreIsLeast n events → HoldsLeast n events k
+holds_least n events k least honest = least_held (slice_get (world_after n events).nodes k) (least honest k)
+
+same_held : (o p : Option Node) → IfSome o (λ a. IfSome p (λ b. AreSameEdits a.took b.took → a.store ≡ b.store)) → AreSameEdits (took_by o) (took_by p)
+    → IfSome o (λ a. IfSome p (λ b. b.store ≡ a.store))
+same_held None p h same = tt
+same_held (Some a) None h same = tt
+same_held (Some a) (Some b) h same = sym (h same)
+
+pub holds_same_later : (n : ℕ) (events later : List Event) (k : ℕ) → SameTookSameStore n events later → HoldsSameLater n events k later
+holds_same_later n events later k law honest l same = same_held (slice_get (world_after n events).nodes k) (slice_get (world_after n (events ++ later)).nodes l) (law honest k l) same

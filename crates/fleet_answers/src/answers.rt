@@ -6,7 +6,7 @@ ghost use Rattle.fleet_answers.specs.declared.questions.AnswerFault.TheVariants.
 use crate::names::whole_names;
 use crate::questions::{Answer, AnswerFault, Question};
 use crate::snapshots::Snapshot;
-use parallel_load::{Gate, LoadFault, MOST_WORKERS};
+use parallel_load::{Gate, LoadFault, is_crew};
 use replica_store::Store;
 use std::alloc::{AllocError, Global};
 use std::thread::Threads;
@@ -48,7 +48,7 @@ pub fn answer_question<R: Threads + Sync, G: Gate + Sync>(
     ensures workers { (result ≡ Err Workers) ↔ ((workers ≡ 0) ⊎ (64 < workers)) }
     ensures answer { IfOk result (IsAnswer store.now extra.now question.now) }
 {
-    if workers == 0 || workers > MOST_WORKERS {
+    if !is_crew(workers) {
         return Err(AnswerFault::Workers);
     }
     let Some(names) = whole_names(alloc, extra, question)? else {

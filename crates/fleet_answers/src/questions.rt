@@ -1,6 +1,6 @@
 //! What is asked of a store, and what is answered.
 
-use section_reader::Items;
+use plain_values::Items;
 use setting_rules::DependencyList;
 use start_plan::{Plan, Refusal, Request};
 use std::alloc::AllocError;

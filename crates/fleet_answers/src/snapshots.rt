@@ -12,8 +12,8 @@ ghost use Rattle.fleet_answers.specs.Answers.{AreKnown, IsLinkedUnit, IsPlanTold
 use crate::questions::{Answer, LinkedUnit, Question};
 use inverse_deps::{Edges, edges};
 use parallel_load::{Gate, LoadFault, Loaded, load_fleet, load_here};
+use plain_values::Items;
 use replica_store::Store;
-use section_reader::Items;
 use setting_rules::{DepKind, DependencyList};
 use start_plan::{Plan, Refusal, Request, plan};
 use std::alloc::{AllocError, Global};
@@ -111,6 +111,13 @@ impl Snapshot {
         }
     }
 
+    // The graph of the units.
+    fn graph(&self) -> Graph<'_>
+        ensures graph { result ≡ self.now }
+    {
+        Graph::build(&self.loaded, &self.edges)
+    }
+
     // The unit for which a name stands, with its edges.
     fn linked_unit(self, alloc: Global, name: &UnitName) -> Result<LinkedUnit, AllocError>
         requires known { IsKnown self.load name.now }
@@ -130,8 +137,7 @@ impl Snapshot {
         requires known { IsKnown self.now.load name.now }
         ensures depths { IfOk result (AreDepths self.now name.now) }
     {
-        let graph = Graph::build(alloc, &self.loaded, &self.edges)?;
-        Ok(Items::from_vec(graph.depths(alloc, name)?))
+        Ok(Items::from_vec(self.graph().depths(alloc, name)?))
     }
 
     // The plan of a request, or why there is none.
@@ -152,8 +158,7 @@ impl Snapshot {
         ensures plan { IfOk result (IsPlanned self.now.load self.now.edges request.now) }
         ensures refusal { IfErr result (IsRefusalOf self.now.load self.now.edges request.now) }
     {
-        let graph = Graph::build(alloc, &self.loaded, &self.edges)?;
-        plan(alloc, &graph, request)
+        plan(alloc, &self.graph(), request)
     }
 }
 

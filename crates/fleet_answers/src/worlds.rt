@@ -1,30 +1,39 @@
 //! What a node of a world answers.
-ghost use Rattle.std.specs.Prelude.{◌↔◌, ◌<◌, length, List, IfOk, IsSome};
+ghost use Rattle.std.specs.Prelude.{◌≡◌, ◌↔◌, ◌⊎◌, ◌<◌, Err, length, List, IfOk, IsSome};
 ghost use Rattle.std.specs.Option.{IfSome};
 ghost use Rattle.world_law.specs.declared.events.Event.{Event};
-ghost use Rattle.fleet_answers.specs.Fleets.{AnswersItsStore, AnswersItsSum, AnswersAsTold, AgreesLater};
+ghost use Rattle.fleet_answers.specs.Fleets.{AnswersItsStore, AnswersItsSum, AnswersAsTold, AgreesLater, HoldsLeast, HoldsSameLater};
+ghost use Rattle.fleet_answers.specs.declared.questions.AnswerFault.TheVariants.{Workers};
 
-use crate::answers::answer_here;
-use crate::questions::{Answer, Question};
+use crate::answers::answer_question;
+use crate::questions::{Answer, AnswerFault, Question};
 use delta_gossip::run_world;
-use std::alloc::{AllocError, Global};
+use parallel_load::{Gate, is_crew};
+use std::alloc::Global;
+use std::thread::Threads;
 use unit_name::UnitName;
-use world_law::Event;
+use world_law::{Event, converges};
 
 /// Runs a list of events in a world of as many nodes as there are writers, with nothing in them, and answers a question
-/// from what one of the nodes then holds. None where there is no such node. It fails for want of memory alone.
+/// from what one of the nodes then holds, by 1 to 64 workers. None where there is no such node. `Workers` exactly where they
+/// aren't 1 to 64, before anything else; it fails otherwise for want of memory alone. It may wait for threads.
 ///
 /// The clauses are what all of this is for: the answer is a function of the edits that the node took and of the question.
 /// So nodes that took the same edits, in whatever order and number, give the same units with the same settings, and the
 /// same plan or refusal. That holds of every answer, by whatever number of workers.
-pub fn answer_in_world(
+pub fn answer_in_world<R: Threads + Sync, G: Gate + Sync>(
+    rt: &R,
     alloc: Global,
     writers: &[u32],
     events: &[Event],
     node: usize,
     extra: &[UnitName],
     question: &Question,
-) -> Result<Option<Answer>, AllocError>
+    workers: usize,
+    gate: &G,
+) -> Result<Option<Answer>, AnswerFault>
+    ensures workers { (result ≡ Err Workers) ↔ ((workers ≡ 0) ⊎ (64 < workers)) }
+
     // There is an answer where there is such a node.
     ensures some { IfOk result (λ found. IsSome found ↔ (node < length writers.now)) }
 
@@ -41,10 +50,24 @@ pub fn answer_in_world(
     // So any node that by now or by any later moment took the same edits has the same answer.
     ensures same { IfOk result (λ found. IfSome found (λ answer. (later : List Event) →
         AgreesLater (length writers.now) events.now node extra.now question.now later answer)) }
+
+    // Where no version stands for two of the edits that were put, the node holds the least store above what it took.
+    ensures least { IfOk result (λ found. IfSome found (λ _. HoldsLeast (length writers.now) events.now node)) }
+
+    // And any node that by now or by any later moment took the same edits holds the same store.
+    ensures stores { IfOk result (λ found. IfSome found (λ _. (later : List Event) →
+        HoldsSameLater (length writers.now) events.now node later)) }
 {
+    converges();
+    if !is_crew(workers) {
+        return Err(AnswerFault::Workers);
+    }
     let world = run_world(alloc, writers, events)?;
     match world.replicas.get(node) {
-        Some(replica) => Ok(Some(answer_here(alloc, replica.store(), extra, question)?)),
+        Some(replica) => {
+            let store = replica.store();
+            Ok(Some(answer_question(rt, alloc, store, extra, question, workers, gate)?))
+        }
         None => Ok(None),
     }
 }

@@ -6,3 +6,4 @@ pub mod Runs
 pub mod StepKinds
 pub mod WholeScripts
 pub mod Rooms
+pub mod Reading

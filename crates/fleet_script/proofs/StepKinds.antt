@@ -34,7 +34,7 @@ use Rattle.script_answers.specs.FileLaws.{files_are_told_once, files_spend_nothi
 use Rattle.script_answers.specs.Files.{TellsFiles}
 use Rattle.script_answers.specs.Tells.{TellsList, TellsPlan, TellsUnit, plan_asked, pulled_asked, unit_asked}
 use Rattle.script_answers.specs.TellsLaws.{questions_are_told_once, questions_spend_nothing}
-use Rattle.script_answers.specs.Crews.{IsCrew}
+use Rattle.worker_rounds.specs.Crews.{IsCrew}
 use Rattle.fleet_script.specs.Does.{AtNode, AtPath, AtPaths, AtPiece, Does, Gives, IsRead, Reads, Refuses, RefusesPath, TellsPaths, WithFile, WithTarget, WithText, Writes, if_any}
 use Rattle.fleet_script.proofs.Between.{merged_all-append, merged_nodes}
 

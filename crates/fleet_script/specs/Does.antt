@@ -18,7 +18,7 @@ use Rattle.script_commands.specs.declared.commands.Refusal.{Refusal}
 use Rattle.script_commands.specs.Paths.{paths_of}
 use Rattle.script_commands.specs.declared.commands.Refusal.TheVariants.{UnknownNode, BadText, UnknownPiece, NodeTaken, WriterTaken, Directory, Depth, Component, FileTooLarge, BadLink, VersionsSpent, Nothing, Workers}
 use Rattle.script_commands.specs.Outcomes.{Outcome}
-use Rattle.script_answers.specs.Crews.{IsCrew}
+use Rattle.worker_rounds.specs.Crews.{IsCrew}
 use Rattle.script_answers.specs.Crowds.{TellsCrowd}
 use Rattle.script_answers.specs.Files.{TellsFiles}
 use Rattle.script_answers.specs.Tells.{TellsList, TellsPlan, TellsUnit}

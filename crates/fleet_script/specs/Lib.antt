@@ -1,5 +1,6 @@
 pub mod Does
 pub mod Ends
 pub mod Holds
+pub mod Readings
 pub mod ScriptLaws
 pub mod Scripts

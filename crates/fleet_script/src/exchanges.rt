@@ -10,7 +10,7 @@ ghost use Rattle.fleet_script.specs.Does.{if_any};
 ghost use Rattle.fleet_script.specs.Holds.{Continues, Executes, IsJoinedAt, kept_in};
 
 use crate::states::Shell;
-use byte_strings::Bytes;
+use plain_values::Bytes;
 use delta_pieces::{Piece, delta_at, delta_between, digest_at};
 use load_path::Path;
 use replica_store::Replica;

@@ -7,7 +7,7 @@ ghost use Rattle.fleet_script.specs.Holds.{Continues, Executes, Goes, HasNoNode,
 ghost use Rattle.fleet_script.specs.Scripts.{AnswersLine};
 
 use crate::states::Shell;
-use byte_strings::Bytes;
+use plain_values::Bytes;
 use edit_sums::Content;
 use load_path::Path;
 use replica_store::Replica;

@@ -2,6 +2,7 @@
 ghost use Rattle.std.specs.Prelude.{◌≡◌, ℕ, List, slice_get};
 ghost use Rattle.edit_sums.specs.Sums.{IsHonest};
 ghost use Rattle.world_law.specs.Worlds as worlds;
+ghost use Rattle.fleet_script.specs.Readings.{SameEditsSameOutcomes, SameEditsSameStores, StoresAreLeast};
 ghost use Rattle.fleet_script.specs.Scripts.{Answers, Run};
 ghost use Rattle.fleet_script.specs.ScriptLaws.{CountersAreLines, FrontsAreOfTheWhole, NoLineIsRefusedForVersions, VersionsAreNeverSpent};
 ghost use Rattle.script_worlds.specs.Worlds.{ScriptWorld, blank, held, state};
@@ -29,6 +30,15 @@ pub fn scripts_are_honest()
         Run blank lines written world
         → (k : ℕ) (node : worlds.Node) → slice_get (state world).nodes k ≡ Some node →
         node.store ≡ held world k }
+{}
+
+/// What all of this is for, of scripts: where two nodes took the same edits, each at any moment of any script, each command
+/// that only reads (`files`, `cat`, `show`, `list`, `plan`, `crowd`) has one outcome of both. Both then hold the same store,
+/// and it lies below just those stores that are above each of these edits.
+pub fn readings_agree()
+    ensures outcomes { SameEditsSameOutcomes }
+    ensures stores { SameEditsSameStores }
+    ensures least { StoresAreLeast }
 {}
 
 /// Each counter is at most the number of lines so far, of edits as of stores. So no command of a

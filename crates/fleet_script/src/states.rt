@@ -1,5 +1,5 @@
 //! What the shell keeps.
-use byte_strings::Bytes;
+use plain_values::Bytes;
 use delta_pieces::Piece;
 use replica_store::Replica;
 use script_answers::Crew;

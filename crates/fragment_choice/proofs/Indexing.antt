@@ -24,7 +24,7 @@ use Rattle.fragment_choice.specs.declared.choices.Choice.TheVariants.{Alias}
 use Rattle.fragment_choice.specs.Choices.{own_path, own_choice}
 use Rattle.fragment_choice.specs.LinkedNames.{is_link, unit_of}
 use Rattle.fragment_choice.specs.LinkLaws.{ByLink, alias_same, own_link}
-use Rattle.load_levels.specs.Levels.{IsLevel}
+use Rattle.load_path.specs.Levels.{IsLevel}
 use Rattle.fragment_choice.specs.Indexes.{IsIndexOf, IsAny, IsOwnAt, IsOwnEntry, IsOwnLink, Collects, Puts, PutsOwn, owners_at, names_in}
 use Rattle.fragment_choice.proofs.Gathering.{put_there, put_kept, read, unread}
 

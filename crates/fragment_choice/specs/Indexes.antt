@@ -7,7 +7,7 @@ use Rattle.list_laws.specs.Members.{IsAmong}
 use Rattle.edit_sums.specs.Entries.{Entry}
 use Rattle.edit_sums.specs.Sums.{EntryMap, shown, visible_at}
 use Rattle.load_path.specs.Paths.{PathParts}
-use Rattle.load_levels.specs.Levels.{IsLevel}
+use Rattle.load_path.specs.Levels.{IsLevel}
 use Rattle.unit_name.specs.Names.{Name, name_cmp, IsName}
 use Rattle.unit_name.specs.Forms.{with_instance}
 use Rattle.fragment_choice.specs.declared.choices.Choice.TheVariants.{Alias}

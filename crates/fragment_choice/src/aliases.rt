@@ -6,7 +6,7 @@ ghost use Rattle.fragment_choice.specs.LinkedNames.{is_link, unit_of};
 
 use crate::choices::{Choice, own_choice};
 use crate::names::put;
-use load_levels::LEVELS;
+use load_path::LEVELS;
 use replica_store::{Content, Placed, Store};
 use std::alloc::{AllocError, Global};
 use std::collections::{BTreeMap, BTreeSet};

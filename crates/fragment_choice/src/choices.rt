@@ -3,7 +3,7 @@ ghost use Rattle.std.specs.Prelude.{◌≡◌, IfOk};
 ghost use Rattle.fragment_choice.specs.Choices.{choice, own_choice, says, content_says, link_says};
 
 use crate::links::{last_component, target_says};
-use load_levels::LEVELS;
+use load_path::LEVELS;
 use replica_store::{Content, Path, Placed, Store};
 use std::alloc::{AllocError, Global};
 use thiserror::Error;

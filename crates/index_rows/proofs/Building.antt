@@ -1,5 +1,7 @@
 -- Rows that are made one by one.
 use Rattle.std.proofs.Common.{◌≡◌, ℕ, zero, suc, ◌+◌, ◌<◌, ◌≤◌, ◌⊎◌, ◌↔◌, inl, inr, List, [], ◌∷◌, ◌++◌, length, refl, ap, sym, ◌∙◌, subst, arith, length-append}
+use Rattle.std.specs.List.Sorted.{IsStrictlySortedBy}
+use Rattle.std.specs.Ordering.{nat_cmp}
 use Rattle.std.proofs.lemmas.Bool.{cases_eq, cases_lt}
 use Rattle.std.specs.declared.vec.Vec.{Vec}
 use Rattle.std.specs.declared.alloc.Global.{Global}
@@ -69,3 +71,24 @@ pub append_is : (v : ℕ) (xs ys zs : List ℕ) → zs ≡ xs ++ ys → IsAmong 
 append_is v xs ys zs e =
     let P : List ℕ → Type 0 = λ l. IsAmong v l ↔ (IsAmong v xs ⊎ IsAmong v ys) in
     subst P (sym e) (IsAmong-append_cases v xs ys, λ h. elim h [ inl a ↦ IsAmong-append_left v xs ys a | inr b ↦ IsAmong-append_right v xs ys b ])
+
+-- ---- rows that rise
+
+none_rise : IsStrictlySortedBy nat_cmp []
+unfolding IsStrictlySortedBy
+none_rise = tt
+
+abbrev pub AllRise : List (Vec ℕ Global) → Type 0
+AllRise rows = (u : ℕ) → IsStrictlySortedBy nat_cmp (row rows u)
+
+pub rise-none : (rows : List (Vec ℕ Global)) → rows ≡ [] → AllRise rows
+rise-none rows e = subst AllRise (sym e) (λ u. none_rise)
+
+rise-push : (rows : List (Vec ℕ Global)) (r : Vec ℕ Global) → AllRise rows → IsStrictlySortedBy nat_cmp r.items → AllRise (rows ++ r ∷ [])
+rise-push [] r h s zero = s
+rise-push [] r h s (suc u) = none_rise
+rise-push (x ∷ xs) r h s zero = h zero
+rise-push (x ∷ xs) r h s (suc u) = rise-push xs r (λ v. h (suc v)) s u
+
+pub rise-more : (rows new : List (Vec ℕ Global)) (r : Vec ℕ Global) → AllRise rows → new ≡ rows ++ r ∷ [] → IsStrictlySortedBy nat_cmp r.items → AllRise new
+rise-more rows new r h e s = subst AllRise (sym e) (rise-push rows r h s)

@@ -1,10 +1,13 @@
 //! Steps between nodes by rows.
 ghost use Rattle.std.specs.Prelude.{◌≡◌, ◌<◌, ◌↔◌, ◌⊎◌, ◌∷◌, [], ℕ, length, IfOk, OnOk};
 ghost use Rattle.std.specs.List.{All};
+ghost use Rattle.std.specs.List.Sorted.{IsStrictlySortedBy};
+ghost use Rattle.std.specs.Ordering.{nat_cmp};
 ghost use Rattle.list_laws.specs.Members.{IsAmong};
 ghost use Rattle.index_rows.specs.Rows.{AllBelow, AreRowsOf, AreTurned, row as row_of};
 ghost use Rattle.index_rows.specs.Spreads.{IsNoted};
 
+use crate::shortest::put_in_order;
 use std::alloc::{AllocError, Global};
 
 /// The row of a node.
@@ -62,7 +65,7 @@ pub fn turned(alloc: Global, rows: &[Vec<usize>]) -> Result<Vec<Vec<usize>>, All
     Ok(others)
 }
 
-/// Rows with the steps of both. O(n) and the steps.
+/// Rows with the steps of both, each in order. O(n) and the steps, beside the logarithm of a row's length.
 pub fn joined(
     alloc: Global,
     first: &[Vec<usize>],
@@ -73,11 +76,13 @@ pub fn joined(
     ensures steps { IfOk result (λ rows. (u v : ℕ) → IsAmong v (row_of rows.items u)
         ↔ (IsAmong v (row_of first.now u) ⊎ IsAmong v (row_of second.now u))) }
     ensures rows { IfOk result (λ rows. AreRowsOf (length first.now) rows.items) }
+    ensures rising { IfOk result (λ rows. (u : ℕ) → IsStrictlySortedBy nat_cmp (row_of rows.items u)) }
 {
     let mut rows = Vec::new(alloc);
     'rows: for node in 0..first.len() {
         let mut nodes = Vec::from_slice(alloc, row(first, node))?;
         nodes.extend_from_slice(row(second, node))?;
+        put_in_order(&mut nodes);
         rows.push(nodes)?;
     }
     Ok(rows)

@@ -1,34 +1,31 @@
 -- Lists of edges, made of rows.
-use Rattle.std.proofs.Common.{◌≡◌, ◌<◌, ◌&&◌, ℕ, List, [], ◌∷◌, length, get_or, map, IsTrue, Option, Some, None, refl, ap, sym, subst, ◌∙◌, arith}
+use Rattle.std.proofs.Common.{◌≡◌, ◌<◌, ℕ, zero, suc, List, [], ◌∷◌, length, get_or, map, IsTrue, Option, Some, None, refl, ap, sym, subst, ◌∙◌, arith}
 use Rattle.std.specs.Map.{keys_of}
 use Rattle.std.specs.List.Sorted.{IsStrictlySortedBy}
 use Rattle.std.specs.Cmp.Lexicographic.{nat_list_cmp_total}
-use Rattle.std.specs.FinMap.Entries.{find, is_sorted, below_all}
-use Rattle.std.specs.Ordering.{is_lt}
-use Rattle.std.specs.declared.cmp.Ordering.{Ordering}
+use Rattle.std.specs.FinMap.Entries.{find, is_sorted}
+use Rattle.std.specs.Ordering.{nat_cmp}
 use Rattle.std.specs.declared.vec.Vec.{Vec}
 use Rattle.std.specs.declared.alloc.Global.{Global}
 use Rattle.std.proofs.lemmas.Option.{none-some}
-use Rattle.list_laws.specs.Members.{IsAmong, among_from_contains, contains_from_among}
 use Rattle.name_closure.specs.ListedLaws.{Listed}
 use Rattle.index_rows.specs.Numbering.{AreNames}
-use Rattle.index_rows.specs.Rows.{AreRowsOf}
-use Rattle.index_rows.specs.NumberingLaws.{among_mapped, mapped_from}
+use Rattle.index_rows.specs.Rows.{row, AreRowsOf}
+use Rattle.index_rows.specs.NumberingLaws.{members_named, rising_named}
 use Rattle.unit_name.specs.Names.{Name, name_cmp}
 use Rattle.unit_name.specs.NameLaws.{name_cmp-IsAntisymmetric}
 use denote.Enum.Declared.{tag_of}
 use Rattle.setting_rules.specs.contracts.kinds.DepKind as kinds_of
 use Rattle.setting_rules.specs.declared.kinds.DepKind.{DepKind}
 use Rattle.setting_rules.specs.declared.kinds.DepKind.TheVariants.{Before, After, Wants, WantedBy, Requires, RequiredBy, Requisite, RequisiteOf, BindsTo, BoundBy, PartOf, ConsistsOf, Conflicts, ConflictedBy, OnFailure, OnFailureOf, PropagatesReloadTo, ReloadPropagatedFrom}
-use Rattle.setting_rules.specs.Dependencies.{in_byte_order}
 use Rattle.setting_rules.specs.Kinds.{kinds}
-use Rattle.setting_rules.specs.OrderLaws.{names_rise, names_stay}
 use Rattle.parallel_load.specs.Loads.{LoadMap}
 use Rattle.inverse_deps.specs.EdgeLaws.{edges_join_units}
-use Rattle.inverse_deps.specs.Edges.{IsEdge, AreEdgesFrom, AreEdges, EdgeMap, list_at, place}
+use Rattle.inverse_deps.specs.EdgeRows.{AreRowsBy, AreRowsByKinds, listed_name}
+use Rattle.inverse_deps.specs.Edges.{IsEdge, AreEdgesFrom, AreEdges, EdgeMap, list_at, names_in, place}
 use Rattle.inverse_deps.specs.Numbers.{count_of, name_at}
-use Rattle.inverse_deps.specs.NumberLaws.{find_place, keys_length, place_of_found, unit_number}
-use Rattle.inverse_deps.specs.Tables.{AreEdgeRows, AreListsFrom, AreNamingRows, AreNamingTables, AreTables}
+use Rattle.inverse_deps.specs.NumberLaws.{find_place, keys_length, load_numbering, place_of_found, unit_number}
+use Rattle.inverse_deps.specs.Tables.{AreEdgeRows, AreKept, AreListsFrom, AreNamingRows, AreNamingTables, AreTables, lists_from}
 
 -- ---- kinds
 
@@ -102,60 +99,58 @@ rows_of_kind load tables k t rows a l e f =
 
 -- ---- one list
 
--- the names of a row, in byte order, are the edges that the row has
-pub edges_of_row : (load : LoadMap) (dep : DepKind) (u : Name) (is : List ℕ) → AreNames (count_of load) (name_at load) (Listed is) (IsEdge load dep u)
-    → AreEdgesFrom load dep u (in_byte_order (map (name_at load) is))
-edges_of_row load dep u is a = record { rising = names_rise names; exact = λ v. (there v, back v) }
-  where
-    names : List Name
-    names = map (name_at load) is
-
-    there : (v : Name) → IsAmong v (in_byte_order (map (name_at load) is)) → IsEdge load dep u v
-    there v h =
-        let ns = map (name_at load) is in
-        let r = mapped_from (name_at load) v is (among_from_contains v ns ((names_stay ns v).0 (contains_from_among v (in_byte_order ns) h))) in
-        subst (IsEdge load dep u) r.1.1 (a.named r.0 r.1.0)
-
-    back : (v : Name) → IsEdge load dep u v → IsAmong v (in_byte_order (map (name_at load) is))
-    back v h =
-        let ns = map (name_at load) is in
-        let r = a.numbered v h in
-        let P : Name → Type 0 = λ w. IsAmong w ns in
-        among_from_contains v (in_byte_order ns) ((names_stay ns v).1 (contains_from_among v ns (subst P r.1.1 (among_mapped (name_at load) r.0 is r.1.0))))
+-- the names of a row that rises are the edges that the row has
+pub edges_of_row : (load : LoadMap) → IsTrue (is_sorted name_cmp load.names) → (dep : DepKind) (u : Name) (is : List ℕ) → IsStrictlySortedBy nat_cmp is
+    → AreNames (count_of load) (name_at load) (Listed is) (IsEdge load dep u) → AreEdgesFrom load dep u (map (name_at load) is)
+edges_of_row load ordered dep u is rise a = record {
+  rising = rising_named (count_of load) (name_at load) name_cmp nat_list_cmp_total (load_numbering load ordered) is a.within rise;
+  exact = members_named (count_of load) (name_at load) name_cmp nat_list_cmp_total (load_numbering load ordered) (Listed is) (IsEdge load dep u) a is (λ i. (λ h. h, λ h. h));
+}
 
 -- ---- all lists
-
--- whether pairs are in the order of their keys is told by the keys
-module _ {K V W : Type 0} (R : K → K → Ordering) where
-  below_by_keys : (x : K) (es : List (K × V)) (fs : List (K × W)) → keys_of es ≡ keys_of fs → below_all R x es ≡ below_all R x fs
-  below_by_keys x [] [] h = refl
-  below_by_keys x [] (f ∷ fs) h = cc (h)
-  below_by_keys x (e ∷ es) [] h = cc (h)
-  below_by_keys x (e ∷ es) (f ∷ fs) h =
-      let first : e.0 ≡ f.0 = cc (h) in
-      let rest : below_all R x es ≡ below_all R x fs = below_by_keys x es fs (cc (h)) in
-      ap (λ k. is_lt (R x k) && below_all R x es) first ∙ ap (λ b. is_lt (R x f.0) && b) rest
-
-  pub sorted_by_keys : (es : List (K × V)) (fs : List (K × W)) → keys_of es ≡ keys_of fs → is_sorted R es ≡ is_sorted R fs
-  sorted_by_keys [] [] h = refl
-  sorted_by_keys [] (f ∷ fs) h = cc (h)
-  sorted_by_keys (e ∷ es) [] h = cc (h)
-  sorted_by_keys (e ∷ es) (f ∷ fs) h =
-      let first : e.0 ≡ f.0 = cc (h) in
-      let keys : keys_of es ≡ keys_of fs = cc (h) in
-      let below : below_all R e.0 es ≡ below_all R f.0 fs = ap (λ k. below_all R k es) first ∙ below_by_keys f.0 es fs keys in
-      let rest : is_sorted R es ≡ is_sorted R fs = sorted_by_keys es fs keys in
-      ap (λ b. b && is_sorted R es) below ∙ ap (λ b. below_all R f.0 fs && b) rest
 
 none_rise : IsStrictlySortedBy name_cmp []
 unfolding IsStrictlySortedBy
 none_rise = tt
 
--- lists for all names of a load are all its edges
-module _ (load : LoadMap) (edges : EdgeMap) (keys : keys_of edges ≡ keys_of load.names) (sorted : IsTrue (is_sorted name_cmp edges))
-    (each : (k : ℕ) (d : Name × List (List Name)) → k < length edges → AreListsFrom load (name_at load k) (get_or edges k d).1) where
+-- what stands at a place of a mapped list
+get_mapped : {X Y : Type 0} (f : X → Y) (xs : List X) (k : ℕ) (x : X) (y : Y) → k < length xs → get_or (map f xs) k y ≡ f (get_or xs k x)
+get_mapped f [] k x y l = absurd (omega arith)
+get_mapped f (z ∷ zs) zero x y l = refl
+get_mapped f (z ∷ zs) (suc k) x y l = get_mapped f zs k x y (omega arith)
+
+-- there is a kind, so there is a table
+a_table : (tables : List (Vec (Vec ℕ Global) Global)) → length tables ≡ length kinds → Vec (Vec ℕ Global) Global
+a_table [] e = absurd (omega (arith, e))
+a_table (t ∷ ts) e = t
+
+-- lists for all names of a load, made of the rows of all its edges
+module _ (load : LoadMap) (ordered : IsTrue (is_sorted name_cmp load.names)) (tables : List (Vec (Vec ℕ Global) Global)) (are : AreTables load tables)
+    (edges : EdgeMap) (keys : keys_of edges ≡ keys_of load.names) (sorted : IsTrue (is_sorted name_cmp edges))
+    (each : (k : ℕ) (d : Name × List (List Name)) → k < length edges → (get_or edges k d).1 ≡ lists_from load tables k) where
+  count : length edges ≡ count_of load
+  count = sym (keys_length edges) ∙ ap length keys ∙ keys_length load.names
+
   named_alike : (i : ℕ) → get_or (keys_of edges) i [] ≡ name_at load i
   named_alike i = ap (λ ks. get_or ks i []) keys
+
+  kind_rows : (dep : DepKind) (t : Vec (Vec ℕ Global) Global) → AreEdgeRows load dep (get_or tables (place dep) t).items
+  kind_rows dep t =
+      let at = stands_at dep in
+      let P : DepKind → Type 0 = λ d. AreEdgeRows load d (get_or tables (place dep) t).items in
+      subst P at.there (are.each (place dep) t at.below)
+
+  kind_names : (dep : DepKind) (t : Vec (Vec ℕ Global) Global) (i : ℕ) → get_or (lists_from load tables i) (place dep) [] ≡ map (name_at load) (row (get_or tables (place dep) t).items i)
+  kind_names dep t i =
+      get_mapped (λ (v : Vec (Vec ℕ Global) Global). map (name_at load) (row v.items i)) tables (place dep) t [] (omega (arith, (stands_at dep).below, are.all))
+
+  list_there : (k : ℕ) (d : Name × List (List Name)) → k < length edges → AreListsFrom load (name_at load k) (get_or edges k d).1
+  list_there k d l dep =
+      let t = a_table tables are.all in
+      let r = kind_rows dep t in
+      let P : List Name → Type 0 = λ ns. AreEdgesFrom load dep (name_at load k) ns in
+      subst P (sym (ap (λ ls. get_or ls (place dep) []) (each k d l) ∙ kind_names dep t k))
+      (edges_of_row load ordered dep (name_at load k) (row (get_or tables (place dep) t).items k) (r.rising k) (r.steps k (omega (arith, l, count))))
 
   found_edges : (dep : DepKind) (u : Name) (lists : List (List Name)) → find name_cmp u edges ≡ Some lists → AreEdgesFrom load dep u (get_or lists (place dep) [])
   found_edges dep u lists f =
@@ -166,7 +161,7 @@ module _ (load : LoadMap) (edges : EdgeMap) (keys : keys_of edges ≡ keys_of lo
       let same : (get_or edges r.0 d).1 ≡ lists = cc (both) in
       let P : List (List Name) → Type 0 = λ ls. AreEdgesFrom load dep u (get_or ls (place dep) []) in
       let Q : Name → Type 0 = λ w. AreEdgesFrom load dep w (get_or (get_or edges r.0 d).1 (place dep) []) in
-      subst P same (subst Q (sym (named_alike r.0) ∙ r.1.1) (each r.0 d r.1.0 dep))
+      subst P same (subst Q (sym (named_alike r.0) ∙ r.1.1) (list_there r.0 d r.1.0 dep))
 
   no_edges : (dep : DepKind) (u : Name) → find name_cmp u edges ≡ None → AreEdgesFrom load dep u []
   no_edges dep u f = record { rising = none_rise; exact = λ v. (λ h. absurd h, λ e. absurd (none v e)) }
@@ -175,13 +170,41 @@ module _ (load : LoadMap) (edges : EdgeMap) (keys : keys_of edges ≡ keys_of lo
       none v e =
           let r = unit_number load u (edges_join_units load dep u v e).0 in
           let d : Name × List (List Name) = (u, []) in
-          let long : length (keys_of edges) ≡ length (keys_of load.names) = ap length keys in
-          let below : r.0 < length edges = omega (arith, r.1.0, long, keys_length edges, keys_length load.names) in
+          let below : r.0 < length edges = omega (arith, r.1.0, count) in
           none-some _ (sym f ∙ ap (λ k. find name_cmp k edges) (sym (named_alike r.0 ∙ r.1.1)) ∙ find_place name_cmp nat_list_cmp_total edges r.0 [] d sorted below)
 
+  edges_there : (dep : DepKind) (u : Name) (o : Option (List (List Name))) → find name_cmp u edges ≡ o → AreEdgesFrom load dep u (list_at dep o)
+  edges_there dep u None f = no_edges dep u f
+  edges_there dep u (Some lists) f = found_edges dep u lists f
+
+  -- they are all its edges
   pub all_edges : AreEdges load edges
-  all_edges dep u = by (find name_cmp u edges) refl
-    where
-      by : (o : Option (List (List Name))) → find name_cmp u edges ≡ o → AreEdgesFrom load dep u (list_at dep o)
-      by None f = no_edges dep u f
-      by (Some lists) f = found_edges dep u lists f
+  all_edges = record { names = keys; in_order = sorted; lists = λ dep u. edges_there dep u (find name_cmp u edges) refl }
+
+  rows_there : (dep : DepKind) (t : Vec (Vec ℕ Global) Global) (i : ℕ) → i < length edges
+      → map (listed_name edges) (row (get_or tables (place dep) t).items i) ≡ names_in edges dep (listed_name edges i)
+  rows_there dep t i l =
+      let d : Name × List (List Name) = ([], []) in
+      ap (λ ks. map (λ n. get_or ks n []) (row (get_or tables (place dep) t).items i)) keys
+      ∙ sym (kind_names dep t i) ∙ ap (λ ls. get_or ls (place dep) []) (sym (each i d l))
+      ∙ ap (list_at dep) (sym (find_place name_cmp nat_list_cmp_total edges i [] d sorted l))
+
+  -- and the rows are the lists, by numbers
+  pub all_kept : AreKept edges tables
+  all_kept = record {
+    sorted = sorted;
+    rows = record {
+      all = are.all;
+      each = λ dep t. (let r = kind_rows dep t in
+          let P : ℕ → Type 0 = λ n. AreRowsOf n (get_or tables (place dep) t).items in
+          record { within = subst P (sym count) r.within; rising = r.rising; exact = rows_there dep t });
+    };
+  }
+
+-- the rows of a kind, as indexing reads them
+pub rows_by_kind : (edges : EdgeMap) (tables : List (Vec (Vec ℕ Global) Global)) (dep : DepKind) (t : Vec (Vec ℕ Global) Global) (rows : List (Vec ℕ Global)) → AreRowsByKinds edges tables
+    → t ≡ get_or tables (tag_of kinds_of.the_type dep) t → rows ≡ t.items → AreRowsBy edges dep rows
+rows_by_kind edges tables dep t rows a g f =
+    let Q : Vec (Vec ℕ Global) Global → Type 0 = λ v. AreRowsBy edges dep v.items in
+    let R : List (Vec ℕ Global) → Type 0 = λ rs. AreRowsBy edges dep rs in
+    subst R (sym f) (subst Q (ap (λ i. get_or tables i t) (sym (tag_is dep)) ∙ sym g) (a.each dep t))

@@ -73,8 +73,8 @@ edges_join_units load dep u v (inr d) = (d.other, (d.unit, d.unit_is))
 
 pub one_list_of_edges : OneListOfEdges
 one_list_of_edges load a b p q dep u =
-    one_rising_list name_cmp nat_list_cmp_total (names_in a dep u) (names_in b dep u) (p dep u).rising (q dep u).rising
-    (λ v. (λ h. ((q dep u).exact v).1 (((p dep u).exact v).0 h), λ h. ((p dep u).exact v).1 (((q dep u).exact v).0 h)))
+    one_rising_list name_cmp nat_list_cmp_total (names_in a dep u) (names_in b dep u) (p.lists dep u).rising (q.lists dep u).rising
+    (λ v. (λ h. ((q.lists dep u).exact v).1 (((p.lists dep u).exact v).0 h), λ h. ((p.lists dep u).exact v).1 (((q.lists dep u).exact v).0 h)))
 
 pub dependencies_are_edges : DependenciesAreEdges
 dependencies_are_edges s extra load dep u v unit l e h =

@@ -1,9 +1,10 @@
 -- The dependencies between the units of a load, as either side has them.
 -- Source: systemd.unit(5), "Mapping of unit properties to their inverses".
-use Rattle.std.specs.Prelude.{◌≡◌, ◌⊎◌, ◌↔◌, ℕ, Option, Some, None, List, []}
+use Rattle.std.specs.Prelude.{◌≡◌, ◌⊎◌, ◌↔◌, ℕ, Option, Some, None, List, [], IsTrue}
 use Rattle.std.specs.List.{slice_index_or}
 use Rattle.std.specs.List.Sorted.{IsStrictlySortedBy}
-use Rattle.std.specs.FinMap.{find}
+use Rattle.std.specs.FinMap.{find, is_sorted}
+use Rattle.std.specs.Map.{keys_of}
 use Rattle.list_laws.specs.Members.{IsAmong}
 use Rattle.unit_name.specs.Names.{Name, name_cmp}
 use Rattle.setting_rules.specs.declared.kinds.DepKind.{DepKind}
@@ -71,6 +72,8 @@ pub record AreEdgesFrom (load : LoadMap) (dep : DepKind) (u : Name) (names : Lis
   pub rising : IsStrictlySortedBy name_cmp names
   pub exact : (v : Name) → IsAmong v names ↔ IsEdge load dep u v
 
--- These are all edges of the load.
-abbrev pub AreEdges : LoadMap → EdgeMap → Type 0
-AreEdges load edges = (dep : DepKind) (u : Name) → AreEdgesFrom load dep u (names_in edges dep u)
+-- These are all edges of the load, for each of its names in byte order.
+pub record AreEdges (load : LoadMap) (edges : EdgeMap) : Type 0 where
+  pub names : keys_of edges ≡ keys_of load.names
+  pub in_order : IsTrue (is_sorted name_cmp edges)
+  pub lists : (dep : DepKind) (u : Name) → AreEdgesFrom load dep u (names_in edges dep u)

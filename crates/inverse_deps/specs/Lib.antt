@@ -1,4 +1,5 @@
 pub mod EdgeLaws
+pub mod EdgeRows
 pub mod Edges
 pub mod MakingLaws
 pub mod NamingLaws

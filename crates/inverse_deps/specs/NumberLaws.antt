@@ -1,12 +1,12 @@
 -- Numbers of names: they compare as the names do, each unit has one, and what is loaded for a name stands at its number.
-use Rattle.std.proofs.Common.{◌≡◌, ◌<◌, ℕ, zero, suc, List, [], ◌∷◌, length, get_or, cond, IsTrue, Option, Some, None, refl, ap, sym, ◌∙◌, arith}
+use Rattle.std.proofs.Common.{◌≡◌, ◌<◌, ◌&&◌, ℕ, zero, suc, List, [], ◌∷◌, length, get_or, cond, IsTrue, Option, Some, None, refl, ap, sym, ◌∙◌, arith}
 use Rattle.std.specs.Map.{keys_of}
 use Rattle.std.specs.Option.{option_and_then}
 use Rattle.std.specs.Cmp.{IsTotalOrder}
 use Rattle.std.specs.Cmp.Lexicographic.{nat_list_cmp_total}
 use Rattle.std.specs.FinMap.{IsAntisymmetric}
 use Rattle.std.specs.FinMap.Entries.{find, is_sorted, below_all}
-use Rattle.std.specs.Ordering.{is_eq}
+use Rattle.std.specs.Ordering.{is_eq, is_lt}
 use Rattle.std.specs.declared.cmp.Ordering.{Ordering}
 use Rattle.std.specs.declared.cmp.Ordering.TheVariants.{Less, Equal, Greater}
 use Rattle.std.proofs.lemmas.Bool.{and_parts}
@@ -69,6 +69,28 @@ module _ {K V : Type 0} (R : K → K → Ordering) where
       by Less c f more = later (more f)
       by Equal c f more = (0, (omega arith, sym (exact k e.0 c)))
       by Greater c f more = later (more f)
+
+-- whether pairs are in the order of their keys is told by the keys
+module _ {K V W : Type 0} (R : K → K → Ordering) where
+  below_by_keys : (x : K) (es : List (K × V)) (fs : List (K × W)) → keys_of es ≡ keys_of fs → below_all R x es ≡ below_all R x fs
+  below_by_keys x [] [] h = refl
+  below_by_keys x [] (f ∷ fs) h = cc (h)
+  below_by_keys x (e ∷ es) [] h = cc (h)
+  below_by_keys x (e ∷ es) (f ∷ fs) h =
+      let first : e.0 ≡ f.0 = cc (h) in
+      let rest : below_all R x es ≡ below_all R x fs = below_by_keys x es fs (cc (h)) in
+      ap (λ k. is_lt (R x k) && below_all R x es) first ∙ ap (λ b. is_lt (R x f.0) && b) rest
+
+  pub sorted_by_keys : (es : List (K × V)) (fs : List (K × W)) → keys_of es ≡ keys_of fs → is_sorted R es ≡ is_sorted R fs
+  sorted_by_keys [] [] h = refl
+  sorted_by_keys [] (f ∷ fs) h = cc (h)
+  sorted_by_keys (e ∷ es) [] h = cc (h)
+  sorted_by_keys (e ∷ es) (f ∷ fs) h =
+      let first : e.0 ≡ f.0 = cc (h) in
+      let keys : keys_of es ≡ keys_of fs = cc (h) in
+      let below : below_all R e.0 es ≡ below_all R f.0 fs = ap (λ k. below_all R k es) first ∙ below_by_keys f.0 es fs keys in
+      let rest : is_sorted R es ≡ is_sorted R fs = sorted_by_keys es fs keys in
+      ap (λ b. b && is_sorted R es) below ∙ ap (λ b. below_all R f.0 fs && b) rest
 
 module _ (load : LoadMap) (sorted : IsTrue (is_sorted name_cmp load.names)) where
   -- names in byte order rise with their numbers

@@ -1,6 +1,8 @@
 -- Edges by numbers, kind by kind: words for private clauses.
 -- Source: this project's own.
-use Rattle.std.specs.Prelude.{◌≡◌, ◌<◌, ℕ, List, [], length, IsTrue}
+use Rattle.std.specs.Prelude.{◌≡◌, ◌<◌, ℕ, List, [], length, map, IsTrue}
+use Rattle.std.specs.List.Sorted.{IsStrictlySortedBy}
+use Rattle.std.specs.Ordering.{nat_cmp}
 use Rattle.std.specs.FinMap.{is_sorted}
 use Rattle.std.specs.List.{slice_index_or}
 use Rattle.std.specs.declared.vec.Vec.{Vec}
@@ -13,7 +15,8 @@ use Rattle.setting_rules.specs.declared.kinds.DepKind.{DepKind}
 use Rattle.setting_rules.specs.declared.kinds.DepKind.TheVariants.{Before}
 use Rattle.setting_rules.specs.Kinds.{kinds}
 use Rattle.parallel_load.specs.Loads.{LoadMap}
-use Rattle.inverse_deps.specs.Edges.{DependsOn, IsEdge, AreEdgesFrom, place}
+use Rattle.inverse_deps.specs.EdgeRows.{AreRowsByKinds}
+use Rattle.inverse_deps.specs.Edges.{DependsOn, IsEdge, AreEdgesFrom, EdgeMap, place}
 use Rattle.inverse_deps.specs.Numbers.{count_of, name_at}
 
 -- rows of the dependencies of a kind, in a load whose names are in order
@@ -27,16 +30,26 @@ pub record AreNamingTables (load : LoadMap) (tables : List (Vec (Vec ℕ Global)
   pub all : length tables ≡ length kinds
   pub each : (k : ℕ) (d : Vec (Vec ℕ Global) Global) → k < length kinds → AreNamingRows load (slice_index_or kinds k Before) (slice_index_or tables k d).items
 
--- rows of the edges of a kind
+-- rows of the edges of a kind, each rising
 pub record AreEdgeRows (load : LoadMap) (dep : DepKind) (rows : List (Vec ℕ Global)) : Type 0 where
   pub steps : AreNamedSteps (count_of load) (name_at load) (Named (row rows)) (IsEdge load dep)
   pub within : AreRowsOf (count_of load) rows
+  pub rising : (u : ℕ) → IsStrictlySortedBy nat_cmp (row rows u)
 
 -- such rows for each kind, in the order of the kinds
 pub record AreTables (load : LoadMap) (tables : List (Vec (Vec ℕ Global) Global)) : Type 0 where
   pub all : length tables ≡ length kinds
   pub each : (k : ℕ) (d : Vec (Vec ℕ Global) Global) → k < length kinds → AreEdgeRows load (slice_index_or kinds k Before) (slice_index_or tables k d).items
 
+-- the names that tables have at a number, kind by kind
+abbrev pub lists_from : LoadMap → List (Vec (Vec ℕ Global) Global) → ℕ → List (List Name)
+lists_from load tables number = map (λ table. map (name_at load) (row table.items number)) tables
+
 -- the edges from a unit, kind by kind
 abbrev pub AreListsFrom : LoadMap → Name → List (List Name) → Type 0
 AreListsFrom load u lists = (dep : DepKind) → AreEdgesFrom load dep u (slice_index_or lists (place dep) [])
+
+-- what edges keep: lists by names in byte order, and the same by rows of numbers
+pub record AreKept (edges : EdgeMap) (tables : List (Vec (Vec ℕ Global) Global)) : Type 0 where
+  pub sorted : IsTrue (is_sorted name_cmp edges)
+  pub rows : AreRowsByKinds edges tables

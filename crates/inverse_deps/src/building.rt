@@ -1,20 +1,21 @@
 //! The edges of a load are found kind by kind, and listed unit by unit.
-ghost use Rattle.std.specs.Prelude.{◌<◌, IfOk};
+ghost use Rattle.std.specs.Prelude.{◌≡◌, ◌<◌, IfOk};
 ghost use Rattle.inverse_deps.specs.Edges.{AreEdges};
-ghost use Rattle.inverse_deps.specs.Numbers.{count_of, name_at};
-ghost use Rattle.inverse_deps.specs.Tables.{AreListsFrom, AreTables};
+ghost use Rattle.inverse_deps.specs.Numbers.{count_of};
+ghost use Rattle.inverse_deps.specs.Tables.{AreTables, lists_from};
 
 use crate::lists::Edges;
 use crate::numbers::names_of;
 use crate::steps::dependency_tables;
 use index_rows::{joined, row, turned};
 use parallel_load::Loaded;
-use section_reader::Items;
-use setting_rules::{DepKind, in_byte_order};
+use plain_values::Items;
+use setting_rules::DepKind;
 use std::alloc::{AllocError, Global};
 use unit_name::UnitName;
 
-/// All edges of a load. It fails for want of memory alone. O(n) and the dependencies, beside the logarithm of n, for n names.
+/// All edges of a load, by names and by numbers. It fails for want of memory alone. O(n) and the dependencies, beside the
+/// logarithm of n, for n names.
 pub fn edges(alloc: Global, loaded: &Loaded) -> Result<Edges, AllocError>
     ensures edges { IfOk result (AreEdges loaded.now) }
 {
@@ -25,7 +26,7 @@ pub fn edges(alloc: Global, loaded: &Loaded) -> Result<Edges, AllocError>
         let name = names[number].0.try_clone()?;
         units.push((name, lists_at(alloc, loaded, &tables, number)?))?;
     }
-    Ok(Edges::new(units))
+    Ok(Edges::new(units, tables))
 }
 
 // For each kind, in order, the rows of its edges: what units name by it, and what names them by its inverse.
@@ -41,7 +42,7 @@ fn tables(alloc: Global, loaded: &Loaded) -> Result<Vec<Vec<Vec<usize>>>, AllocE
     Ok(tables)
 }
 
-// The edges from a unit, kind by kind.
+// The edges from a unit, kind by kind, by names: numbers that rise have names that do.
 fn lists_at(
     alloc: Global,
     loaded: &Loaded,
@@ -50,12 +51,12 @@ fn lists_at(
 ) -> Result<Items<Items<UnitName>>, AllocError>
     requires tables { AreTables loaded.now tables.now }
     requires number { number < count_of loaded.now }
-    ensures lists { IfOk result (AreListsFrom loaded.now (name_at loaded.now number)) }
+    ensures lists { IfOk result (λ lists. lists ≡ lists_from loaded.now tables.now number) }
 {
     let mut lists = Items::new(alloc);
     'tables: for table in tables {
         let names = names_of(alloc, loaded, row(table, number))?;
-        lists.push(in_byte_order(names))?;
+        lists.push(Items::from_vec(names))?;
     }
     Ok(lists)
 }

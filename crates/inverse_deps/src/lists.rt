@@ -1,10 +1,10 @@
-//! The edges of a load, as lists of names.
-ghost use Rattle.std.specs.Prelude.{◌≡◌, Some, IsTrue};
-ghost use Rattle.std.specs.FinMap.{is_sorted};
-ghost use Rattle.unit_name.specs.Names.{name_cmp};
+//! The edges of a load, as lists of names and as rows of numbers.
+ghost use Rattle.std.specs.Prelude.{◌≡◌, Some};
+ghost use Rattle.inverse_deps.specs.EdgeRows.{AreRowsBy};
 ghost use Rattle.inverse_deps.specs.Edges.{list_at, names_in};
+ghost use Rattle.inverse_deps.specs.Tables.{AreKept};
 
-use section_reader::Items;
+use plain_values::Items;
 use setting_rules::DepKind;
 use sorted_pairs::seek;
 use std::marker::Model;
@@ -14,28 +14,31 @@ use unit_name::UnitName;
 #[derive(Debug, Drop)]
 pub struct Edges {
     units: Vec<(UnitName, Items<Items<UnitName>>)>,
+    // The same by numbers, for each kind in order.
+    tables: Vec<Vec<Vec<usize>>>,
 }
 
 impl Model for Edges {
-    ghost use Rattle.std.specs.Prelude.{IsTrue};
-    ghost use Rattle.std.specs.FinMap.{is_sorted};
-    ghost use Rattle.unit_name.specs.Names.{name_cmp};
     ghost use Rattle.inverse_deps.specs.Edges.{EdgeMap};
+    ghost use Rattle.inverse_deps.specs.Tables.{AreKept};
 
     ghost Value = { EdgeMap };
 
     ghost view = { λ e. e.units.items };
 
-    ghost invariant = { λ e. IsTrue (is_sorted name_cmp e.units.items) };
+    ghost invariant = { λ e. AreKept e.units.items e.tables.items };
 }
 
 impl Edges {
-    // These lists, whose names are in byte order.
-    pub(crate) fn new(units: Vec<(UnitName, Items<Items<UnitName>>)>) -> Edges
-        requires sorted { IsTrue (is_sorted name_cmp units.items) }
+    // These lists, whose names are in byte order, and the same by numbers.
+    pub(crate) fn new(
+        units: Vec<(UnitName, Items<Items<UnitName>>)>,
+        tables: Vec<Vec<Vec<usize>>>,
+    ) -> Edges
+        requires kept { AreKept units.items tables.items }
         ensures edges { result ≡ units.items }
     {
-        Edges { units }
+        Edges { units, tables }
     }
 
     /// The units to which edges of a kind lead from a unit, by its main name, in byte order. Empty for a name that is of
@@ -49,15 +52,12 @@ impl Edges {
         }
     }
 
-    /// The same as by `of`, for a caller that walks over the names of the load in order: where the name stands at this
-    /// place it is found at once, and else it is sought. It takes no memory.
-    pub fn of_at(&self, place: usize, kind: DepKind, name: &UnitName) -> &[UnitName]
-        ensures names { result.now ≡ names_in self.now kind name.now }
+    /// From each name the edges of a kind, by the numbers of names in byte order: a row for each name, which rises, and is
+    /// empty where the name is of no unit. It takes no memory.
+    pub fn rows(&self, kind: DepKind) -> &[Vec<usize>]
+        ensures rows { AreRowsBy self.now kind result.now }
     {
-        if place < self.units.len() && self.units[place].0 == *name {
-            return list_of(self.units[place].1.as_slice(), kind);
-        }
-        self.of(kind, name)
+        &self.tables[kind as usize]
     }
 }
 

@@ -6,8 +6,8 @@ ghost use Rattle.join_law.specs.Maps.{IsHeld, IsMap, IsSinglePair, MapBelow};
 ghost use Rattle.join_law.specs.Order.{IsBetween, IsJoin};
 
 use crate::joins::Join;
-use crate::keys::Key;
 use crate::passes::join_copies_in_one;
+use plain_values::Key;
 use sorted_pairs::seek;
 use std::alloc::{AllocError, Global};
 

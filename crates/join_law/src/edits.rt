@@ -6,8 +6,8 @@ ghost use Rattle.join_law.specs.Maps.{IsMap, IsSinglePair, MapBelow};
 ghost use Rattle.join_law.specs.Order.{IsJoin, IsLeast, IsPartialJoin};
 
 use crate::joins::{Join, Rest};
-use crate::keys::Key;
 use crate::passes::join_pairs_in_one;
+use plain_values::Key;
 use sorted_pairs::seek;
 use std::mem;
 

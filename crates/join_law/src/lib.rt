@@ -1,4 +1,4 @@
-//! Values that are joined: the traits of keys and of joins with their laws, entries with versions, and maps of
+//! Values that are joined: the trait of joins with its laws, entries with versions, and maps of
 //! joins. What is joined comes to the same value in whatever order it is heard of.
 //!
 //! Promise: merge is the least upper bound; a refused merge lies between.
@@ -11,13 +11,12 @@
 mod copies;
 mod edits;
 mod joins;
-mod keys;
 mod maps;
 mod nested;
 mod passes;
 mod versions;
 
 pub use joins::{Join, Rest};
-pub use keys::Key;
 pub use maps::JoinMap;
+pub use plain_values::Key;
 pub use versions::{Entry, Version, Versioned};

@@ -8,7 +8,7 @@ ghost use Rattle.join_law.specs.Order.{IsJoin, IsLeast, IsPartialJoin};
 use crate::copies::{copy_pairs, join_copies, keys_of, same_pairs};
 use crate::edits::{join_pair, join_pairs};
 use crate::joins::{Join, Rest};
-use crate::keys::Key;
+use plain_values::Key;
 use sorted_pairs::seek;
 use std::alloc::{AllocError, Global};
 use std::marker::Model;

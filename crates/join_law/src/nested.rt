@@ -6,8 +6,8 @@ ghost use Rattle.join_law.specs.Maps.{IsHeld, IsMap, MapBelow, or_empty};
 ghost use Rattle.join_law.specs.Order.{IsBetween, IsJoin};
 
 use crate::joins::Join;
-use crate::keys::Key;
 use crate::maps::JoinMap;
+use plain_values::Key;
 use sorted_pairs::seek;
 use std::alloc::AllocError;
 

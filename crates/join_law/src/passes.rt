@@ -8,7 +8,7 @@ ghost use Rattle.join_law.specs.Maps.{IsHeld, IsMap, IsSinglePair, MapBelow};
 ghost use Rattle.join_law.specs.Order.{IsBetween, IsJoin, IsLeast, IsPartialJoin};
 
 use crate::joins::{Join, Rest};
-use crate::keys::Key;
+use plain_values::Key;
 use sorted_pairs::{pass_all, pass_below};
 use std::alloc::AllocError;
 use std::collections::VecDeque;

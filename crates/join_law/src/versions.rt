@@ -2,7 +2,7 @@
 ghost use Rattle.std.specs.Prelude.{◌≡◌, ◌↔◌, IsTrue, IsOk, OnOk, IfOk, OnErr, IfErr};
 
 use crate::joins::{Join, Rest};
-use crate::keys::Key;
+use plain_values::Key;
 use std::alloc::AllocError;
 use std::cmp::Ordering;
 

@@ -1,3 +1,5 @@
 pub mod Paths
 pub mod PathLaws
 pub mod TextLaws
+pub mod Levels
+pub mod LevelLaws

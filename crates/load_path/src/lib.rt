@@ -1,12 +1,15 @@
-//! Paths of the unit load path: a directory, perhaps a folder, and a name (systemd.unit(5), "Unit File Load Path").
-//! A path is read from its text or refused by name, and ordered by rank, folder and name.
+//! Paths of the unit load path, in a directory and perhaps a folder (systemd.unit(5), "Unit File Load Path"): read from
+//! their texts or refused by name, and in order. A path's level is what has precedence: of all that stands for a name,
+//! the first level that says something counts.
 //!
-//! Promise: refusals are named.
+//! Promise: refusals are named; units are exact.
 #![tactic(auto)]
 
 mod laws;
+mod levels;
 mod paths;
 mod texts;
 
-pub use laws::paths_are_their_texts;
+pub use laws::{level_laws, paths_are_their_texts};
+pub use levels::{LEVELS, level_count, level_of};
 pub use paths::{COMPONENT_LIMIT, Path, PathFault};

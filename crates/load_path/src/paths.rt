@@ -3,8 +3,7 @@ ghost use Rattle.std.specs.Prelude.{◌≡◌, ◌<◌, ◌⊎◌, ◌||◌, ◌
 ghost use Rattle.load_path.specs.Paths.{directory_of, has_folder, is_component, path_of, text_of, IsPath};
 
 use crate::texts::{Parts, directory};
-use byte_strings::Bytes;
-use join_law::Key;
+use plain_values::{Bytes, Key, TryClone};
 use std::alloc::{AllocError, Global};
 use std::marker::Model;
 use thiserror::Error;
@@ -169,12 +168,14 @@ impl Path {
     }
 }
 
+impl TryClone for Path {
+    fn try_clone(&self) -> Result<Path, AllocError> {
+        Path::try_clone(self)
+    }
+}
+
 impl Key for Path {
     ghost use Rattle.load_path.specs.PathLaws.{path_cmp-IsAntisymmetric};
 
     ghost exact = { path_cmp-IsAntisymmetric };
-
-    fn try_clone(&self) -> Result<Path, AllocError> {
-        Path::try_clone(self)
-    }
 }

@@ -10,7 +10,7 @@ ghost use Rattle.name_closure.specs.Loading.{LeadsByLoad, AreLoaded, IsRound};
 use crate::loads::{CloseFault, Loads, Round};
 use crate::names::load_round;
 use crate::rounds::{add_loaded, copy_of, new_of};
-use join_law::Key;
+use plain_values::Key;
 use std::alloc::{AllocError, Global};
 use std::collections::BTreeMap;
 

@@ -12,7 +12,7 @@ ghost use Rattle.name_closure.specs.Loading.{LeadsByLoad, AreLoaded};
 ghost use Rattle.name_closure.specs.SourceLaws.{AreSameNodes, AreSameSteps, IsInEither};
 
 use crate::loads::Loads;
-use join_law::Key;
+use plain_values::Key;
 
 /// A set of nodes, which only contracts see.
 pub trait NodeSet<N> {

@@ -2,7 +2,7 @@
 ghost use Rattle.std.specs.Prelude.{◌≡◌, List, All, IfOk};
 ghost use Rattle.name_closure.specs.Loading.{AreLoads};
 
-use join_law::Key;
+use plain_values::Key;
 use std::alloc::{AllocError, Global};
 use thiserror::Error;
 

@@ -7,7 +7,7 @@ ghost use Rattle.list_laws.specs.Members.{IsAmong};
 ghost use Rattle.name_closure.specs.Loading.{AreLoaded, AreOthers, IsRound};
 
 use crate::loads::{Loads, Round, load_each};
-use join_law::Key;
+use plain_values::Key;
 use std::alloc::{AllocError, Global};
 
 /// What a round loads, by one thread: each of its nodes with what is loaded for it, and the other nodes that are named

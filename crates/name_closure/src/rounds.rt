@@ -9,7 +9,7 @@ ghost use Rattle.name_closure.specs.Loading.{AreLoaded};
 
 use crate::loads::Loads;
 use crate::names::each_once;
-use join_law::Key;
+use plain_values::Key;
 use std::alloc::{AllocError, Global};
 use std::collections::BTreeMap;
 

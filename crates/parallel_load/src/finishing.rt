@@ -12,7 +12,7 @@ use crate::kept::Kept;
 use crate::loaded::{Loaded, NameLoad};
 use crate::loader::add_names;
 use crate::mains::Aliases;
-use section_reader::Items;
+use plain_values::Items;
 use std::alloc::{AllocError, Global};
 use std::collections::BTreeMap;
 use std::thread;

@@ -10,7 +10,6 @@
 
 mod faults;
 mod finishing;
-mod gates;
 mod kept;
 mod laws;
 mod loaded;
@@ -20,9 +19,8 @@ mod mains;
 mod sources;
 
 pub use faults::LoadFault;
-pub use gates::OpenGate;
 pub use laws::{load_laws, one_load};
 pub use loaded::{Loaded, NameLoad};
 pub use loads::{MOST_NAMES, load_fleet, load_here};
 pub use unit_loads::{Status, Unit, UnitNote, load_one};
-pub use worker_rounds::{Gate, MOST_WORKERS, TURNS};
+pub use worker_rounds::{Gate, MOST_WORKERS, TURNS, is_crew};

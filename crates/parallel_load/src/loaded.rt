@@ -5,7 +5,7 @@ ghost use Rattle.std.specs.Option.{option_copied};
 ghost use Rattle.unit_name.specs.Names.{name_cmp};
 ghost use Rattle.parallel_load.specs.Loads.{load_at, main_in, unit_in, units_in};
 
-use section_reader::Items;
+use plain_values::Items;
 use sorted_pairs::seek;
 use std::alloc::{AllocError, Global};
 use std::marker::Model;

@@ -15,7 +15,7 @@ use replica_store::Store;
 use std::alloc::Global;
 use std::thread::Threads;
 use unit_name::UnitName;
-use worker_rounds::{Gate, close_loaded_by_workers};
+use worker_rounds::{Gate, close_loaded_by_workers, is_crew};
 
 /// So many names are loaded at most, aliases counted.
 pub const MOST_NAMES: usize = 4096;
@@ -56,7 +56,7 @@ pub fn load_fleet<R: Threads + Sync, G: Gate + Sync>(
     ensures over { IfErr result (λ fault. OnTooMany fault (IsTooLarge store.now extra.now)) }
     ensures not_over { IfOk result (λ _. ¬ IsTooLarge store.now extra.now) }
 {
-    if workers == 0 || workers > worker_rounds::MOST_WORKERS {
+    if !is_crew(workers) {
         return Err(LoadFault::Workers);
     }
     let sources = sources(alloc, store, extra)?;

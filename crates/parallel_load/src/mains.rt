@@ -9,7 +9,7 @@ ghost use Rattle.parallel_load.specs.Mains.{alias_pair, main_by, other_mains};
 
 use crate::kept::Kept;
 use crate::loaded::NameLoad;
-use section_reader::Items;
+use plain_values::Items;
 use setting_rules::{DependencyList, in_byte_order};
 use sorted_pairs::seek;
 use std::alloc::{AllocError, Global};

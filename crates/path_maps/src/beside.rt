@@ -12,7 +12,7 @@ ghost use Rattle.path_maps.specs.Spread.{AllKeys};
 use crate::entries::Placed;
 use crate::meets::meet;
 use crate::stores::{FolderMap, NameMap, RankMap};
-use byte_strings::Bytes;
+use plain_values::Bytes;
 use edit_sums::{Content, Entry};
 use join_law::Versioned;
 use std::marker::Model;

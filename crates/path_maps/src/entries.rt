@@ -9,7 +9,7 @@ ghost use Rattle.path_maps.specs.PathMaps.{in_folder, listed};
 ghost use Rattle.path_maps.specs.Spread.{AllKeys};
 
 use crate::stores::{FolderMap, NameMap, RankMap};
-use byte_strings::Bytes;
+use plain_values::Bytes;
 use edit_sums::{Content, Entry};
 use join_law::Versioned;
 use load_path::Path;

@@ -7,7 +7,7 @@ ghost use Rattle.path_maps.specs.Folders.{IsPlaceOf};
 ghost use Rattle.path_maps.specs.PathMaps.{AreRanks, bytes_cmp};
 
 use crate::stores::{NameMap, RankMap};
-use byte_strings::{Bytes, order};
+use plain_values::{Bytes, order};
 use std::cmp::Ordering;
 
 // Where a key of these bytes stands, or as an error where it would stand. O(log n), without memory.

@@ -5,7 +5,7 @@ ghost use Rattle.std.specs.declared.cmp.Ordering.TheVariants.{Less};
 ghost use Rattle.std.specs.FinMap.{find, is_sorted};
 ghost use Rattle.path_maps.specs.PathMaps.{bytes_cmp};
 
-use byte_strings::Bytes;
+use plain_values::Bytes;
 use sorted_pairs::seek;
 use std::cmp::Ordering;
 

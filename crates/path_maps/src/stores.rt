@@ -12,7 +12,7 @@ use crate::changes::count_changes;
 use crate::counts::{Counts, count_entries};
 use crate::entries::{Entries, Placed};
 use crate::look_ups::{folder_at, pair_at};
-use byte_strings::Bytes;
+use plain_values::Bytes;
 use edit_sums::{Content, Edit, Entry};
 use join_law::{Join, JoinMap, Rest, Versioned};
 use load_path::Path;

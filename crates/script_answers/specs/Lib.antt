@@ -1,4 +1,3 @@
-pub mod Crews
 pub mod CrowdLaws
 pub mod Crowds
 pub mod FileLaws

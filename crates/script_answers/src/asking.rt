@@ -9,7 +9,7 @@ use crate::refusals::fault_of_plan;
 use crate::requests::{read_name, read_request};
 use crate::unit_lines::unit_text;
 use fleet_answers::{Answer, AnswerFault, Question, answer_question};
-use parallel_load::OpenGate;
+use worker_rounds::OpenGate;
 use replica_store::Store;
 use script_commands::{Fault, Refusal, Words};
 use std::alloc::Global;

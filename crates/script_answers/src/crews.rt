@@ -1,8 +1,9 @@
 //! How many workers load.
 ghost use Rattle.std.specs.Prelude.{◌≡◌, MatchOption};
-ghost use Rattle.script_answers.specs.Crews.{IsCrew};
+ghost use Rattle.worker_rounds.specs.Crews.{IsCrew};
 
 use std::marker::Model;
+use worker_rounds::is_crew;
 
 /// How many workers load: 1 to 64.
 #[derive(Debug, Drop)]
@@ -12,7 +13,7 @@ pub struct Crew {
 
 impl Model for Crew {
     ghost use Rattle.std.specs.Prelude.{ℕ};
-    ghost use Rattle.script_answers.specs.Crews.{IsCrew};
+    ghost use Rattle.worker_rounds.specs.Crews.{IsCrew};
 
     ghost Value = { ℕ };
 
@@ -33,10 +34,11 @@ impl Crew {
     pub fn of(count: u32) -> Option<Crew>
         ensures crew { MatchOption result (¬ IsCrew count) (λ crew. crew ≡ count) }
     {
-        if count == 0 || count > 64 {
-            return None;
+        if is_crew(count as usize) {
+            Some(Crew { count })
+        } else {
+            None
         }
-        Some(Crew { count })
     }
 
     /// How many they are.

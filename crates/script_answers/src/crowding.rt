@@ -6,7 +6,7 @@ ghost use Rattle.script_answers.specs.Crowds.{TellsCrowd};
 
 use crate::answers::crowd_done;
 use crowds::{CrowdFault, ROOM, crowd};
-use parallel_load::OpenGate;
+use worker_rounds::OpenGate;
 use replica_store::Replica;
 use script_commands::{EditCount, Fault, Refusal};
 use std::alloc::Global;

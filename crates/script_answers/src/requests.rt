@@ -3,8 +3,8 @@ ghost use Rattle.std.specs.Prelude.{◌≡◌, Ok, MatchResult};
 ghost use Rattle.unit_name.specs.Names.{name_of};
 ghost use Rattle.script_answers.specs.Requests.{IsNameFault, names_of, request_of};
 
+use plain_values::Items;
 use script_commands::{Fault, Words};
-use section_reader::Items;
 use start_plan::Request;
 use std::alloc::Global;
 use unit_name::UnitName;

@@ -1,8 +1,8 @@
 //! What `read` answers of single lines.
-ghost use Rattle.std.specs.Prelude.{◌≡◌, IfOk};
+ghost use Rattle.std.specs.Prelude.{◌≡◌};
 ghost use Rattle.section_reader.specs.Words.{code_of};
 
-use byte_strings::Bytes;
+use plain_values::{Bytes, TryClone};
 use std::alloc::AllocError;
 use std::fmt;
 
@@ -19,11 +19,9 @@ pub struct Assignment {
     pub line: usize,
 }
 
-impl Assignment {
-    /// An equal assignment. It fails for want of memory alone.
-    pub fn try_clone(&self) -> Result<Assignment, AllocError>
-        ensures copy { IfOk result (λ copy. copy ≡ self.now) }
-    {
+/// An equal assignment, whose texts share their bytes.
+impl TryClone for Assignment {
+    fn try_clone(&self) -> Result<Assignment, AllocError> {
         Ok(Assignment {
             section: self.section.try_clone()?,
             key: self.key.try_clone()?,
@@ -81,4 +79,10 @@ pub struct Note {
     pub line: usize,
     /// What is wrong with it.
     pub kind: NoteKind,
+}
+
+impl TryClone for Note {
+    fn try_clone(&self) -> Result<Note, AllocError> {
+        Ok(*self)
+    }
 }

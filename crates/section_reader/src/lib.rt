@@ -7,7 +7,6 @@
 #![tactic(auto)]
 
 mod assignments;
-mod items;
 mod laws;
 mod lines;
 mod logical;
@@ -17,8 +16,7 @@ mod reader;
 mod sections;
 
 pub use assignments::{Assignment, Note, NoteKind};
-pub use byte_strings::Bytes;
-pub use items::Items;
+pub use plain_values::Bytes;
 pub use laws::{reading_laws, writing_laws};
 pub use reader::read;
 pub use sections::Sections;

@@ -1,6 +1,6 @@
 //! Where a reader stands in a file.
 
-use byte_strings::Bytes;
+use plain_values::Bytes;
 
 /// What stands before a line that doesn't begin with a bracket.
 #[derive(Debug, Drop)]

@@ -11,7 +11,7 @@ use crate::logical::join;
 use crate::parts::{LineForm, form, header_name, is_bracketed, pair_of, trim};
 use crate::places::Place;
 use crate::sections::Sections;
-use byte_strings::Bytes;
+use plain_values::Bytes;
 use std::alloc::{AllocError, Global};
 
 /// Reads the bytes of a unit file. It refuses for want of memory alone.

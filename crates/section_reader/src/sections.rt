@@ -2,7 +2,7 @@
 ghost use Rattle.std.specs.Prelude.{◌≡◌, ◌++◌, ◌∷◌, [], IfOk, OnOk};
 
 use crate::assignments::{Assignment, Note};
-use crate::items::Items;
+use plain_values::{Items, TryClone};
 use std::alloc::{AllocError, Global};
 
 /// What a unit file says: its assignments, and notes on lines that assign nothing, each in the order of the file.

@@ -9,8 +9,7 @@ use crate::kinds::DepKind;
 use crate::notes::{SettingNote, SettingNoteKind};
 use crate::word_names::named_by;
 use crate::words::words;
-use byte_strings::Bytes;
-use section_reader::Items;
+use plain_values::{Bytes, Items};
 use std::alloc::{AllocError, Global};
 use unit_name::UnitName;
 

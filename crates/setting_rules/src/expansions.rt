@@ -5,7 +5,7 @@ ghost use Rattle.setting_rules.specs.Rows.{rows_of, escape_notes};
 
 use crate::rows::Values;
 use crate::settings::Settings;
-use byte_strings::Bytes;
+use plain_values::Bytes;
 use std::alloc::{AllocError, Global};
 use unit_name::{ExpandFault, UnitName, expand as expand_bytes};
 

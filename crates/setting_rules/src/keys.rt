@@ -2,7 +2,7 @@
 ghost use Rattle.std.specs.Prelude.{◌≡◌, IfOk};
 
 use crate::rules::KeyRule;
-use byte_strings::Bytes;
+use plain_values::Bytes;
 use section_reader::Assignment;
 use std::alloc::AllocError;
 

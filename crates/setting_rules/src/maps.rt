@@ -3,9 +3,8 @@ ghost use Rattle.std.specs.Prelude.{◌≡◌, ◌↔◌, ◌<◌, ◌++◌, [],
 ghost use Rattle.setting_rules.specs.Maps.{place_of, with_key, changed, values_at};
 
 use crate::keys::SettingKey;
-use byte_strings::Bytes;
+use plain_values::{Bytes, Items};
 use indexmap::IndexMap;
-use section_reader::Items;
 use std::alloc::{AllocError, Global};
 use std::marker::Model;
 

@@ -3,7 +3,7 @@ ghost use Rattle.std.specs.Prelude.{◌≡◌};
 ghost use Rattle.setting_rules.specs.Notes.{code_of};
 
 use crate::keys::SettingKey;
-use byte_strings::Bytes;
+use plain_values::Bytes;
 use std::fmt;
 
 /// Why a value, or a word of one, counts for nothing.

@@ -5,8 +5,7 @@ ghost use Rattle.setting_rules.specs.Rows.{is_dependency, rows_at, escape_notes_
 use crate::expansions::expanded;
 use crate::keys::SettingKey;
 use crate::notes::{SettingNote, SettingNoteKind};
-use byte_strings::Bytes;
-use section_reader::Items;
+use plain_values::{Bytes, Items};
 use std::alloc::{AllocError, Global};
 use unit_name::UnitName;
 

@@ -10,7 +10,8 @@ use crate::keys::SettingKey;
 use crate::maps::SettingMap;
 use crate::notes::{SettingNote, SettingNoteKind};
 use crate::rules::KeyRule;
-use section_reader::{Assignment, Items};
+use plain_values::Items;
+use section_reader::Assignment;
 use std::alloc::{AllocError, Global};
 
 /// What the assignments of a unit come to.

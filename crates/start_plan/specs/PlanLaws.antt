@@ -154,7 +154,7 @@ spares_itself : (s : EntryMap) (extra : List Name) (load : LoadMap) (edges : Edg
     → SparesItself (case_of load edges request)
 spares_itself s extra load edges request l a u h =
     let r = named_by (λ dep. names_in edges dep u) (kind.Conflicts ∷ []) u h in
-    let e : IsEdge load r.0 u u = ((a r.0 u).exact u).0 r.1.1 in
+    let e : IsEdge load r.0 u u = ((a.lists r.0 u).exact u).0 r.1.1 in
     elim ((edges_come_from_names s extra load r.0 u u l).0 e).2 [ inl d ↦ d.other refl | inr d ↦ d.other refl ]
 
 pub plans_keep_promises : PlansKeepPromises

@@ -11,8 +11,8 @@ ghost use Rattle.start_plan.specs.Tellings.{IsFaultOf, IsToldBy, IsTellable};
 use crate::requests::{Plan, Refusal};
 use inverse_deps::names_of;
 use parallel_load::{Loaded, NameLoad, Status};
+use plain_values::Items;
 use plan_choice::{RowPlan, RowRefusal};
-use section_reader::Items;
 use std::alloc::{AllocError, Global};
 use unit_name::UnitName;
 

@@ -1,6 +1,6 @@
 //! What is asked of a plan, and what it answers.
 
-use section_reader::Items;
+use plain_values::Items;
 use std::alloc::AllocError;
 use thiserror::Error;
 use unit_name::UnitName;

@@ -1,112 +1,61 @@
 -- The graph's tables, and the steps that they give.
-use Rattle.std.proofs.Common.{◌≡◌, ◌<◌, ◌⊎◌, IsTrue, true, ℕ, inl, inr, List, [], ◌∷◌, ◌++◌, Some, get_or, map, refl, sym, subst, ◌∙◌, length, arith, ◌≤◌}
+use Rattle.std.proofs.Common.{◌≡◌, ◌<◌, ◌⊎◌, IsTrue, Bool, ℕ, inl, inr, List, [], ◌∷◌, ◌++◌, Some, get_or, map, refl, ap, sym, subst, ◌∙◌, length, arith}
 use Rattle.std.specs.declared.vec.Vec.{Vec}
 use Rattle.std.specs.declared.alloc.Global.{Global}
 use Rattle.std.specs.Cmp.Lexicographic.{nat_list_cmp_total}
-use Rattle.std.specs.FinMap.{is_sorted}
-use Rattle.list_laws.specs.Members.{IsAmong, IsAmong-append_left, IsAmong-append_right, among_from_contains, contains_from_among}
-use Rattle.list_laws.specs.Rising.{one_rising_list}
-use Rattle.std.specs.List.{All, list_any}
-use Rattle.index_rows.specs.StepLaws.{same_truth}
-use Rattle.std.specs.List.Sorted.{IsStrictlySortedBy}
+use Rattle.list_laws.specs.Members.{IsAmong, IsAmong-append_left, IsAmong-append_right, among_from_contains}
+use Rattle.std.specs.List.{All}
 use Rattle.std.specs.Ordering.{nat_cmp}
-use Rattle.std.specs.declared.cmp.Ordering.{Ordering}
-use Rattle.std.proofs.lemmas.Bool.{cases_lt}
-use Rattle.index_rows.specs.RowLaws.{row-past}
 use Rattle.std.proofs.lemmas.List.Elements.{Contains-get_or}
 use Rattle.name_closure.specs.Chains.{IsClosure, IsDistances}
 use Rattle.name_closure.specs.ListedLaws.{Listed, Named}
 use Rattle.index_rows.specs.ListLaws.{IsAmong-push_cases}
 use Rattle.index_rows.specs.Numbering.{AreNames, AreNamedSteps, IsNumbering}
 use Rattle.index_rows.specs.NumberingLaws.{among_mapped, chains_named, closure_named, mapped_from, reached_named}
-use Rattle.index_rows.specs.Rows.{row}
+use Rattle.index_rows.specs.Rows.{row, AreRowsOf}
 use Rattle.unit_name.specs.Names.{Name, name_cmp}
 use Rattle.setting_rules.specs.declared.kinds.DepKind.{DepKind}
-use Rattle.setting_rules.specs.Dependencies.{in_byte_order}
 use Rattle.setting_rules.specs.Kinds.{inverse}
-use Rattle.setting_rules.specs.OrderLaws.{IsAmong-from_any, any-from_IsAmong, names_rise, names_stay}
 use Rattle.parallel_load.specs.Loads.{LoadMap}
-use Rattle.fragment_choice.specs.Choices.{is_same}
 use Rattle.inverse_deps.specs.EdgeLaws.{edges_join_units, inverses_are_one}
-use Rattle.inverse_deps.specs.Edges.{AreEdges, EdgeMap, IsUnitIn, names_in}
-use Rattle.inverse_deps.specs.MakingLaws.{AreMade, row_holds, rows_of_steps}
+use Rattle.inverse_deps.specs.EdgeRows.{AreRowsBy}
+use Rattle.inverse_deps.specs.Edges.{AreEdges, EdgeMap, names_in}
 use Rattle.inverse_deps.specs.NamingLaws.{listed_either, names_along}
-use Rattle.inverse_deps.specs.NumberLaws.{load_numbering}
+use Rattle.inverse_deps.specs.NumberLaws.{keys_length, load_numbering, sorted_by_keys}
 use Rattle.inverse_deps.specs.Numbers.{count_of, name_at}
 use Rattle.unit_graph.specs.DistanceNames.{distances_named}
 use Rattle.index_rows.specs.Steps.{steps_from}
-use Rattle.unit_graph.specs.Graphs.{GraphMap, HasInverses, IsNumberFor, LeadsBy, StandsFor}
+use Rattle.unit_graph.specs.Graphs.{GraphMap, HasInverses, IsNumberFor, LeadToUnits, LeadsBy, StandsFor}
 use Rattle.unit_graph.specs.Tables.{IsTable}
 
-in_order : (names : List Name) (v : Name) → IsAmong v names → IsAmong v (in_byte_order names)
-in_order names v h = among_from_contains v (in_byte_order names) ((names_stay names v).1 (contains_from_among v names h))
+-- the rows of edges are the tables of their load
+pub table_of_rows : (load : LoadMap) (edges : EdgeMap) (dep : DepKind) (rows : List (Vec ℕ Global)) → AreEdges load edges → AreRowsBy edges dep rows → IsTable load edges dep rows
+table_of_rows load edges dep rows are r =
+    let count : length edges ≡ count_of load = sym (keys_length edges) ∙ ap length are.names ∙ keys_length load.names in
+    let P : ℕ → Type 0 = λ n. AreRowsOf n rows in
+    record {
+      within = subst P count r.within;
+      rising = r.rising;
+      exact = λ i l. ap (λ ks. map (λ n. get_or ks n []) (row rows i)) (sym are.names) ∙ r.exact i (omega (arith, l, count)) ∙ ap (λ ks. names_in edges dep (get_or ks i [])) are.names;
+    }
 
-from_order : (names : List Name) (v : Name) → IsAmong v (in_byte_order names) → IsAmong v names
-from_order names v h = among_from_contains v names ((names_stay names v).0 (contains_from_among v (in_byte_order names) h))
-
-rising_none : {X : Type 0} (cmp : X → X → Ordering) → IsStrictlySortedBy cmp []
-unfolding IsStrictlySortedBy
-rising_none cmp = tt
-
--- rows that were made for all numbers are a table
-module _ (load : LoadMap) (edges : EdgeMap) (are : AreEdges load edges) (dep : DepKind) (rows : List (Vec ℕ Global))
-    (made : AreMade (λ k (r : Vec ℕ Global). AreNames (count_of load) (name_at load) (Listed r.items) (λ v. IsAmong v (names_in edges dep (name_at load k)) × IsUnitIn load v) × IsStrictlySortedBy nat_cmp r.items) (count_of load) rows) where
-  made_row : (i : ℕ) → i < count_of load → AreNames (count_of load) (name_at load) (Listed (row rows i)) (λ v. IsAmong v (names_in edges dep (name_at load i)) × IsUnitIn load v)
-  made_row i l =
-      let P : ℕ → Type 0 = λ n. i < n in
-      row_holds (λ r. AreNames (count_of load) (name_at load) (Listed r) (λ v. IsAmong v (names_in edges dep (name_at load i)) × IsUnitIn load v)) rows i (subst P (sym made.count) l)
-      (λ d. (made.each i d l).0)
-
-  rising_row : (i : ℕ) → IsStrictlySortedBy nat_cmp (row rows i)
-  rising_row i = elim (cases_lt i (count_of load)) [
-    | inl l ↦ (let P : ℕ → Type 0 = λ n. i < n in row_holds (λ r. IsStrictlySortedBy nat_cmp r) rows i (subst P (sym made.count) l) (λ d. (made.each i d l).1))
-    | inr l ↦ (let P : List ℕ → Type 0 = λ r. IsStrictlySortedBy nat_cmp r in
-        let k : length rows ≤ i = (let m : count_of load ≤ i = l in omega (arith, m, made.count)) in
-        subst P (sym (row-past rows i k)) (rising_none nat_cmp))
-  ]
-
-  exact : (i : ℕ) → i < count_of load → in_byte_order (map (name_at load) (row rows i)) ≡ names_in edges dep (name_at load i)
-  exact i l =
-      one_rising_list name_cmp nat_list_cmp_total (in_byte_order (map (name_at load) (row rows i))) (names_in edges dep (name_at load i))
-      (names_rise (map (name_at load) (row rows i))) (are dep (name_at load i)).rising (λ v. (there v, back v))
-    where
-      there : (v : Name) → IsAmong v (in_byte_order (map (name_at load) (row rows i))) → IsAmong v (names_in edges dep (name_at load i))
-      there v h =
-          let r = mapped_from (name_at load) v (row rows i) (from_order (map (name_at load) (row rows i)) v h) in
-          let P : Name → Type 0 = λ w. IsAmong w (names_in edges dep (name_at load i)) in
-          subst P r.1.1 ((made_row i l).named r.0 r.1.0).0
-
-      back : (v : Name) → IsAmong v (names_in edges dep (name_at load i)) → IsAmong v (in_byte_order (map (name_at load) (row rows i)))
-      back v h =
-          let unit = (edges_join_units load dep (name_at load i) v (((are dep (name_at load i)).exact v).0 h)).1 in
-          let r = (made_row i l).numbered v (h, unit) in
-          let P : Name → Type 0 = λ w. IsAmong w (map (name_at load) (row rows i)) in
-          in_order (map (name_at load) (row rows i)) v (subst P r.1.1 (among_mapped (name_at load) r.0 (row rows i) r.1.0))
-
-  pub made_table : IsTable load edges dep rows
-  made_table = record { rising = rising_row; within = rows_of_steps (count_of load) rows made.count (λ i l. (made_row i l).within); exact = exact }
-
--- an edge and its inverse are one, as tests
-pub edges_and_inverses : (load : LoadMap) (edges : EdgeMap) → AreEdges load edges → (dep : DepKind) (u v : Name) → list_any (is_same v) (names_in edges dep u) ≡ list_any (is_same u) (names_in edges (inverse dep) v)
-edges_and_inverses load edges are dep u v = same_truth (list_any (is_same v) (names_in edges dep u)) (list_any (is_same u) (names_in edges (inverse dep) v)) there back
-  where
-    there : list_any (is_same v) (names_in edges dep u) ≡ true → list_any (is_same u) (names_in edges (inverse dep) v) ≡ true
-    there h = any-from_IsAmong u (names_in edges (inverse dep) v)
-        (((are (inverse dep) v).exact u).1 ((inverses_are_one load dep u v).0 (((are dep u).exact v).0 (IsAmong-from_any v (names_in edges dep u) h))))
-
-    back : list_any (is_same u) (names_in edges (inverse dep) v) ≡ true → list_any (is_same v) (names_in edges dep u) ≡ true
-    back h = any-from_IsAmong v (names_in edges dep u)
-        (((are dep u).exact v).1 ((inverses_are_one load dep u v).1 (((are (inverse dep) v).exact u).0 (IsAmong-from_any u (names_in edges (inverse dep) v) h))))
-
-pub has_inverses : (graph : GraphMap) → ((dep : DepKind) (u v : Name) → list_any (is_same v) (names_in graph.edges dep u) ≡ list_any (is_same u) (names_in graph.edges (inverse dep) v)) → HasInverses graph
-has_inverses graph same dep u v = (
-  λ h. IsAmong-from_any u (names_in graph.edges (inverse dep) v) (sym (same dep u v) ∙ any-from_IsAmong v (names_in graph.edges dep u) h),
-  λ h. IsAmong-from_any v (names_in graph.edges dep u) (same dep u v ∙ any-from_IsAmong u (names_in graph.edges (inverse dep) v) h),
+-- an edge and its inverse are one
+pub has_inverses : (graph : GraphMap) → AreEdges graph.load graph.edges → HasInverses graph
+has_inverses graph are dep u v = (
+  λ h. ((are.lists (inverse dep) v).exact u).1 ((inverses_are_one graph.load dep u v).0 (((are.lists dep u).exact v).0 h)),
+  λ h. ((are.lists dep u).exact v).1 ((inverses_are_one graph.load dep u v).1 (((are.lists (inverse dep) v).exact u).0 h)),
 )
 
+-- edges lead to units
+pub lead_to_units : (graph : GraphMap) → AreEdges graph.load graph.edges → LeadToUnits graph
+lead_to_units graph are dep u v h = (edges_join_units graph.load dep u v (((are.lists dep u).exact v).0 h)).1
+
 -- the numbers of a graph's names rise with them
-pub graph_numbering : (load graph : LoadMap) → load ≡ graph → IsTrue (is_sorted name_cmp load.names) → IsNumbering (count_of graph) (name_at graph) name_cmp
-graph_numbering load graph same sorted = let P : LoadMap → Type 0 = λ m. IsNumbering (count_of m) (name_at m) name_cmp in subst P same (load_numbering load sorted)
+pub graph_numbering : (load graph : LoadMap) → load ≡ graph → (edges : EdgeMap) → AreEdges load edges → IsNumbering (count_of graph) (name_at graph) name_cmp
+graph_numbering load graph same edges are =
+    let P : LoadMap → Type 0 = λ m. IsNumbering (count_of m) (name_at m) name_cmp in
+    let Q : Bool → Type 0 = λ b. IsTrue b in
+    subst P same (load_numbering load (subst Q (sorted_by_keys name_cmp edges load.names are.names) are.in_order))
 
 -- by no kind no step leads anywhere
 pub no_kinds : (load : LoadMap) (edges : EdgeMap) (steps : List (List (Vec ℕ Global))) → steps ≡ [] → AreNamedSteps (count_of load) (name_at load) (Named (steps_from steps)) (LeadsBy edges [])
@@ -121,10 +70,8 @@ table_row load edges dep rows t i l is e below =
     let P : List ℕ → Type 0 = λ js. AreNames (count_of load) (name_at load) (Listed js) (λ v. IsAmong v (names_in edges dep (name_at load i))) in
     subst P (sym e) (record {
       within = below;
-      named = λ j h. (let Q : List Name → Type 0 = λ ns. IsAmong (name_at load j) ns in
-          subst Q (t.exact i l) (in_order (map (name_at load) (row rows i)) (name_at load j) (among_mapped (name_at load) j (row rows i) h)));
-      numbered = λ v h. (let Q : List Name → Type 0 = λ ns. IsAmong v ns in
-          mapped_from (name_at load) v (row rows i) (from_order (map (name_at load) (row rows i)) v (subst Q (sym (t.exact i l)) h)));
+      named = λ j h. (let Q : List Name → Type 0 = λ ns. IsAmong (name_at load j) ns in subst Q (t.exact i l) (among_mapped (name_at load) j (row rows i) h));
+      numbered = λ v h. (let Q : List Name → Type 0 = λ ns. IsAmong v ns in mapped_from (name_at load) v (row rows i) (subst Q (sym (t.exact i l)) h));
     })
 
 -- one more kind

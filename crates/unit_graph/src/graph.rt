@@ -1,5 +1,5 @@
 //! The graph of a load.
-ghost use Rattle.std.specs.Prelude.{◌≡◌, ◌↔◌, IfOk, IsTrue, MatchOption};
+ghost use Rattle.std.specs.Prelude.{◌≡◌, ◌↔◌, IsTrue, MatchOption};
 ghost use Rattle.std.specs.Option.{option_copied};
 ghost use Rattle.index_rows.specs.Numbering.{IsNumbering};
 ghost use Rattle.unit_name.specs.Names.{name_cmp};
@@ -8,11 +8,9 @@ ghost use Rattle.inverse_deps.specs.Edges.{AreEdges, names_in};
 ghost use Rattle.inverse_deps.specs.Numbers.{count_of, name_at};
 ghost use Rattle.unit_graph.specs.Graphs.{HasInverses, IsKnown, IsNumberFor, LeadToUnits, manual_in, status_in};
 
-use crate::tables::tables;
 use inverse_deps::{Edges, number_of};
 use parallel_load::{Loaded, Status};
 use setting_rules::DepKind;
-use std::alloc::{AllocError, Global};
 use std::marker::Model;
 use unit_name::UnitName;
 
@@ -21,12 +19,11 @@ use unit_name::UnitName;
 pub struct Graph<'a> {
     pub(crate) loaded: &'a Loaded,
     pub(crate) edges: &'a Edges,
-    pub(crate) tables: Vec<Vec<Vec<usize>>>,
 }
 
 impl<'a> Model for Graph<'a> {
+    ghost use Rattle.inverse_deps.specs.Edges.{AreEdges};
     ghost use Rattle.unit_graph.specs.Graphs.{GraphMap, coded_graph};
-    ghost use Rattle.unit_graph.specs.Tables.{AreTables};
 
     ghost Value = { GraphMap };
 
@@ -34,27 +31,17 @@ impl<'a> Model for Graph<'a> {
 
     ghost view = { λ g. record { load = g.loaded.now; edges = g.edges.now } };
 
-    ghost invariant = { λ g. AreTables g.loaded.now g.edges.now g.tables.items };
+    ghost invariant = { λ g. AreEdges g.loaded.now g.edges.now };
 }
 
 impl<'a> Graph<'a> {
-    /// The graph of a load and its edges. It fails for want of memory alone. O(n) and the edges, beside the logarithm of n,
-    /// for n names.
-    pub fn build(
-        alloc: Global,
-        loaded: &'a Loaded,
-        edges: &'a Edges,
-    ) -> Result<Graph<'a>, AllocError>
+    /// The graph of a load and its edges, whose rows are its steps. It takes no memory.
+    pub fn build(loaded: &'a Loaded, edges: &'a Edges) -> Graph<'a>
         requires edges { AreEdges loaded.now edges.now }
-        ensures load { IfOk result (λ graph. graph.load ≡ loaded.now) }
-        ensures edges { IfOk result (λ graph. graph.edges ≡ edges.now) }
+        ensures load { result.load ≡ loaded.now }
+        ensures edges { result.edges ≡ edges.now }
     {
-        let tables = tables(alloc, loaded, edges)?;
-        Ok(Graph {
-            loaded,
-            edges,
-            tables,
-        })
+        Graph { loaded, edges }
     }
 
     /// The load. Numbers of names rise with them.

@@ -9,7 +9,6 @@ mod laws;
 mod members;
 mod reaches;
 mod rows;
-mod tables;
 
 pub use graph::Graph;
 pub use laws::graph_laws;

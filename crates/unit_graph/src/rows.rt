@@ -17,7 +17,7 @@ use std::alloc::{AllocError, Global};
 
 impl<'a> Graph<'a> {
     /// From each unit the steps of these kinds, by numbers. Numbers rise with names, and none leads from an alias. It fails
-    /// for want of memory alone. O(the kinds): the graph's own rows are lent.
+    /// for want of memory alone. O(the kinds): the edges' own rows are lent.
     pub fn steps<'b>(&'b self, alloc: Global, kinds: &[DepKind]) -> Result<Steps<'b>, AllocError>
         ensures steps { IfOk result (λ steps. AreNamedSteps (count_of self.now.load) (name_at self.now.load)
             (Named (steps_from steps)) (LeadsBy self.now.edges kinds.now)) }
@@ -41,10 +41,10 @@ impl<'a> Graph<'a> {
         self.table(kind)
     }
 
-    // The rows of a kind.
+    // The rows of a kind, as the edges have them.
     fn table(&self, kind: DepKind) -> &[Vec<usize>]
         ensures table { IsTable self.now.load self.now.edges kind result.now }
     {
-        &self.tables[kind as usize]
+        self.edges.rows(kind)
     }
 }

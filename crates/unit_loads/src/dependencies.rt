@@ -7,8 +7,7 @@ ghost use Rattle.unit_loads.specs.Units.{dependency_notes, linked_by, link_notes
 ghost use Rattle.setting_rules.specs.declared.notes.SettingNoteKind.TheVariants.{BadName};
 
 use crate::links::LinkNames;
-use byte_strings::Bytes;
-use section_reader::Items;
+use plain_values::{Bytes, Items};
 use setting_rules::{
     DepKind, Dependencies, SettingNote, SettingNoteKind, Settings, dependencies, for_unit,
     in_byte_order,

@@ -7,8 +7,9 @@ ghost use Rattle.unit_loads.specs.Steps.{lent_items, lent_notes};
 ghost use Rattle.unit_loads.specs.Units.{bytes_at, file_bytes, notes_at};
 
 use crate::units::UnitNote;
+use plain_values::Items;
 use replica_store::{Content, Path, Placed, Store};
-use section_reader::{Assignment, Items, Note, Sections, read};
+use section_reader::{Assignment, Note, Sections, read};
 use std::alloc::{AllocError, Global};
 
 /// What the files of a unit say.

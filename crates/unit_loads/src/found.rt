@@ -7,8 +7,8 @@ use crate::files::{UnitText, paths_of};
 use crate::links::LinkNames;
 use crate::settled::Settled;
 use dropins::UnitFolders;
+use plain_values::Items;
 use replica_store::{Path, Placed, Store};
-use section_reader::Items;
 use std::alloc::{AllocError, Global};
 use unit_name::UnitName;
 

@@ -3,8 +3,8 @@ ghost use Rattle.std.specs.Prelude.{IfOk};
 ghost use Rattle.unit_loads.specs.Steps.{AreLinkNamesFrom};
 
 use dropins::{Folder, UnitFolders};
+use plain_values::Items;
 use replica_store::Store;
-use section_reader::Items;
 use std::alloc::{AllocError, Global};
 use unit_name::UnitName;
 

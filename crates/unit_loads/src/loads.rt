@@ -6,8 +6,8 @@ ghost use Rattle.unit_loads.specs.Units.{HasNothing, HasSettings, IsUnit, no_nam
 use crate::found::Found;
 use crate::units::{Status, Unit};
 use fragment_choice::{AliasIndex, Choice, Resolution, resolve};
+use plain_values::Items;
 use replica_store::{Path, Store};
-use section_reader::Items;
 use setting_rules::{DepKind, DependencyList};
 use std::alloc::{AllocError, Global};
 use unit_name::UnitName;

@@ -9,7 +9,8 @@ use crate::dependencies::named_units;
 use crate::files::UnitText;
 use crate::links::LinkNames;
 use crate::units::UnitNote;
-use section_reader::{Assignment, Items};
+use plain_values::Items;
+use section_reader::Assignment;
 use setting_rules::{
     DependencyList, Row, SettingNote, Settings, apply, refuses_manual_start, values,
 };

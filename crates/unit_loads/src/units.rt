@@ -1,8 +1,9 @@
 //! What a unit is, once it is loaded.
 
 use fragment_choice::Cause;
+use plain_values::Items;
 use replica_store::Path;
-use section_reader::{Items, Note};
+use section_reader::Note;
 use setting_rules::{DependencyList, Row, SettingNote};
 use unit_name::UnitName;
 

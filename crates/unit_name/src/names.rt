@@ -6,8 +6,7 @@ ghost use Rattle.unit_name.specs.Forms.{template_of, with_instance, instance_nam
 
 use crate::kinds::Kind;
 use crate::parts::{bad_place, instance_of, is_name_byte, kind_in, prefix_of, stem_of, suffix_of};
-use byte_strings::Bytes;
-use join_law::Key;
+use plain_values::{Bytes, Key, TryClone};
 use std::alloc::{AllocError, Global};
 use std::cmp::Ordering;
 use std::marker::Model;
@@ -297,12 +296,14 @@ impl Ord for UnitName {
     }
 }
 
+impl TryClone for UnitName {
+    fn try_clone(&self) -> Result<UnitName, AllocError> {
+        UnitName::try_clone(self)
+    }
+}
+
 impl Key for UnitName {
     ghost use Rattle.std.specs.FinMap.{slice_cmp-IsAntisymmetric, nat_cmp-IsAntisymmetric};
 
     ghost exact = { slice_cmp-IsAntisymmetric nat_cmp-IsAntisymmetric };
-
-    fn try_clone(&self) -> Result<UnitName, AllocError> {
-        UnitName::try_clone(self)
-    }
 }

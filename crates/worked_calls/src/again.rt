@@ -3,7 +3,6 @@
 //! The answer is that of the call where nothing is refused. Where something was, what stood between the two calls comes
 //! behind it, after the words `; refused at`.
 use crate::answer_text::Answer;
-use crate::calls::{CallFault, Words, is};
 use crate::edits::{append_store, store};
 use crate::join_maps::{append_map, map};
 use crate::pieces::{append_parts, append_piece, holder, piece};
@@ -12,9 +11,10 @@ use crate::worlds::{append_both, append_replicas, replicas};
 use delta_gossip::{exchange, sweep};
 use delta_pieces::{TakeFault, take};
 use join_law::{Join, Rest};
+use worked_lines::{LineFault, Words, is};
 
 /// Writes what a call that may be made again answers.
-pub fn answer(words: &mut Words, out: &mut Answer) -> Result<(), CallFault> {
+pub fn answer(words: &mut Words, out: &mut Answer) -> Result<(), LineFault> {
     let mut between = Answer::new(words.alloc);
     told(words, out, &mut between)?;
     if !between.is_empty() {
@@ -25,7 +25,7 @@ pub fn answer(words: &mut Words, out: &mut Answer) -> Result<(), CallFault> {
 }
 
 // The answer, and what stood between two calls, if there were two.
-fn told(words: &mut Words, out: &mut Answer, between: &mut Answer) -> Result<(), CallFault> {
+fn told(words: &mut Words, out: &mut Answer, between: &mut Answer) -> Result<(), LineFault> {
     let call = words.word()?;
     if is(call, b"join") {
         joined(words, out, between)
@@ -42,12 +42,12 @@ fn told(words: &mut Words, out: &mut Answer, between: &mut Answer) -> Result<(),
     } else if is(call, b"sweep") {
         swept(words, out, between)
     } else {
-        Err(CallFault::Line)
+        Err(LineFault::Words)
     }
 }
 
 // A map that another is joined to; where that is refused, the rest of it.
-fn joined(words: &mut Words, out: &mut Answer, between: &mut Answer) -> Result<(), CallFault> {
+fn joined(words: &mut Words, out: &mut Answer, between: &mut Answer) -> Result<(), LineFault> {
     let mut joined = map(words)?;
     if let Err(Rest { rest }) = joined.join_from(map(words)?) {
         append_map(between, &joined)?;
@@ -57,7 +57,7 @@ fn joined(words: &mut Words, out: &mut Answer, between: &mut Answer) -> Result<(
 }
 
 // A store that takes another; where that is refused, the rest of it.
-fn absorbed(words: &mut Words, out: &mut Answer, between: &mut Answer) -> Result<(), CallFault> {
+fn absorbed(words: &mut Words, out: &mut Answer, between: &mut Answer) -> Result<(), LineFault> {
     let mut first = store(words)?;
     if let Err(Rest { rest }) = first.absorb(store(words)?) {
         append_store(between, &first)?;
@@ -67,7 +67,7 @@ fn absorbed(words: &mut Words, out: &mut Answer, between: &mut Answer) -> Result
 }
 
 // A store that another is merged into, twice where the first time is refused.
-fn merged(words: &mut Words, out: &mut Answer, between: &mut Answer) -> Result<(), CallFault> {
+fn merged(words: &mut Words, out: &mut Answer, between: &mut Answer) -> Result<(), LineFault> {
     let mut first = store(words)?;
     let second = store(words)?;
     if first.merge(&second).is_err() {
@@ -78,7 +78,7 @@ fn merged(words: &mut Words, out: &mut Answer, between: &mut Answer) -> Result<(
 }
 
 // A replica that takes a piece; where that is refused, the rest of it.
-fn taken(words: &mut Words, out: &mut Answer, between: &mut Answer) -> Result<(), CallFault> {
+fn taken(words: &mut Words, out: &mut Answer, between: &mut Answer) -> Result<(), LineFault> {
     let mut replica = holder(words)?;
     if let Err(TakeFault { rest }) = take(&mut replica, piece(words)?) {
         append_store(between, replica.store())?;
@@ -88,7 +88,7 @@ fn taken(words: &mut Words, out: &mut Answer, between: &mut Answer) -> Result<()
 }
 
 // The two parts of a piece; where they are refused, those of the piece that comes back.
-fn split(words: &mut Words, out: &mut Answer, between: &mut Answer) -> Result<(), CallFault> {
+fn split(words: &mut Words, out: &mut Answer, between: &mut Answer) -> Result<(), LineFault> {
     let at = words.number()? as usize;
     let rest = match piece(words)?.split(at) {
         Ok((first, second)) => return append_parts(out, &first, &second),
@@ -100,7 +100,7 @@ fn split(words: &mut Words, out: &mut Answer, between: &mut Answer) -> Result<()
 }
 
 // Two replicas after an exchange, which is made twice where the first is refused.
-fn exchanged(words: &mut Words, out: &mut Answer, between: &mut Answer) -> Result<(), CallFault> {
+fn exchanged(words: &mut Words, out: &mut Answer, between: &mut Answer) -> Result<(), LineFault> {
     let mut a = replica(1, words)?;
     let mut b = replica(2, words)?;
     if exchange(&mut a, &mut b).is_err() {
@@ -111,7 +111,7 @@ fn exchanged(words: &mut Words, out: &mut Answer, between: &mut Answer) -> Resul
 }
 
 // As many replicas as the first word says, after a sweep, which is made twice where the first is refused.
-fn swept(words: &mut Words, out: &mut Answer, between: &mut Answer) -> Result<(), CallFault> {
+fn swept(words: &mut Words, out: &mut Answer, between: &mut Answer) -> Result<(), LineFault> {
     let mut replicas = replicas(words)?;
     if sweep(&mut replicas).is_err() {
         append_replicas(between, &replicas)?;

@@ -1,9 +1,9 @@
 //! The answer of a call.
-use crate::calls::CallFault;
 use load_path::Path;
 use std::alloc::Global;
 use std::fmt::Display;
 use unit_name::UnitName;
+use worked_lines::LineFault;
 
 /// The answer of a call, as far as it is written.
 #[derive(Drop)]
@@ -29,34 +29,34 @@ impl Answer {
     }
 
     /// Writes bytes as they are.
-    pub fn write(&mut self, bytes: &[u8]) -> Result<(), CallFault> {
+    pub fn write(&mut self, bytes: &[u8]) -> Result<(), LineFault> {
         Ok(self.bytes.extend_from_slice(bytes)?)
     }
 
     /// Writes what a value prints.
-    pub fn print<T: Display>(&mut self, value: &T) -> Result<(), CallFault> {
+    pub fn print<T: Display>(&mut self, value: &T) -> Result<(), LineFault> {
         self.write(format!(in self.alloc; "{value}")?.as_bytes())
     }
 
     /// Writes one text where it is so, and else another.
-    pub fn either(&mut self, is_so: bool, so: &[u8], other: &[u8]) -> Result<(), CallFault> {
+    pub fn either(&mut self, is_so: bool, so: &[u8], other: &[u8]) -> Result<(), LineFault> {
         self.write(if is_so { so } else { other })
     }
 
     /// Writes what parts two things, if something stands there.
-    pub fn part(&mut self, between: &[u8]) -> Result<(), CallFault> {
+    pub fn part(&mut self, between: &[u8]) -> Result<(), LineFault> {
         let is_empty = self.is_empty();
         self.either(is_empty, b"", between)
     }
 
     /// Writes a word, if nothing stands there.
-    pub fn or(&mut self, word: &[u8]) -> Result<(), CallFault> {
+    pub fn or(&mut self, word: &[u8]) -> Result<(), LineFault> {
         let is_empty = self.is_empty();
         self.either(is_empty, word, b"")
     }
 
     /// Writes bytes as texts are spelled: a backslash, a space, and what isn't printed, as `\xHH`.
-    pub fn spell(&mut self, bytes: &[u8]) -> Result<(), CallFault> {
+    pub fn spell(&mut self, bytes: &[u8]) -> Result<(), LineFault> {
         if bytes.is_empty() {
             return self.write(b"''");
         }
@@ -67,7 +67,7 @@ impl Answer {
     }
 
     // Writes one byte as texts are spelled.
-    fn spell_byte(&mut self, byte: u8) -> Result<(), CallFault> {
+    fn spell_byte(&mut self, byte: u8) -> Result<(), LineFault> {
         match byte {
             b'\n' => self.write(b"\\n"),
             b'\t' => self.write(b"\\t"),
@@ -78,7 +78,7 @@ impl Answer {
     }
 
     /// Writes texts as they are spelled, each behind its mark.
-    pub fn spell_marked(&mut self, texts: &[(u8, &[u8])]) -> Result<(), CallFault> {
+    pub fn spell_marked(&mut self, texts: &[(u8, &[u8])]) -> Result<(), LineFault> {
         for text in texts {
             self.write(&[text.0])?;
             self.spell(text.1)?;
@@ -87,7 +87,7 @@ impl Answer {
     }
 
     /// Writes a text as it is spelled, if there is one.
-    pub fn spell_found(&mut self, text: Option<Vec<u8>>) -> Result<(), CallFault> {
+    pub fn spell_found(&mut self, text: Option<Vec<u8>>) -> Result<(), LineFault> {
         match text {
             Some(text) => self.spell(&text),
             None => self.write(b"none"),
@@ -95,7 +95,7 @@ impl Answer {
     }
 
     /// Writes a name, if there is one.
-    pub fn spell_name(&mut self, name: Option<UnitName>) -> Result<(), CallFault> {
+    pub fn spell_name(&mut self, name: Option<UnitName>) -> Result<(), LineFault> {
         match name {
             Some(name) => self.spell(name.bytes()),
             None => self.write(b"none"),
@@ -103,7 +103,7 @@ impl Answer {
     }
 
     /// Writes a path, its directory as `E`, `R`, `L` or `U`.
-    pub fn write_path(&mut self, path: &Path) -> Result<(), CallFault> {
+    pub fn write_path(&mut self, path: &Path) -> Result<(), LineFault> {
         self.write(match path.rank() {
             0 => b"E/",
             1 => b"R/",

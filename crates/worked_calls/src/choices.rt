@@ -1,15 +1,15 @@
 //! Calls on what stands for a unit: the store in words, `+`, and the unit's name, or the names of several.
 use crate::answer_text::Answer;
-use crate::calls::{CallFault, Words, is};
 use crate::edits::store;
 use crate::name_lists::{append_names, names};
 use fragment_choice::{AliasIndex, Choice, Resolution, choose, names_of, resolve};
 use replica_store::Store;
 use std::alloc::Global;
 use unit_name::UnitName;
+use worked_lines::{LineFault, Words, is};
 
 /// Writes what a call on the choice of a unit answers.
-pub fn answer(words: &mut Words, out: &mut Answer) -> Result<(), CallFault> {
+pub fn answer(words: &mut Words, out: &mut Answer) -> Result<(), LineFault> {
     let call = words.word()?;
     let store = store(words)?;
     if is(call, b"index") {
@@ -25,7 +25,7 @@ fn told(
     store: &Store,
     name: &UnitName,
     out: &mut Answer,
-) -> Result<(), CallFault> {
+) -> Result<(), LineFault> {
     if is(call, b"choose") {
         append_choice(out, &choose(alloc, store, name)?)
     } else if is(call, b"resolve") {
@@ -33,12 +33,12 @@ fn told(
     } else if is(call, b"names") {
         append_names_of(alloc, out, store, name)
     } else {
-        Err(CallFault::Line)
+        Err(LineFault::Words)
     }
 }
 
 // Writes a choice.
-fn append_choice(out: &mut Answer, choice: &Choice) -> Result<(), CallFault> {
+fn append_choice(out: &mut Answer, choice: &Choice) -> Result<(), LineFault> {
     match choice {
         Choice::NotFound => out.write(b"not found"),
         Choice::Masked => out.write(b"masked"),
@@ -49,7 +49,7 @@ fn append_choice(out: &mut Answer, choice: &Choice) -> Result<(), CallFault> {
 }
 
 // Writes the main name, and what stands for it.
-fn append_resolution(out: &mut Answer, end: &Resolution) -> Result<(), CallFault> {
+fn append_resolution(out: &mut Answer, end: &Resolution) -> Result<(), LineFault> {
     out.write(end.main.bytes())?;
     out.write(b" ")?;
     append_choice(out, &end.choice)
@@ -61,7 +61,7 @@ fn append_names_of(
     out: &mut Answer,
     store: &Store,
     name: &UnitName,
-) -> Result<(), CallFault> {
+) -> Result<(), LineFault> {
     if resolve(alloc, store, name)?.main.bytes() == name.bytes() {
         append_names(out, &names_of(alloc, store, name)?)
     } else {
@@ -75,7 +75,7 @@ fn append_indexed(
     out: &mut Answer,
     store: &Store,
     units: &[UnitName],
-) -> Result<(), CallFault> {
+) -> Result<(), LineFault> {
     let index = AliasIndex::of(alloc, store)?;
     for unit in units {
         if resolve(alloc, store, unit)?.main.bytes() == unit.bytes() {

@@ -1,15 +1,15 @@
 //! Calls on the folders, the drop-ins and the link folders of units: the store in words, `+`, and the unit's names.
 use crate::answer_text::Answer;
-use crate::calls::{CallFault, Words, is};
 use crate::edits::{append_paths, append_placed, store};
 use crate::name_lists::{append_names, names};
 use dropins::{Folder, UnitFolders, folders, links, order};
 use replica_store::Store;
 use std::alloc::Global;
 use unit_name::UnitName;
+use worked_lines::{LineFault, Words, is};
 
 /// Writes what a call on drop-ins answers.
-pub fn answer(words: &mut Words, out: &mut Answer) -> Result<(), CallFault> {
+pub fn answer(words: &mut Words, out: &mut Answer) -> Result<(), LineFault> {
     let call = words.word()?;
     if is(call, b"folders") {
         append_names(out, &folders(words.alloc, &names(words)?)?)
@@ -19,7 +19,7 @@ pub fn answer(words: &mut Words, out: &mut Answer) -> Result<(), CallFault> {
 }
 
 // What a call answers of a unit, the store and the unit's names being the words left.
-fn told(call: &[u8], words: &mut Words, out: &mut Answer) -> Result<(), CallFault> {
+fn told(call: &[u8], words: &mut Words, out: &mut Answer) -> Result<(), LineFault> {
     let store = store(words)?;
     told_of(call, words.alloc, &store, &names(words)?, out)
 }
@@ -31,7 +31,7 @@ fn told_of(
     store: &Store,
     names: &[UnitName],
     out: &mut Answer,
-) -> Result<(), CallFault> {
+) -> Result<(), LineFault> {
     if is(call, b"order") {
         append_paths(out, &order(alloc, store, names)?)
     } else if is(call, b"lend") {
@@ -41,7 +41,7 @@ fn told_of(
     } else if is(call, b"requires") {
         append_names(out, &links(alloc, store, names, Folder::Requires)?)
     } else {
-        Err(CallFault::Line)
+        Err(LineFault::Words)
     }
 }
 
@@ -51,7 +51,7 @@ fn append_lent(
     out: &mut Answer,
     store: &Store,
     names: &[UnitName],
-) -> Result<(), CallFault> {
+) -> Result<(), LineFault> {
     let folders = UnitFolders::of(alloc, names)?;
     append_names(out, folders.names())?;
     for placed in &folders.drop_ins(alloc, store)? {

@@ -3,20 +3,20 @@
 //! An edit is `COUNTER.WRITER:PATH` for a removal, with `=TEXT` behind it for a file and with `>TARGET` for a link. In a
 //! list of edits the version may be left out: each that has none is then later than those before it.
 use crate::answer_text::Answer;
-use crate::calls::{CallFault, Words, cut_at, number_of, path_of, text_of, writer_of};
 use replica_store::{Content, Edit, Entries, Path, Placed, Store, Version};
 use std::alloc::Global;
+use worked_lines::{LineFault, Words, cut_at, number_of, path_of, text_of, writer_of};
 
 /// The version that a word writes.
-pub fn version_of(word: &[u8]) -> Result<Version, CallFault> {
-    let (counter, writer) = cut_at(word, b'.').ok_or(CallFault::Line)?;
+pub fn version_of(word: &[u8]) -> Result<Version, LineFault> {
+    let (counter, writer) = cut_at(word, b'.').ok_or(LineFault::Words)?;
     let writer = writer_of(writer)?;
     let counter = number_of(counter)?;
     Ok(Version { counter, writer })
 }
 
 // What a word writes before its content, and the content.
-fn cut_content(alloc: Global, word: &[u8]) -> Result<(&[u8], Content), CallFault> {
+fn cut_content(alloc: Global, word: &[u8]) -> Result<(&[u8], Content), LineFault> {
     if let Some((path, text)) = cut_at(word, b'=') {
         return Ok((path, Content::file(text_of(alloc, text)?)?));
     }
@@ -27,13 +27,13 @@ fn cut_content(alloc: Global, word: &[u8]) -> Result<(&[u8], Content), CallFault
 }
 
 /// The path and the content that a word writes.
-pub fn placed_of(alloc: Global, word: &[u8]) -> Result<(Path, Content), CallFault> {
+pub fn placed_of(alloc: Global, word: &[u8]) -> Result<(Path, Content), LineFault> {
     let (path, content) = cut_content(alloc, word)?;
     Ok((path_of(alloc, path)?, content))
 }
 
 // The edit of a version whose path and content a word writes.
-fn edit_at(alloc: Global, version: Version, word: &[u8]) -> Result<Edit, CallFault> {
+fn edit_at(alloc: Global, version: Version, word: &[u8]) -> Result<Edit, LineFault> {
     let (path, content) = placed_of(alloc, word)?;
     Ok(Edit {
         path,
@@ -43,13 +43,13 @@ fn edit_at(alloc: Global, version: Version, word: &[u8]) -> Result<Edit, CallFau
 }
 
 /// The edit that a word writes.
-pub fn edit_of(alloc: Global, word: &[u8]) -> Result<Edit, CallFault> {
-    let (version, placed) = cut_at(word, b':').ok_or(CallFault::Line)?;
+pub fn edit_of(alloc: Global, word: &[u8]) -> Result<Edit, LineFault> {
+    let (version, placed) = cut_at(word, b':').ok_or(LineFault::Words)?;
     edit_at(alloc, version_of(version)?, placed)
 }
 
 // The edit that a word of a list writes; without a version it has the counter that its place gives, and the writer 1.
-fn listed_edit(alloc: Global, word: &[u8], place: usize) -> Result<Edit, CallFault> {
+fn listed_edit(alloc: Global, word: &[u8], place: usize) -> Result<Edit, LineFault> {
     match word.first() {
         Some(b'0'..=b'9') => edit_of(alloc, word),
         _ => {
@@ -60,7 +60,7 @@ fn listed_edit(alloc: Global, word: &[u8], place: usize) -> Result<Edit, CallFau
 }
 
 /// The edits that words write, up to the word `+` or to the end.
-pub fn edits(words: &mut Words) -> Result<Vec<Edit>, CallFault> {
+pub fn edits(words: &mut Words) -> Result<Vec<Edit>, LineFault> {
     let mut edits = Vec::new(words.alloc);
     for place in 1..=words.most() {
         let Some(word) = words.listed() else {
@@ -72,7 +72,7 @@ pub fn edits(words: &mut Words) -> Result<Vec<Edit>, CallFault> {
 }
 
 /// The paths that words write, up to the word `+` or to the end.
-pub fn paths(words: &mut Words) -> Result<Vec<Path>, CallFault> {
+pub fn paths(words: &mut Words) -> Result<Vec<Path>, LineFault> {
     let mut paths = Vec::new(words.alloc);
     for _ in 0..words.most() {
         let Some(word) = words.listed() else {
@@ -84,20 +84,20 @@ pub fn paths(words: &mut Words) -> Result<Vec<Path>, CallFault> {
 }
 
 /// The store of edits that words write, up to the word `+` or to the end.
-pub fn store(words: &mut Words) -> Result<Store, CallFault> {
+pub fn store(words: &mut Words) -> Result<Store, LineFault> {
     let edits = edits(words)?;
     Ok(Store::from_edits(words.alloc, &edits)?)
 }
 
 /// Writes a version.
-pub fn append_version(out: &mut Answer, version: Version) -> Result<(), CallFault> {
+pub fn append_version(out: &mut Answer, version: Version) -> Result<(), LineFault> {
     out.print(&version.counter)?;
     out.write(b".")?;
     out.print(&version.writer)
 }
 
 /// Writes a content as it stands behind a path.
-pub fn append_content(out: &mut Answer, content: &Content) -> Result<(), CallFault> {
+pub fn append_content(out: &mut Answer, content: &Content) -> Result<(), LineFault> {
     match content {
         Content::Gone => Ok(()),
         Content::File(file) => out.spell_marked(&[(b'=', file.bytes())]),
@@ -111,7 +111,7 @@ fn append_at(
     version: Version,
     path: &Path,
     content: &Content,
-) -> Result<(), CallFault> {
+) -> Result<(), LineFault> {
     append_version(out, version)?;
     out.write(b":")?;
     out.write_path(path)?;
@@ -119,19 +119,19 @@ fn append_at(
 }
 
 /// Writes an edit.
-pub fn append_edit(out: &mut Answer, edit: &Edit) -> Result<(), CallFault> {
+pub fn append_edit(out: &mut Answer, edit: &Edit) -> Result<(), LineFault> {
     append_at(out, edit.version, &edit.path, &edit.content)
 }
 
 /// Writes an entry with its path, behind a space if something stands there.
-pub fn append_placed(out: &mut Answer, placed: &Placed) -> Result<(), CallFault> {
+pub fn append_placed(out: &mut Answer, placed: &Placed) -> Result<(), LineFault> {
     let entry = placed.entry();
     out.part(b" ")?;
     append_at(out, entry.version, &placed.path()?, &entry.content)
 }
 
 /// Writes entries, each behind a space if something stands there; `nothing` where there are none.
-pub fn append_entries(out: &mut Answer, mut entries: Entries<'_>) -> Result<(), CallFault> {
+pub fn append_entries(out: &mut Answer, mut entries: Entries<'_>) -> Result<(), LineFault> {
     let Some(first) = entries.next_entry() else {
         out.part(b" ")?;
         return out.write(b"nothing");
@@ -144,12 +144,12 @@ pub fn append_entries(out: &mut Answer, mut entries: Entries<'_>) -> Result<(), 
 }
 
 /// Writes all that a store holds, in path order.
-pub fn append_store(out: &mut Answer, store: &Store) -> Result<(), CallFault> {
+pub fn append_store(out: &mut Answer, store: &Store) -> Result<(), LineFault> {
     append_entries(out, store.entries())
 }
 
 /// Writes paths, parted by spaces.
-pub fn append_paths(out: &mut Answer, paths: &[Path]) -> Result<(), CallFault> {
+pub fn append_paths(out: &mut Answer, paths: &[Path]) -> Result<(), LineFault> {
     for path in paths {
         out.part(b" ")?;
         out.write_path(path)?;

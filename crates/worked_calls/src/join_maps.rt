@@ -4,9 +4,9 @@
 //! A map is written as its pairs, `KEY:VERSION=NUMBER`, parted by commas; `none` has no pair. In a map of maps of
 //! maps a key is three numbers, parted by slashes.
 use crate::answer_text::Answer;
-use crate::calls::{CallFault, Words, byte_of, cut_at, is, parts_of};
 use crate::joins::{append_value, joined, versioned};
 use join_law::{Join, JoinMap, Versioned};
+use worked_lines::{LineFault, Words, byte_of, cut_at, is, parts_of};
 
 /// A map from numbers to numbers with versions.
 pub type Numbers = JoinMap<u8, Versioned<u8>>;
@@ -14,7 +14,7 @@ pub type Numbers = JoinMap<u8, Versioned<u8>>;
 type Tree = JoinMap<u8, JoinMap<u8, Numbers>>;
 
 /// Writes what a call on maps of joins answers.
-pub fn answer(words: &mut Words, out: &mut Answer) -> Result<(), CallFault> {
+pub fn answer(words: &mut Words, out: &mut Answer) -> Result<(), LineFault> {
     let call = words.word()?;
     if is(call, b"deep") {
         joined_trees(words, out)
@@ -31,7 +31,7 @@ fn told(
     first: &Numbers,
     words: &mut Words,
     out: &mut Answer,
-) -> Result<(), CallFault> {
+) -> Result<(), LineFault> {
     if is(call, b"join") {
         append_joined(out, first, &map(words)?)
     } else if is(call, b"at") {
@@ -41,18 +41,18 @@ fn told(
     } else if is(call, b"get") {
         found(first, words, out)
     } else {
-        Err(CallFault::Line)
+        Err(LineFault::Words)
     }
 }
 
 // Joins to a map the pair that a word writes.
-fn join_pair(map: &mut Numbers, pair: &[u8]) -> Result<(), CallFault> {
-    let (key, value) = cut_at(pair, b':').ok_or(CallFault::Line)?;
+fn join_pair(map: &mut Numbers, pair: &[u8]) -> Result<(), LineFault> {
+    let (key, value) = cut_at(pair, b':').ok_or(LineFault::Words)?;
     Ok(map.join_at(byte_of(key)?, versioned(value)?)?)
 }
 
 /// The next word as a map.
-pub fn map(words: &mut Words) -> Result<Numbers, CallFault> {
+pub fn map(words: &mut Words) -> Result<Numbers, LineFault> {
     let mut map = JoinMap::new(words.alloc);
     for pair in &parts_of(words.alloc, words.word()?)? {
         join_pair(&mut map, pair)?;
@@ -61,7 +61,7 @@ pub fn map(words: &mut Words) -> Result<Numbers, CallFault> {
 }
 
 // Writes the pairs of a map, each key behind those of the maps that it stands in.
-fn append_pairs(out: &mut Answer, outer: &str, map: &Numbers) -> Result<(), CallFault> {
+fn append_pairs(out: &mut Answer, outer: &str, map: &Numbers) -> Result<(), LineFault> {
     for (key, value) in map.pairs() {
         out.part(b",")?;
         out.write(outer.as_bytes())?;
@@ -73,13 +73,13 @@ fn append_pairs(out: &mut Answer, outer: &str, map: &Numbers) -> Result<(), Call
 }
 
 /// Writes a map.
-pub fn append_map(out: &mut Answer, map: &Numbers) -> Result<(), CallFault> {
+pub fn append_map(out: &mut Answer, map: &Numbers) -> Result<(), LineFault> {
     append_pairs(out, "", map)?;
     out.or(b"none")
 }
 
 // Writes a map, its length, and whether it is the one that it was.
-fn append_outcome(out: &mut Answer, old: &Numbers, new: &Numbers) -> Result<(), CallFault> {
+fn append_outcome(out: &mut Answer, old: &Numbers, new: &Numbers) -> Result<(), LineFault> {
     append_map(out, new)?;
     out.write(b" ")?;
     out.print(&new.len())?;
@@ -87,14 +87,14 @@ fn append_outcome(out: &mut Answer, old: &Numbers, new: &Numbers) -> Result<(), 
 }
 
 // A map that copies of another's pairs are joined to.
-fn with_copies(left: &Numbers, right: &Numbers) -> Result<Numbers, CallFault> {
+fn with_copies(left: &Numbers, right: &Numbers) -> Result<Numbers, LineFault> {
     let mut map = left.try_clone()?;
     map.join_copy(right)?;
     Ok(map)
 }
 
 // Writes the join of two maps, and whether copies of the second's pairs make the same.
-fn append_joined(out: &mut Answer, left: &Numbers, right: &Numbers) -> Result<(), CallFault> {
+fn append_joined(out: &mut Answer, left: &Numbers, right: &Numbers) -> Result<(), LineFault> {
     let whole = joined(left, right)?;
     append_outcome(out, left, &whole)?;
     out.either(
@@ -105,7 +105,7 @@ fn append_joined(out: &mut Answer, left: &Numbers, right: &Numbers) -> Result<()
 }
 
 // A map with one value joined.
-fn joined_at(old: &Numbers, words: &mut Words, out: &mut Answer) -> Result<(), CallFault> {
+fn joined_at(old: &Numbers, words: &mut Words, out: &mut Answer) -> Result<(), LineFault> {
     let key = byte_of(words.word()?)?;
     let value = versioned(words.word()?)?;
     let mut new = old.try_clone()?;
@@ -114,7 +114,7 @@ fn joined_at(old: &Numbers, words: &mut Words, out: &mut Answer) -> Result<(), C
 }
 
 // Writes the keys of a map.
-fn append_keys(out: &mut Answer, map: &Numbers) -> Result<(), CallFault> {
+fn append_keys(out: &mut Answer, map: &Numbers) -> Result<(), LineFault> {
     for key in map.keys()? {
         out.part(b",")?;
         out.print(key)?;
@@ -123,7 +123,7 @@ fn append_keys(out: &mut Answer, map: &Numbers) -> Result<(), CallFault> {
 }
 
 // The value at a key.
-fn found(map: &Numbers, words: &mut Words, out: &mut Answer) -> Result<(), CallFault> {
+fn found(map: &Numbers, words: &mut Words, out: &mut Answer) -> Result<(), LineFault> {
     let key = byte_of(words.word()?)?;
     match map.get(&key) {
         Some(value) => append_value(out, value),
@@ -132,7 +132,7 @@ fn found(map: &Numbers, words: &mut Words, out: &mut Answer) -> Result<(), CallF
 }
 
 // A map without its last pair, and that pair's key.
-fn last(words: &mut Words, out: &mut Answer) -> Result<(), CallFault> {
+fn last(words: &mut Words, out: &mut Answer) -> Result<(), LineFault> {
     let mut map = map(words)?;
     let popped = map.pop_last();
     append_map(out, &map)?;
@@ -144,16 +144,16 @@ fn last(words: &mut Words, out: &mut Answer) -> Result<(), CallFault> {
 }
 
 // Joins to a map of maps of maps the pair that a word writes.
-fn join_branch(tree: &mut Tree, pair: &[u8]) -> Result<(), CallFault> {
-    let (keys, value) = cut_at(pair, b':').ok_or(CallFault::Line)?;
-    let (outer, others) = cut_at(keys, b'/').ok_or(CallFault::Line)?;
-    let (middle, inner) = cut_at(others, b'/').ok_or(CallFault::Line)?;
+fn join_branch(tree: &mut Tree, pair: &[u8]) -> Result<(), LineFault> {
+    let (keys, value) = cut_at(pair, b':').ok_or(LineFault::Words)?;
+    let (outer, others) = cut_at(keys, b'/').ok_or(LineFault::Words)?;
+    let (middle, inner) = cut_at(others, b'/').ok_or(LineFault::Words)?;
     let value = versioned(value)?;
     Ok(tree.join_deep(byte_of(outer)?, byte_of(middle)?, byte_of(inner)?, value)?)
 }
 
 // The next word as a map of maps of maps.
-fn tree(words: &mut Words) -> Result<Tree, CallFault> {
+fn tree(words: &mut Words) -> Result<Tree, LineFault> {
     let mut tree = JoinMap::new(words.alloc);
     for pair in &parts_of(words.alloc, words.word()?)? {
         join_branch(&mut tree, pair)?;
@@ -162,7 +162,7 @@ fn tree(words: &mut Words) -> Result<Tree, CallFault> {
 }
 
 // Writes the maps at a key.
-fn append_maps(out: &mut Answer, outer: u8, maps: &JoinMap<u8, Numbers>) -> Result<(), CallFault> {
+fn append_maps(out: &mut Answer, outer: u8, maps: &JoinMap<u8, Numbers>) -> Result<(), LineFault> {
     for (middle, map) in maps.pairs() {
         let keys = format!(in out.alloc; "{outer}/{middle}/")?;
         append_pairs(out, keys.as_str(), map)?;
@@ -171,7 +171,7 @@ fn append_maps(out: &mut Answer, outer: u8, maps: &JoinMap<u8, Numbers>) -> Resu
 }
 
 // Writes a map of maps of maps, and how many keys its outermost map has.
-fn append_tree(out: &mut Answer, tree: &Tree) -> Result<(), CallFault> {
+fn append_tree(out: &mut Answer, tree: &Tree) -> Result<(), LineFault> {
     for (outer, maps) in tree.pairs() {
         append_maps(out, *outer, maps)?;
     }
@@ -181,13 +181,13 @@ fn append_tree(out: &mut Answer, tree: &Tree) -> Result<(), CallFault> {
 }
 
 // The join of two maps of maps of maps.
-fn joined_trees(words: &mut Words, out: &mut Answer) -> Result<(), CallFault> {
+fn joined_trees(words: &mut Words, out: &mut Answer) -> Result<(), LineFault> {
     let left = tree(words)?;
     append_trees(out, &left, &tree(words)?)
 }
 
 // Writes the join of two maps of maps of maps, and whether it is the same both ways.
-fn append_trees(out: &mut Answer, left: &Tree, right: &Tree) -> Result<(), CallFault> {
+fn append_trees(out: &mut Answer, left: &Tree, right: &Tree) -> Result<(), LineFault> {
     let whole = joined(left, right)?;
     append_tree(out, &whole)?;
     out.either(whole.same(&joined(right, left)?), b" both ways", b"")

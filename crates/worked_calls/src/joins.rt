@@ -1,37 +1,38 @@
 //! Calls on the joins of contents with versions: numbers below 256 with versions, or nothing yet.
 use crate::answer_text::Answer;
-use crate::calls::{CallFault, Words, byte_of, cut_at, is};
 use crate::edits::{append_version, version_of};
-use join_law::{Entry, Join, Key, Versioned};
+use join_law::{Entry, Join, Versioned};
+use plain_values::TryClone;
 use std::cmp::Ordering;
+use worked_lines::{LineFault, Words, byte_of, cut_at, is};
 
 /// Writes what a call on joins answers.
-pub fn answer(words: &mut Words, out: &mut Answer) -> Result<(), CallFault> {
+pub fn answer(words: &mut Words, out: &mut Answer) -> Result<(), LineFault> {
     let call = words.word()?;
     if is(call, b"join") {
         append_compared(out, &versioned(words.word()?)?, &versioned(words.word()?)?)
     } else if is(call, b"bottom") {
         out.either(versioned(words.word()?)?.is_bottom(), b"yes", b"no")
     } else if is(call, b"copy_key") {
-        out.print(&Key::try_clone(&byte_of(words.word()?)?)?)
+        out.print(&TryClone::try_clone(&byte_of(words.word()?)?)?)
     } else {
-        Err(CallFault::Line)
+        Err(LineFault::Words)
     }
 }
 
 /// A word as `never` or as a version and a number.
-pub fn versioned(word: &[u8]) -> Result<Versioned<u8>, CallFault> {
+pub fn versioned(word: &[u8]) -> Result<Versioned<u8>, LineFault> {
     if is(word, b"never") {
         return Ok(Versioned::Never);
     }
-    let (version, content) = cut_at(word, b'=').ok_or(CallFault::Line)?;
+    let (version, content) = cut_at(word, b'=').ok_or(LineFault::Words)?;
     let version = version_of(version)?;
     let content = byte_of(content)?;
     Ok(Versioned::At(Entry { version, content }))
 }
 
 /// The join of two values of any type that has joins.
-pub fn joined<J: Join>(left: &J, right: &J) -> Result<J, CallFault> {
+pub fn joined<J: Join>(left: &J, right: &J) -> Result<J, LineFault> {
     let mut value = left.try_clone()?;
     value.join_from(right.try_clone()?)?;
     Ok(value)
@@ -42,7 +43,7 @@ fn append_compared(
     out: &mut Answer,
     left: &Versioned<u8>,
     right: &Versioned<u8>,
-) -> Result<(), CallFault> {
+) -> Result<(), LineFault> {
     append_value(out, &joined(left, right)?)?;
     out.write(match left.rank(right) {
         Ordering::Less => b" less",
@@ -53,7 +54,7 @@ fn append_compared(
 }
 
 /// Writes a value.
-pub fn append_value(out: &mut Answer, value: &Versioned<u8>) -> Result<(), CallFault> {
+pub fn append_value(out: &mut Answer, value: &Versioned<u8>) -> Result<(), LineFault> {
     let Some(entry) = value.entry() else {
         return out.write(b"never");
     };

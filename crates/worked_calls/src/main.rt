@@ -10,7 +10,6 @@
 
 mod again;
 mod answer_text;
-mod calls;
 mod choices;
 mod contents;
 mod drop_ins;
@@ -30,15 +29,15 @@ mod stores;
 mod worlds;
 
 use answer_text::Answer;
-use calls::{CallFault, Words, is};
-use script_pipes::{Watched, read_all, write_all};
-use script_words::{cut_line, cut_word, is_passed_over};
 use std::alloc::{AllocError, Global};
-use std::io;
 use std::process::ExitCode;
+use worked_lines::{LineFault, Words, answer_lines, is, work_input};
+
+// What stands between a line and its answer.
+const SIGN: &[u8] = b" -> ";
 
 // Writes what a call answers.
-fn answer(subject: &[u8], words: &mut Words, out: &mut Answer) -> Result<(), CallFault> {
+fn answer(subject: &[u8], words: &mut Words, out: &mut Answer) -> Result<(), LineFault> {
     if is(subject, b"again") {
         again::answer(words, out)
     } else if is(subject, b"path") {
@@ -72,61 +71,24 @@ fn answer(subject: &[u8], words: &mut Words, out: &mut Answer) -> Result<(), Cal
     } else if is(subject, b"dropins") {
         drop_ins::answer(words, out)
     } else {
-        Err(CallFault::Line)
+        Err(LineFault::Words)
     }
 }
 
 // What a line answers, of which no word may be left.
-fn line_answer(alloc: Global, line: &[u8]) -> Result<Answer, CallFault> {
-    let (subject, rest) = cut_word(line).ok_or(CallFault::Line)?;
-    let mut words = Words::new(alloc, rest);
+fn line_answer(alloc: Global, line: &[u8]) -> Result<Vec<u8>, LineFault> {
+    let mut words = Words::new(alloc, line);
     let mut out = Answer::new(alloc);
+    out.write(SIGN)?;
+    let subject = words.word()?;
     answer(subject, &mut words, &mut out)?;
-    if words.is_over() {
-        Ok(out)
-    } else {
-        Err(CallFault::Line)
-    }
-}
-
-// Writes a line, and behind it its answer if it is a call; `memory` where that was refused.
-fn append_line(alloc: Global, out: &mut Vec<u8>, line: &[u8]) -> Result<(), AllocError> {
-    out.extend_from_slice(line)?;
-    if !is_passed_over(line) {
-        out.extend_from_slice(b" -> ")?;
-        match line_answer(alloc, line) {
-            Ok(answer) => out.extend_from_slice(&answer.bytes)?,
-            Err(CallFault::Line) => out.extend_from_slice(b"no such call")?,
-            Err(CallFault::Memory) => out.extend_from_slice(b"memory")?,
-        }
-    }
-    out.push(b'\n')?;
-    Ok(())
-}
-
-// All lines, each with its answer.
-fn answers(alloc: Global, calls: &[u8]) -> Result<Vec<u8>, AllocError> {
-    let mut out = Vec::new(alloc);
-    let mut rest = calls;
-    while !rest.is_empty() {
-        let (line, later) = cut_line(rest);
-        append_line(alloc, &mut out, line)?;
-        rest = later;
-    }
-    Ok(out)
+    words.end()?;
+    Ok(out.bytes)
 }
 
 fn main(rt: HostRuntime) -> ExitCode {
-    let mut reader = Watched::new(rt.reader());
-    let Ok(calls) = read_all(rt.alloc(), &mut reader) else {
-        return ExitCode::from(1);
-    };
-    let Ok(out) = answers(rt.alloc(), &calls) else {
-        return ExitCode::from(2);
-    };
-    let mut writer = Watched::new(io::writer(&rt));
-    if write_all(&mut writer, &out).is_err() {
-        return ExitCode::from(1);
-    }
-    ExitCode::from(0)
+    work_input(&rt, |text: &[u8]| -> Result<Vec<u8>, AllocError> {
+        let answer = |line: &[u8]| -> Result<Vec<u8>, LineFault> { line_answer(rt.alloc(), line) };
+        answer_lines(rt.alloc(), text, SIGN, answer)
+    })
 }

@@ -1,12 +1,12 @@
 //! Calls on unit names, escapes and specifiers.
 use crate::answer_text::Answer;
-use crate::calls::{CallFault, Words, is};
 use crate::name_lists::names;
 use crate::orders::append_signs;
 use unit_name::{ExpandFault, NameFault, UnitName, escape, expand, unescape};
+use worked_lines::{LineFault, Words, is};
 
 /// Writes what a call on names answers.
-pub fn answer(words: &mut Words, out: &mut Answer) -> Result<(), CallFault> {
+pub fn answer(words: &mut Words, out: &mut Answer) -> Result<(), LineFault> {
     let call = words.word()?;
     if is(call, b"order") {
         append_signs(out, &names(words)?)
@@ -18,7 +18,7 @@ pub fn answer(words: &mut Words, out: &mut Answer) -> Result<(), CallFault> {
 }
 
 // What a call answers of a text.
-fn of_text(call: &[u8], text: &[u8], out: &mut Answer) -> Result<(), CallFault> {
+fn of_text(call: &[u8], text: &[u8], out: &mut Answer) -> Result<(), LineFault> {
     if is(call, b"parse") {
         parse(text, out)
     } else if is(call, b"escape") {
@@ -34,7 +34,7 @@ fn of_name(
     name: &UnitName,
     words: &mut Words,
     out: &mut Answer,
-) -> Result<(), CallFault> {
+) -> Result<(), LineFault> {
     if is(call, b"parts") {
         append_parts(out, name)
     } else if is(call, b"template_of") {
@@ -46,21 +46,21 @@ fn of_name(
     } else if is(call, b"expand") {
         expanded(name, words, out)
     } else {
-        Err(CallFault::Line)
+        Err(LineFault::Words)
     }
 }
 
 // The name that bytes are, or their fault.
-fn parse(text: &[u8], out: &mut Answer) -> Result<(), CallFault> {
+fn parse(text: &[u8], out: &mut Answer) -> Result<(), LineFault> {
     match UnitName::parse(out.alloc, text) {
         Ok(name) => out.spell(name.bytes()),
-        Err(NameFault::Memory) => Err(CallFault::Memory),
+        Err(NameFault::Memory) => Err(LineFault::Memory),
         Err(fault) => out.print(&fault),
     }
 }
 
 // Writes a name's kind and shape, whether it is a template, and its prefix and instance.
-fn append_parts(out: &mut Answer, name: &UnitName) -> Result<(), CallFault> {
+fn append_parts(out: &mut Answer, name: &UnitName) -> Result<(), LineFault> {
     let kind = name.kind();
     let shape = name.shape();
     out.write(format!(in out.alloc; "{kind:?} {shape:?} ")?.as_bytes())?;
@@ -68,24 +68,24 @@ fn append_parts(out: &mut Answer, name: &UnitName) -> Result<(), CallFault> {
     out.spell_marked(&[(b' ', name.prefix()), (b' ', name.instance())])
 }
 
-fn with_instance(name: &UnitName, words: &mut Words, out: &mut Answer) -> Result<(), CallFault> {
+fn with_instance(name: &UnitName, words: &mut Words, out: &mut Answer) -> Result<(), LineFault> {
     let instance = words.text()?;
     out.spell_name(name.with_instance(&instance)?)
 }
 
 // Writes a clone of a name, and whether it is the same.
-fn append_clone(out: &mut Answer, name: &UnitName) -> Result<(), CallFault> {
+fn append_clone(out: &mut Answer, name: &UnitName) -> Result<(), LineFault> {
     let copy = name.try_clone()?;
     out.spell(copy.bytes())?;
     out.either(copy == *name, b" same", b" other")
 }
 
 // A value with the specifiers of a name, or its fault.
-fn expanded(name: &UnitName, words: &mut Words, out: &mut Answer) -> Result<(), CallFault> {
+fn expanded(name: &UnitName, words: &mut Words, out: &mut Answer) -> Result<(), LineFault> {
     let value = words.text()?;
     match expand(words.alloc, &value, name) {
         Ok(bytes) => out.spell(&bytes),
-        Err(ExpandFault::Memory) => Err(CallFault::Memory),
+        Err(ExpandFault::Memory) => Err(LineFault::Memory),
         Err(fault) => out.print(&fault),
     }
 }

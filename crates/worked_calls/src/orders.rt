@@ -1,7 +1,7 @@
 //! How values are ordered.
 use crate::answer_text::Answer;
-use crate::calls::CallFault;
 use std::cmp::Ordering;
+use worked_lines::LineFault;
 
 // How a value stands to another, by all tests that there are.
 fn sign<T: Ord>(low: &T, high: &T) -> u8 {
@@ -14,7 +14,7 @@ fn sign<T: Ord>(low: &T, high: &T) -> u8 {
 }
 
 // Writes how a value stands to each of these.
-fn append_row<T: Ord>(out: &mut Answer, low: &T, values: &[T]) -> Result<(), CallFault> {
+fn append_row<T: Ord>(out: &mut Answer, low: &T, values: &[T]) -> Result<(), LineFault> {
     for high in values {
         out.write(&[sign(low, high)])?;
     }
@@ -22,7 +22,7 @@ fn append_row<T: Ord>(out: &mut Answer, low: &T, values: &[T]) -> Result<(), Cal
 }
 
 /// Writes for each value a word of `<`, `=` and `>`: how it stands to each of them.
-pub fn append_signs<T: Ord>(out: &mut Answer, values: &[T]) -> Result<(), CallFault> {
+pub fn append_signs<T: Ord>(out: &mut Answer, values: &[T]) -> Result<(), LineFault> {
     for low in values {
         out.part(b" ")?;
         append_row(out, low, values)?;

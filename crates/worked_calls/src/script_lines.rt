@@ -1,12 +1,12 @@
 //! Calls on the lines of scripts and their words.
 use crate::answer_text::Answer;
-use crate::calls::{CallFault, Words, is};
 use script_words::{
     cut_line, cut_word, is_name, is_passed_over, parse_number, text_of_rest, unescape,
 };
+use worked_lines::{LineFault, Words, is};
 
 /// Writes what a call on lines answers.
-pub fn answer(words: &mut Words, out: &mut Answer) -> Result<(), CallFault> {
+pub fn answer(words: &mut Words, out: &mut Answer) -> Result<(), LineFault> {
     let call = words.word()?;
     if is(call, b"text_behind") {
         text_behind(words, out)
@@ -16,7 +16,7 @@ pub fn answer(words: &mut Words, out: &mut Answer) -> Result<(), CallFault> {
 }
 
 // What a call answers of a text.
-fn told(call: &[u8], text: &[u8], out: &mut Answer) -> Result<(), CallFault> {
+fn told(call: &[u8], text: &[u8], out: &mut Answer) -> Result<(), LineFault> {
     if is(call, b"lines") {
         lines(text, out)
     } else if is(call, b"passed_over") {
@@ -30,12 +30,12 @@ fn told(call: &[u8], text: &[u8], out: &mut Answer) -> Result<(), CallFault> {
     } else if is(call, b"text") {
         out.spell_found(unescape(out.alloc, text)?)
     } else {
-        Err(CallFault::Line)
+        Err(LineFault::Words)
     }
 }
 
 // The lines of a script.
-fn lines(script: &[u8], out: &mut Answer) -> Result<(), CallFault> {
+fn lines(script: &[u8], out: &mut Answer) -> Result<(), LineFault> {
     let mut rest = script;
     while !rest.is_empty() {
         let (line, later) = cut_line(rest);
@@ -47,7 +47,7 @@ fn lines(script: &[u8], out: &mut Answer) -> Result<(), CallFault> {
 }
 
 // The words of a line.
-fn parts(line: &[u8], out: &mut Answer) -> Result<(), CallFault> {
+fn parts(line: &[u8], out: &mut Answer) -> Result<(), LineFault> {
     let mut rest = line;
     while let Some((word, later)) = cut_word(rest) {
         out.part(b" ")?;
@@ -58,18 +58,18 @@ fn parts(line: &[u8], out: &mut Answer) -> Result<(), CallFault> {
 }
 
 // The text behind some words of a line.
-fn text_behind(words: &mut Words, out: &mut Answer) -> Result<(), CallFault> {
+fn text_behind(words: &mut Words, out: &mut Answer) -> Result<(), LineFault> {
     let count = words.number()?;
     let line = words.text()?;
     let mut rest = line.as_slice();
     for _ in 0..count {
-        let (_word, later) = cut_word(rest).ok_or(CallFault::Line)?;
+        let (_word, later) = cut_word(rest).ok_or(LineFault::Words)?;
         rest = later;
     }
     out.spell(text_of_rest(rest))
 }
 
-fn number(word: &[u8], out: &mut Answer) -> Result<(), CallFault> {
+fn number(word: &[u8], out: &mut Answer) -> Result<(), LineFault> {
     match parse_number(word) {
         Some(number) => out.print(&number),
         None => out.write(b"none"),

@@ -2,13 +2,14 @@
 //!
 //! An assignment is told as `LINE:SECTION.KEY=VALUE`, and a note as `LINE:` and its words.
 use crate::answer_text::Answer;
-use crate::calls::{CallFault, Words, is};
+use plain_values::TryClone;
 use section_reader::{Assignment, Sections, read};
 use std::alloc::{AllocError, Global};
 use std::fmt::Display;
+use worked_lines::{LineFault, Words, is};
 
 /// Writes what a call on sections answers.
-pub fn answer(words: &mut Words, out: &mut Answer) -> Result<(), CallFault> {
+pub fn answer(words: &mut Words, out: &mut Answer) -> Result<(), LineFault> {
     let call = words.word()?;
     if is(call, b"long") {
         long(words, out)
@@ -20,7 +21,7 @@ pub fn answer(words: &mut Words, out: &mut Answer) -> Result<(), CallFault> {
 }
 
 // What a call answers of one file.
-fn told(call: &[u8], sections: &Sections, out: &mut Answer) -> Result<(), CallFault> {
+fn told(call: &[u8], sections: &Sections, out: &mut Answer) -> Result<(), LineFault> {
     if is(call, b"read") {
         append_sections(out, sections)
     } else if is(call, b"codes") {
@@ -28,18 +29,18 @@ fn told(call: &[u8], sections: &Sections, out: &mut Answer) -> Result<(), CallFa
     } else if is(call, b"clone") {
         append_clone(out, sections)
     } else {
-        Err(CallFault::Line)
+        Err(LineFault::Words)
     }
 }
 
 /// What the file says that the next word spells.
-pub fn read_next(words: &mut Words) -> Result<Sections, CallFault> {
+pub fn read_next(words: &mut Words) -> Result<Sections, LineFault> {
     let file = words.text()?;
     Ok(read(words.alloc, &file)?)
 }
 
 // Writes an assignment.
-fn append_item(out: &mut Answer, item: &Assignment) -> Result<(), CallFault> {
+fn append_item(out: &mut Answer, item: &Assignment) -> Result<(), LineFault> {
     out.part(b" ")?;
     out.print(&item.line)?;
     out.spell_marked(&[
@@ -50,7 +51,7 @@ fn append_item(out: &mut Answer, item: &Assignment) -> Result<(), CallFault> {
 }
 
 // Writes what is noted of a line.
-fn append_note<T: Display>(out: &mut Answer, line: usize, noted: &T) -> Result<(), CallFault> {
+fn append_note<T: Display>(out: &mut Answer, line: usize, noted: &T) -> Result<(), LineFault> {
     out.part(b" ")?;
     out.print(&line)?;
     out.write(b":")?;
@@ -58,7 +59,7 @@ fn append_note<T: Display>(out: &mut Answer, line: usize, noted: &T) -> Result<(
 }
 
 // Writes what a file says: its assignments, and then its notes.
-fn append_sections(out: &mut Answer, sections: &Sections) -> Result<(), CallFault> {
+fn append_sections(out: &mut Answer, sections: &Sections) -> Result<(), LineFault> {
     for item in sections.items.as_slice() {
         append_item(out, item)?;
     }
@@ -69,7 +70,7 @@ fn append_sections(out: &mut Answer, sections: &Sections) -> Result<(), CallFaul
 }
 
 // Writes the codes of a file's notes.
-fn append_codes(out: &mut Answer, sections: &Sections) -> Result<(), CallFault> {
+fn append_codes(out: &mut Answer, sections: &Sections) -> Result<(), LineFault> {
     for note in sections.notes.as_slice() {
         append_note(out, note.line, &note.kind.code())?;
     }
@@ -92,7 +93,7 @@ fn is_read(sections: &Sections, value: &[u8]) -> bool {
 }
 
 // Whether a file with one value of so many bytes is read as that value alone.
-fn long(words: &mut Words, out: &mut Answer) -> Result<(), CallFault> {
+fn long(words: &mut Words, out: &mut Answer) -> Result<(), LineFault> {
     let count = usize::try_from(words.number()?)?;
     let value = vec![in words.alloc; b'v'; count]?;
     let sections = read(words.alloc, &file_with(words.alloc, &value)?)?;
@@ -114,14 +115,14 @@ fn append_verdict(
     is_same: bool,
     are_items_same: bool,
     are_notes_same: bool,
-) -> Result<(), CallFault> {
+) -> Result<(), LineFault> {
     out.either(is_same, b"all same", b"all other")?;
     out.either(are_items_same, b" items same", b" items other")?;
     out.either(are_notes_same, b" notes same", b" notes other")
 }
 
 // Writes a clone of what a file says, and whether it and clones of the parts are the same.
-fn append_clone(out: &mut Answer, sections: &Sections) -> Result<(), CallFault> {
+fn append_clone(out: &mut Answer, sections: &Sections) -> Result<(), LineFault> {
     let copy = sections.try_clone()?;
     let are_items = are_items_same(sections)?;
     let are_notes = sections.notes.try_clone()? == sections.notes;
@@ -131,7 +132,7 @@ fn append_clone(out: &mut Answer, sections: &Sections) -> Result<(), CallFault> 
 }
 
 // Whether two files say the same, and whether a part of it is.
-fn compare(words: &mut Words, out: &mut Answer) -> Result<(), CallFault> {
+fn compare(words: &mut Words, out: &mut Answer) -> Result<(), LineFault> {
     let x = read_next(words)?;
     let y = read_next(words)?;
     append_verdict(out, x == y, x.items == y.items, x.notes == y.notes)

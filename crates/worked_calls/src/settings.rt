@@ -3,19 +3,19 @@
 //! A value is told as `SECTION.KEY=VALUE`, a key with its values as `SECTION.KEY=` and these, a list of dependencies as its
 //! kind and `:` and the names, and a note as its code and `SECTION.KEY`.
 use crate::answer_text::Answer;
-use crate::calls::{CallFault, Words, is};
 use crate::name_lists::append_names;
 use crate::sections::read_next;
-use byte_strings::Bytes;
-use section_reader::{Assignment, Items};
+use plain_values::{Bytes, Items};
+use section_reader::Assignment;
 use setting_rules::{
     DepKind, Dependencies, SettingNote, Settings, Values, apply, dependencies, for_unit,
     refuses_manual_start, values,
 };
 use unit_name::UnitName;
+use worked_lines::{LineFault, Words, is};
 
 /// Writes what a call on settings answers.
-pub fn answer(words: &mut Words, out: &mut Answer) -> Result<(), CallFault> {
+pub fn answer(words: &mut Words, out: &mut Answer) -> Result<(), LineFault> {
     let call = words.word()?;
     if is(call, b"kinds") {
         append_kinds(out)
@@ -31,7 +31,7 @@ pub fn answer(words: &mut Words, out: &mut Answer) -> Result<(), CallFault> {
 }
 
 // What a call answers of files alone.
-fn of_files(call: &[u8], settings: &Settings, out: &mut Answer) -> Result<(), CallFault> {
+fn of_files(call: &[u8], settings: &Settings, out: &mut Answer) -> Result<(), LineFault> {
     if is(call, b"apply") {
         append_settings(out, settings)
     } else {
@@ -40,7 +40,7 @@ fn of_files(call: &[u8], settings: &Settings, out: &mut Answer) -> Result<(), Ca
 }
 
 // What a call answers of a unit and its files.
-fn told(call: &[u8], words: &mut Words, out: &mut Answer) -> Result<(), CallFault> {
+fn told(call: &[u8], words: &mut Words, out: &mut Answer) -> Result<(), LineFault> {
     let unit = words.name()?;
     of_unit(call, &unit, &settings(words)?, out)
 }
@@ -51,18 +51,18 @@ fn of_unit(
     unit: &UnitName,
     settings: &Settings,
     out: &mut Answer,
-) -> Result<(), CallFault> {
+) -> Result<(), LineFault> {
     if is(call, b"values") {
         append_values(out, &values(out.alloc, settings, unit)?)
     } else if is(call, b"dependencies") {
         append_dependencies(out, &dependencies(out.alloc, settings, unit)?)
     } else {
-        Err(CallFault::Line)
+        Err(LineFault::Words)
     }
 }
 
 // The assignments of the files that the words left spell.
-fn assignments(words: &mut Words) -> Result<Items<Assignment>, CallFault> {
+fn assignments(words: &mut Words) -> Result<Items<Assignment>, LineFault> {
     let mut all = Items::new(words.alloc);
     for _ in 0..words.most() {
         if words.is_over() {
@@ -74,20 +74,20 @@ fn assignments(words: &mut Words) -> Result<Items<Assignment>, CallFault> {
 }
 
 // What the files that the words left spell come to.
-fn settings(words: &mut Words) -> Result<Settings, CallFault> {
+fn settings(words: &mut Words) -> Result<Settings, LineFault> {
     let assignments = assignments(words)?;
     Ok(apply(words.alloc, assignments.as_slice())?)
 }
 
 // Writes a key of a section, behind a space if something stands there.
-fn append_key(out: &mut Answer, section: &Bytes, key: &Bytes) -> Result<(), CallFault> {
+fn append_key(out: &mut Answer, section: &Bytes, key: &Bytes) -> Result<(), LineFault> {
     out.part(b" ")?;
     out.spell(section.as_slice())?;
     out.spell_marked(&[(b'.', key.as_slice())])
 }
 
 // Writes notes, or a word for nothing where nothing stands.
-fn append_notes(out: &mut Answer, notes: &[SettingNote]) -> Result<(), CallFault> {
+fn append_notes(out: &mut Answer, notes: &[SettingNote]) -> Result<(), LineFault> {
     for note in notes {
         out.part(b" ")?;
         out.print(&note.kind)?;
@@ -102,7 +102,7 @@ fn append_entry(
     section: &Bytes,
     key: &Bytes,
     texts: &[Bytes],
-) -> Result<(), CallFault> {
+) -> Result<(), LineFault> {
     append_key(out, section, key)?;
     out.write(b"=")?;
     for text in texts {
@@ -113,7 +113,7 @@ fn append_entry(
 }
 
 // Writes each key with its values, and the notes.
-fn append_settings(out: &mut Answer, settings: &Settings) -> Result<(), CallFault> {
+fn append_settings(out: &mut Answer, settings: &Settings) -> Result<(), LineFault> {
     for place in 0..settings.map.len() {
         let (key, texts) = settings.map.entry(place);
         append_entry(out, &key.section, &key.key, texts)?;
@@ -122,7 +122,7 @@ fn append_settings(out: &mut Answer, settings: &Settings) -> Result<(), CallFaul
 }
 
 // Writes rows, and the notes.
-fn append_values(out: &mut Answer, values: &Values) -> Result<(), CallFault> {
+fn append_values(out: &mut Answer, values: &Values) -> Result<(), LineFault> {
     for row in values.rows.as_slice() {
         append_key(out, &row.section, &row.key)?;
         out.spell_marked(&[(b'=', row.value.as_slice())])?;
@@ -131,7 +131,7 @@ fn append_values(out: &mut Answer, values: &Values) -> Result<(), CallFault> {
 }
 
 // Writes those lists of dependencies that aren't empty, and the notes.
-fn append_dependencies(out: &mut Answer, all: &Dependencies) -> Result<(), CallFault> {
+fn append_dependencies(out: &mut Answer, all: &Dependencies) -> Result<(), LineFault> {
     for list in all.lists.as_slice() {
         if !list.names.as_slice().is_empty() {
             out.part(b" ")?;
@@ -144,7 +144,7 @@ fn append_dependencies(out: &mut Answer, all: &Dependencies) -> Result<(), CallF
 }
 
 // Writes all kinds, each with its inverse.
-fn append_kinds(out: &mut Answer) -> Result<(), CallFault> {
+fn append_kinds(out: &mut Answer) -> Result<(), LineFault> {
     for kind in DepKind::all() {
         out.part(b" ")?;
         out.write(kind.word().as_bytes())?;
@@ -155,7 +155,7 @@ fn append_kinds(out: &mut Answer) -> Result<(), CallFault> {
 }
 
 // The kind that a key sets.
-fn told_key(words: &mut Words, out: &mut Answer) -> Result<(), CallFault> {
+fn told_key(words: &mut Words, out: &mut Answer) -> Result<(), LineFault> {
     match DepKind::of_key(&words.text()?) {
         Some(kind) => out.write(kind.word().as_bytes()),
         None => out.write(b"none"),
@@ -163,7 +163,7 @@ fn told_key(words: &mut Words, out: &mut Answer) -> Result<(), CallFault> {
 }
 
 // The unit that a unit means by a name.
-fn told_name(words: &mut Words, out: &mut Answer) -> Result<(), CallFault> {
+fn told_name(words: &mut Words, out: &mut Answer) -> Result<(), LineFault> {
     let unit = words.name()?;
     let name = words.name()?;
     out.spell_name(for_unit(&unit, name)?)

@@ -1,14 +1,14 @@
 //! Calls on stores.
 use crate::answer_text::Answer;
-use crate::calls::{CallFault, Words, byte_of, is};
 use crate::edits::{
     append_content, append_entries, append_paths, append_placed, append_store, append_version,
     edit_of, store,
 };
 use replica_store::{Content, Entry, Placed, Store};
+use worked_lines::{LineFault, Words, byte_of, is};
 
 /// Writes what a call on stores answers.
-pub fn answer(words: &mut Words, out: &mut Answer) -> Result<(), CallFault> {
+pub fn answer(words: &mut Words, out: &mut Answer) -> Result<(), LineFault> {
     let call = words.word()?;
     if is(call, b"join") {
         joined(words, out)
@@ -28,7 +28,7 @@ pub fn answer(words: &mut Words, out: &mut Answer) -> Result<(), CallFault> {
 }
 
 // What a call answers of a whole store, or of two.
-fn told(call: &[u8], first: &Store, words: &mut Words, out: &mut Answer) -> Result<(), CallFault> {
+fn told(call: &[u8], first: &Store, words: &mut Words, out: &mut Answer) -> Result<(), LineFault> {
     if is(call, b"of") {
         append_store(out, first)
     } else if is(call, b"copy") {
@@ -42,12 +42,12 @@ fn told(call: &[u8], first: &Store, words: &mut Words, out: &mut Answer) -> Resu
     } else if is(call, b"list") {
         append_paths(out, &first.list()?)
     } else {
-        Err(CallFault::Line)
+        Err(LineFault::Words)
     }
 }
 
 // A store that one edit is joined to.
-fn joined(words: &mut Words, out: &mut Answer) -> Result<(), CallFault> {
+fn joined(words: &mut Words, out: &mut Answer) -> Result<(), LineFault> {
     let edit = edit_of(words.alloc, words.word()?)?;
     let mut store = store(words)?;
     store.join_edit(edit)?;
@@ -55,7 +55,7 @@ fn joined(words: &mut Words, out: &mut Answer) -> Result<(), CallFault> {
 }
 
 /// Writes how many paths changed, and what a store then has, with its greatest counter.
-pub fn append_changed(out: &mut Answer, count: u64, store: &Store) -> Result<(), CallFault> {
+pub fn append_changed(out: &mut Answer, count: u64, store: &Store) -> Result<(), LineFault> {
     out.print(&count)?;
     out.write(b" changed, high ")?;
     out.print(&store.high())?;
@@ -64,28 +64,28 @@ pub fn append_changed(out: &mut Answer, count: u64, store: &Store) -> Result<(),
 }
 
 // A store that another is merged into.
-fn merged(words: &mut Words, out: &mut Answer) -> Result<(), CallFault> {
+fn merged(words: &mut Words, out: &mut Answer) -> Result<(), LineFault> {
     let mut first = store(words)?;
     let count = first.merge(&store(words)?)?;
     append_changed(out, count, &first)
 }
 
 // A store that takes another.
-fn absorbed(words: &mut Words, out: &mut Answer) -> Result<(), CallFault> {
+fn absorbed(words: &mut Words, out: &mut Answer) -> Result<(), LineFault> {
     let mut first = store(words)?;
     let count = first.absorb(store(words)?)?;
     append_changed(out, count, &first)
 }
 
 // Writes how many paths a store holds, and in how many directories they stand.
-fn append_sizes(out: &mut Answer, store: &Store) -> Result<(), CallFault> {
+fn append_sizes(out: &mut Answer, store: &Store) -> Result<(), LineFault> {
     out.print(&store.len())?;
     out.write(b" in ")?;
     out.print(&store.maps().len())
 }
 
 // Writes a content, or that there is none.
-fn append_visible(out: &mut Answer, content: Option<&Content>) -> Result<(), CallFault> {
+fn append_visible(out: &mut Answer, content: Option<&Content>) -> Result<(), LineFault> {
     match content {
         Some(content) => append_content(out, content),
         None => out.write(b"nothing"),
@@ -93,7 +93,7 @@ fn append_visible(out: &mut Answer, content: Option<&Content>) -> Result<(), Cal
 }
 
 // Writes a version and a content, or that there are none.
-fn append_entry(out: &mut Answer, entry: Option<&Entry>) -> Result<(), CallFault> {
+fn append_entry(out: &mut Answer, entry: Option<&Entry>) -> Result<(), LineFault> {
     let Some(entry) = entry else {
         return out.write(b"nothing");
     };
@@ -102,7 +102,7 @@ fn append_entry(out: &mut Answer, entry: Option<&Entry>) -> Result<(), CallFault
 }
 
 // What a store holds at a path, or what is visible there.
-fn at_path(call: &[u8], words: &mut Words, out: &mut Answer) -> Result<(), CallFault> {
+fn at_path(call: &[u8], words: &mut Words, out: &mut Answer) -> Result<(), LineFault> {
     let path = words.path()?;
     let store = store(words)?;
     if is(call, b"visible") {
@@ -112,7 +112,7 @@ fn at_path(call: &[u8], words: &mut Words, out: &mut Answer) -> Result<(), CallF
 }
 
 // The entries of a folder, or its paths.
-fn in_folder(call: &[u8], words: &mut Words, out: &mut Answer) -> Result<(), CallFault> {
+fn in_folder(call: &[u8], words: &mut Words, out: &mut Answer) -> Result<(), LineFault> {
     let rank = byte_of(words.word()?)?;
     let folder = words.text()?;
     let store = store(words)?;
@@ -123,7 +123,7 @@ fn in_folder(call: &[u8], words: &mut Words, out: &mut Answer) -> Result<(), Cal
 }
 
 // What is visible at the path of these parts, or what is held there.
-fn at_parts(call: &[u8], words: &mut Words, out: &mut Answer) -> Result<(), CallFault> {
+fn at_parts(call: &[u8], words: &mut Words, out: &mut Answer) -> Result<(), LineFault> {
     let rank = byte_of(words.word()?)?;
     let folder = words.text()?;
     let name = words.text()?;
@@ -135,7 +135,7 @@ fn at_parts(call: &[u8], words: &mut Words, out: &mut Answer) -> Result<(), Call
 }
 
 // Writes an entry behind the name of its path, or that there is none.
-fn append_held(out: &mut Answer, held: Option<Placed>) -> Result<(), CallFault> {
+fn append_held(out: &mut Answer, held: Option<Placed>) -> Result<(), LineFault> {
     let Some(placed) = held else {
         return out.write(b"nothing");
     };

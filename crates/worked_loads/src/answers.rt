@@ -1,16 +1,16 @@
 //! The answers of lines.
+use crate::asking::{ask, world};
 use crate::edits::{Asked, asked_of};
 use crate::graphs::graph;
-use crate::meetings::Meeting;
 use crate::tellings::{append_load, append_looked_up, append_unit, begin};
-use crate::words::{LineFault, Words};
-use parallel_load::{LoadFault, Loaded, OpenGate, load_fleet, load_here, load_one};
+use parallel_load::{LoadFault, Loaded, load_fleet, load_here, load_one};
 use replica_store::Store;
-use script_words::{cut_line, is_passed_over};
 use std::alloc::{AllocError, Global};
 use std::thread::Threads;
 use std::time::Clock;
 use unit_name::UnitName;
+use worked_lines::{LineFault, Meeting, Words, is};
+use worker_rounds::OpenGate;
 
 // Writes a load with what it has at names, or why there is none.
 fn append_here(
@@ -144,59 +144,23 @@ fn one(alloc: Global, words: &mut Words) -> Result<Vec<u8>, LineFault> {
     Ok(out)
 }
 
-// What the words of a line answer.
-fn answer<R: Threads + Clock + Sync>(
-    rt: &R,
-    alloc: Global,
-    words: &mut Words,
-) -> Result<Vec<u8>, LineFault> {
-    match words.next_word() {
-        Some(b"graph") => graph(alloc, words),
-        Some(b"load") => load(rt, alloc, words),
-        Some(b"meet") => meet(rt, alloc, words),
-        Some(b"one") => one(alloc, words),
-        _ => Err(LineFault::Words),
+/// What a line answers.
+pub fn answer<R: Threads + Clock + Sync>(rt: &R, alloc: Global, line: &[u8]) -> Result<Vec<u8>, LineFault> {
+    let mut words = Words::new(alloc, line);
+    let call = words.word()?;
+    if is(call, b"graph") {
+        graph(alloc, &mut words)
+    } else if is(call, b"load") {
+        load(rt, alloc, &mut words)
+    } else if is(call, b"meet") {
+        meet(rt, alloc, &mut words)
+    } else if is(call, b"one") {
+        one(alloc, &mut words)
+    } else if is(call, b"ask") {
+        ask(rt, alloc, &mut words)
+    } else if is(call, b"world") {
+        world(rt, alloc, &mut words)
+    } else {
+        Err(LineFault::Words)
     }
-}
-
-// Writes what a line answered; `memory` where that was refused.
-fn append_answer(
-    out: &mut Vec<u8>,
-    answered: &Result<Vec<u8>, LineFault>,
-) -> Result<(), AllocError> {
-    match answered {
-        Ok(text) => out.extend_from_slice(text),
-        Err(LineFault::Words) => out.extend_from_slice(b"\n  no such line"),
-        Err(LineFault::Memory) => out.extend_from_slice(b"\n  memory"),
-    }
-}
-
-// Writes a line, and below it its answers if it is a call.
-fn append_line<R: Threads + Clock + Sync>(
-    rt: &R,
-    alloc: Global,
-    out: &mut Vec<u8>,
-    line: &[u8],
-) -> Result<(), AllocError> {
-    out.extend_from_slice(line)?;
-    if !is_passed_over(line) {
-        append_answer(out, &answer(rt, alloc, &mut Words::new(alloc, line)))?;
-    }
-    Ok(out.push(b'\n')?)
-}
-
-/// All lines, each with its answers.
-pub fn work_lines<R: Threads + Clock + Sync>(
-    rt: &R,
-    alloc: Global,
-    lines: &[u8],
-) -> Result<Vec<u8>, AllocError> {
-    let mut out = Vec::new(alloc);
-    let mut rest = lines;
-    while !rest.is_empty() {
-        let (line, later) = cut_line(rest);
-        append_line(rt, alloc, &mut out, line)?;
-        rest = later;
-    }
-    Ok(out)
 }

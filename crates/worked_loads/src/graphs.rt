@@ -3,19 +3,19 @@ ghost use Rattle.unit_graph.specs.Graphs.{IsKnown};
 
 use crate::edits::{Asked, asked_of};
 use crate::tellings::{append_names, append_status, begin};
-use crate::words::{LineFault, Words};
 use inverse_deps::edges;
 use parallel_load::{LoadFault, Loaded, load_here};
 use setting_rules::DepKind;
 use std::alloc::{AllocError, Global};
 use unit_graph::Graph;
 use unit_name::UnitName;
+use worked_lines::{LineFault, Words};
 
 // The kinds that a list of words writes.
 fn kinds_of(alloc: Global, words: &mut Words) -> Result<Vec<DepKind>, LineFault> {
     let mut kinds = Vec::new(alloc);
-    for _ in 0..words.bound() {
-        let Some(word) = words.next_of_list() else {
+    for _ in 0..words.most() {
+        let Some(word) = words.listed() else {
             break;
         };
         let mut all = DepKind::all().iter().copied();
@@ -132,7 +132,7 @@ fn append_graph(
     names: &[UnitName],
 ) -> Result<(), AllocError> {
     let edges = edges(alloc, load)?;
-    let graph = Graph::build(alloc, load, &edges)?;
+    let graph = Graph::build(load, &edges);
     append_all(alloc, out, &graph, kinds, names)
 }
 

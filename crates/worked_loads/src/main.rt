@@ -10,7 +10,12 @@
 //! - `meet EDITS + ASKED`: the load by two workers, at a gate where each of two pieces waits for the other;
 //! - `graph EDITS + ASKED + KINDS + NAMES`: the units of the graph of a load, and from each name the unit for which it
 //!   stands, where edges of the kinds lead in one step, what is reached over them, and how far what it pulls is;
-//! - `one EDITS + NAMES`: the unit of each name, loaded alone.
+//! - `one EDITS + NAMES`: the unit of each name, loaded alone;
+//! - `ask EDITS + ASKED + QUESTION + WORKERS`: what a store answers by one thread, and by each number of workers;
+//! - `world EDITS + QUESTION + WORKERS`: what two nodes of a world answer, by each number of workers, once the second took
+//!   what the first put: at a moment before the last edit, and at one behind it; and that there is no third node.
+//!
+//! A question is `unit NAME`, `pulled NAME`, or `plan TARGET RUNNING..`.
 //!
 //! An edit is `PATH=TEXT` for a file and `PATH>TARGET` for a link, its directory as `E`, `R`, `L` or `U`. In a text `\n`
 //! and `\xHH` are read. A line that is refused memory is answered by `memory`. Lines that are empty or begin with `#` are
@@ -18,27 +23,20 @@
 #![tactic(auto)]
 
 mod answers;
+mod asking;
 mod edits;
 mod graphs;
-mod meetings;
 mod tellings;
-mod words;
 
-use script_pipes::{Watched, read_all, write_all};
-use std::io;
+use std::alloc::AllocError;
 use std::process::ExitCode;
+use worked_lines::{LineFault, answer_lines, work_input};
 
 fn main(rt: HostRuntime) -> ExitCode {
-    let mut reader = Watched::new(rt.reader());
-    let Ok(lines) = read_all(rt.alloc(), &mut reader) else {
-        return ExitCode::from(1);
-    };
-    let Ok(out) = answers::work_lines(&rt, rt.alloc(), &lines) else {
-        return ExitCode::from(2);
-    };
-    let mut writer = Watched::new(io::writer(&rt));
-    if write_all(&mut writer, &out).is_err() {
-        return ExitCode::from(1);
-    }
-    ExitCode::from(0)
+    work_input(&rt, |text: &[u8]| -> Result<Vec<u8>, AllocError> {
+        let answer = |line: &[u8]| -> Result<Vec<u8>, LineFault> {
+            answers::answer(&rt, rt.alloc(), line)
+        };
+        answer_lines(rt.alloc(), text, b"\n  ", answer)
+    })
 }

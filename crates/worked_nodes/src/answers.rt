@@ -3,19 +3,19 @@ ghost use Rattle.std.specs.Prelude.{◌≡◌};
 
 use crate::bench::Bench;
 use crate::crowding::{answer_crowd, answer_meeting};
+use crate::edits::one_edit;
 use crate::endings::{close, close_short};
 use crate::steps::step;
 use crate::threads::{plan_of, work_threads};
-use crate::words::{LineFault, Words};
 use node_histories::NodeName;
 use replica_store::{Replica, Store};
-use script_words::{cut_line, is_passed_over};
 use shared_node::{Blank, BlankFault, Node};
-use std::alloc::{AllocError, Global};
+use std::alloc::Global;
 use std::marker::Brand;
 use std::sync::Wait;
 use std::thread::Threads;
 use std::time::Clock;
+use worked_lines::{LineFault, Words, is};
 
 // Does the steps at an open node, up to a word that is none; whether that word is `short`.
 fn work_steps<N: NodeName, R: Wait>(
@@ -24,7 +24,7 @@ fn work_steps<N: NodeName, R: Wait>(
     bench: &mut Bench<N>,
     words: &mut Words,
 ) -> Result<bool, LineFault> {
-    for _ in 0..words.bound() {
+    for _ in 0..words.most() {
         let Some(word) = words.next_word() else {
             return Ok(false);
         };
@@ -112,7 +112,7 @@ fn answer_node<R: Wait>(rt: &R, alloc: Global, words: &mut Words) -> Result<Vec<
 fn answer_held<R: Wait>(rt: &R, alloc: Global, words: &mut Words) -> Result<Vec<u8>, LineFault> {
     let writer = words.writer()?;
     let seats = words.place()?;
-    let store = Store::from_edits(alloc, &words.edits()?)?;
+    let store = Store::from_edits(alloc, &one_edit(words)?)?;
     answer_over(rt, alloc, Replica::from_store(writer, store), seats, words)
 }
 
@@ -134,60 +134,21 @@ fn answer_threads<R: Threads + Wait + Sync>(
     }
 }
 
-// What the words of a line answer.
-fn answer<R: Threads + Wait + Clock + Sync>(
-    rt: &R,
-    alloc: Global,
-    words: &mut Words,
-) -> Result<Vec<u8>, LineFault> {
-    match words.next_word() {
-        Some(b"node") => answer_node(rt, alloc, words),
-        Some(b"over") => answer_held(rt, alloc, words),
-        Some(b"threads") => answer_threads(rt, alloc, words),
-        Some(b"crowd") => answer_crowd(rt, alloc, words),
-        Some(b"meet") => answer_meeting(rt, alloc, words),
-        _ => Err(LineFault::Words),
+/// What a line answers.
+pub fn answer<R: Threads + Wait + Clock + Sync>(rt: &R, alloc: Global, line: &[u8]) -> Result<Vec<u8>, LineFault> {
+    let mut words = Words::new(alloc, line);
+    let call = words.word()?;
+    if is(call, b"node") {
+        answer_node(rt, alloc, &mut words)
+    } else if is(call, b"over") {
+        answer_held(rt, alloc, &mut words)
+    } else if is(call, b"threads") {
+        answer_threads(rt, alloc, &mut words)
+    } else if is(call, b"crowd") {
+        answer_crowd(rt, alloc, &mut words)
+    } else if is(call, b"meet") {
+        answer_meeting(rt, alloc, &mut words)
+    } else {
+        Err(LineFault::Words)
     }
-}
-
-// Writes what a line answered; `memory` where that was refused.
-fn append_answer(
-    out: &mut Vec<u8>,
-    answered: &Result<Vec<u8>, LineFault>,
-) -> Result<(), AllocError> {
-    match answered {
-        Ok(text) => out.extend_from_slice(text),
-        Err(LineFault::Words) => out.extend_from_slice(b"\n  no such line"),
-        Err(LineFault::Memory) => out.extend_from_slice(b"\n  memory"),
-    }
-}
-
-// Writes a line, and below it its answers if it is one of those above.
-fn append_line<R: Threads + Wait + Clock + Sync>(
-    rt: &R,
-    alloc: Global,
-    out: &mut Vec<u8>,
-    line: &[u8],
-) -> Result<(), AllocError> {
-    out.extend_from_slice(line)?;
-    if !is_passed_over(line) {
-        append_answer(out, &answer(rt, alloc, &mut Words::new(alloc, line)))?;
-    }
-    Ok(out.push(b'\n')?)
-}
-
-/// All lines, each with its answers.
-pub fn work_lines<R: Threads + Wait + Clock + Sync>(
-    rt: &R,
-    alloc: Global,
-    lines: &[u8],
-) -> Result<Vec<u8>, AllocError> {
-    let mut out = Vec::new(alloc);
-    let mut rest = lines;
-    while !rest.is_empty() {
-        let (line, later) = cut_line(rest);
-        append_line(rt, alloc, &mut out, line)?;
-        rest = later;
-    }
-    Ok(out)
 }

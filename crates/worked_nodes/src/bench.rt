@@ -1,11 +1,11 @@
 //! What stands beside a node while it is worked at.
-use crate::words::LineFault;
 use join_law::Version;
 use load_path::Path;
 use node_histories::NodeName;
 use replica_store::Store;
 use shared_node::{NodeFault, Seat, Told};
 use std::alloc::{AllocError, Global};
+use worked_lines::LineFault;
 
 /// The seats that a node gave, by number, and the last token that it gave.
 #[derive(Drop)]

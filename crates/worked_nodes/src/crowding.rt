@@ -1,13 +1,12 @@
 //! Crowds at a node over nothing.
-use crate::words::{LineFault, Words};
 use crowds::{Counted, CrowdFault, Gate, MOST_EDITS, ROOM, crowd};
-use meetings::Meeting;
-use parallel_load::OpenGate;
 use replica_store::Replica;
 use std::alloc::Global;
 use std::sync::Wait;
 use std::thread::Threads;
 use std::time::Clock;
+use worked_lines::{LineFault, Meeting, Words};
+use worker_rounds::OpenGate;
 
 // What a crowd's numbers answer, or why there are none.
 fn counted_text(alloc: Global, counted: Result<Counted, CrowdFault>) -> Result<Vec<u8>, LineFault> {

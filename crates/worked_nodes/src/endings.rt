@@ -1,10 +1,10 @@
 //! How a node is closed.
 use crate::bench::{Bench, store_text};
-use crate::words::LineFault;
 use node_histories::NodeName;
 use shared_node::{CloseCause, CloseFault, Closed, Node, Seat};
 use std::alloc::Global;
 use std::sync::Wait;
+use worked_lines::LineFault;
 
 // The seats of a bench.
 fn seats_of<N: NodeName>(bench: &mut Bench<N>) -> Result<Vec<Seat<N>>, LineFault> {

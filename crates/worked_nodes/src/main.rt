@@ -23,26 +23,20 @@
 mod answers;
 mod bench;
 mod crowding;
+mod edits;
 mod endings;
 mod steps;
 mod threads;
-mod words;
 
-use script_pipes::{Watched, read_all, write_all};
-use std::io;
+use std::alloc::AllocError;
 use std::process::ExitCode;
+use worked_lines::{LineFault, answer_lines, work_input};
 
 fn main(rt: HostRuntime) -> ExitCode {
-    let mut reader = Watched::new(rt.reader());
-    let Ok(lines) = read_all(rt.alloc(), &mut reader) else {
-        return ExitCode::from(1);
-    };
-    let Ok(out) = answers::work_lines(&rt, rt.alloc(), &lines) else {
-        return ExitCode::from(2);
-    };
-    let mut writer = Watched::new(io::writer(&rt));
-    if write_all(&mut writer, &out).is_err() {
-        return ExitCode::from(1);
-    }
-    ExitCode::from(0)
+    work_input(&rt, |text: &[u8]| -> Result<Vec<u8>, AllocError> {
+        let answer = |line: &[u8]| -> Result<Vec<u8>, LineFault> {
+            answers::answer(&rt, rt.alloc(), line)
+        };
+        answer_lines(rt.alloc(), text, b"\n  ", answer)
+    })
 }

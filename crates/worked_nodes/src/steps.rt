@@ -1,6 +1,6 @@
 //! What is done at a node.
 use crate::bench::{Bench, store_text};
-use crate::words::{LineFault, Words, is};
+use crate::edits::one_edit;
 use crossbeam_channel::{Receiver, Sender, unbounded};
 use delta_pieces::Piece;
 use join_law::Version;
@@ -8,6 +8,7 @@ use node_histories::NodeName;
 use shared_node::{Message, Node, NodeFault, Seat, Served, Told, serve};
 use std::alloc::Global;
 use std::sync::Wait;
+use worked_lines::{LineFault, Words, is};
 use worker_rounds::Gate;
 
 /// Does one step, and writes its answer. It answers false where the word is no step at an open node.
@@ -85,7 +86,7 @@ fn edit<N: NodeName, R: Wait>(
 
 // The piece of one edit that the words write.
 fn piece(alloc: Global, words: &mut Words) -> Result<Piece, LineFault> {
-    Ok(Piece::from_edits(alloc, &words.edits()?)?)
+    Ok(Piece::from_edits(alloc, &one_edit(words)?)?)
 }
 
 // Keeps the token of a piece, and writes how many paths it changed, or why it wasn't taken.

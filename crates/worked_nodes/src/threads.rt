@@ -2,7 +2,6 @@
 ghost use Rattle.std.specs.Prelude.{◌≡◌};
 
 use crate::endings::end_refused;
-use crate::words::{LineFault, Words};
 use edit_sums::Content;
 use load_path::Path;
 use node_histories::NodeName;
@@ -11,6 +10,7 @@ use std::alloc::{AllocError, Global};
 use std::sync::Wait;
 use std::thread;
 use std::thread::Threads;
+use worked_lines::{LineFault, Words};
 
 /// How many seats write and read, how many edits each writer makes, and how often each reader views.
 #[derive(Clone, Copy)]

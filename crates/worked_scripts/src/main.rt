@@ -11,13 +11,13 @@ mod dialogues;
 
 use dialogues::{Dialogue, Kind, kind_of};
 use fleet_script::run;
-use script_pipes::{Watched, read_all, write_all};
+use script_pipes::Watched;
 use script_words::cut_line;
 use std::alloc::AllocError;
-use std::io;
 use std::process::ExitCode;
 use std::sync::Wait;
 use std::thread::Threads;
+use worked_lines::work_input;
 
 // Whether these are the answers and the end that a dialogue tells.
 fn is_as_told(dialogue: &Dialogue, written: &[u8], end: &[u8]) -> bool {
@@ -68,16 +68,5 @@ fn work_all<R: AllocGlobal + Threads + Wait + Sync>(
 }
 
 fn main(rt: HostRuntime) -> ExitCode {
-    let mut reader = Watched::new(rt.reader());
-    let Ok(text) = read_all(rt.alloc(), &mut reader) else {
-        return ExitCode::from(1);
-    };
-    let Ok(out) = work_all(&rt, &text) else {
-        return ExitCode::from(2);
-    };
-    let mut writer = Watched::new(io::writer(&rt));
-    if write_all(&mut writer, &out).is_err() {
-        return ExitCode::from(1);
-    }
-    ExitCode::from(0)
+    work_input(&rt, |text: &[u8]| -> Result<Vec<u8>, AllocError> { work_all(&rt, text) })
 }

@@ -1,2 +1,3 @@
+pub mod Crews
 pub mod Joined
 pub mod Refusals

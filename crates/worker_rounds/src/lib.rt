@@ -4,13 +4,15 @@
 //! Promise: any number of workers; gates change nothing.
 #![tactic(auto)]
 
+mod crews;
 mod faults;
 mod gates;
 mod pieces;
 mod rounds;
 mod workers;
 
+pub use crews::{MOST_WORKERS, is_crew};
 pub use faults::LoadFault;
-pub use gates::{Gate, TURNS, pass_gate};
+pub use gates::{Gate, OpenGate, TURNS, pass_gate};
 pub use pieces::{Piece, cut, put_together};
-pub use rounds::{MOST_WORKERS, close_loaded_by_workers};
+pub use rounds::close_loaded_by_workers;

@@ -8,17 +8,15 @@ ghost use Rattle.name_closure.specs.Loading.{LeadsByLoad, AreLoaded, IsRound};
 ghost use Rattle.worker_rounds.specs.Refusals.{OnTooMany};
 ghost use Rattle.worker_rounds.specs.declared.faults.LoadFault.TheVariants.{Workers};
 
+use crate::crews::is_crew;
 use crate::faults::LoadFault;
 use crate::gates::Gate;
 use crate::workers::load_by_workers;
-use join_law::Key;
+use plain_values::Key;
 use name_closure::{Loads, Round, close_by_rounds};
 use std::alloc::{AllocError, Global};
 use std::collections::BTreeMap;
 use std::thread::Threads;
-
-/// So many workers load at most.
-pub const MOST_WORKERS: usize = 64;
 
 /// All that is reached from the sources, each node with what is loaded for it, as by `close_loaded`.
 /// The sources are nodes that the loader can load.
@@ -59,7 +57,7 @@ where
     ensures not_over { IfOk result (λ _. ¬ HasOver (Listed sources.now)
         (LeadsByLoad (L.is_loaded loader.now) (L.named loader.now)) K.cmp limit) }
 {
-    if workers == 0 || workers > MOST_WORKERS {
+    if !is_crew(workers) {
         return Err(LoadFault::Workers);
     }
     let load_round = |fresh: Vec<K>| -> Result<Round<K, L::Loaded>, AllocError>

@@ -1,13 +1,13 @@
 -- The theorem on whole runs.
-use Rattle.std.proofs.Common.{◌≡◌, ℕ, true, false, cond, Option, Some, None, List, [], ◌∷◌, ◌++◌, refl, sym, ◌∙◌, inl, inr}
+use Rattle.std.proofs.Common.{◌≡◌, ◌↔◌, ℕ, true, false, cond, Option, Some, None, List, [], ◌∷◌, ◌++◌, refl, sym, subst, ◌∙◌, inl, inr}
 use Rattle.std.specs.Prelude.{slice_get, nat_lt, IfSome}
 use Rattle.list_laws.specs.Members.{IsAmong}
 use Rattle.edit_sums.specs.declared.entries.Edit.{Edit}
-use Rattle.edit_sums.specs.Sums.{IsHonest}
-use Rattle.edit_sums.specs.SumLaws.{sum_of-same_edits}
+use Rattle.edit_sums.specs.Sums.{EntryMap, IsAboveEdits, IsHonest, IsStoreBelow}
+use Rattle.edit_sums.specs.SumLaws.{sum_of-least, sum_of-same_edits}
 use Rattle.world_law.specs.declared.events.Event.{Event}
 use Rattle.world_law.specs.declared.events.Event.TheVariants.{Put, Ask, Cut, Give}
-use Rattle.world_law.specs.Worlds.{Node, after, blank, puts_of, EachStoreIsItsSum, SameTookSameStore, AreSameEdits}
+use Rattle.world_law.specs.Worlds.{Node, after, blank, puts_of, EachStoreIsItsSum, EachStoreIsLeast, SameTookSameStore, AreSameEdits}
 use Rattle.world_law.specs.SoundLaws.{IsSound, blank_sound, after_keeps}
 
 pub IfSome_from : (o : Option Node) (P : Node → Type 0) → ((n : Node) → o ≡ Some n → P n) → IfSome o P
@@ -32,6 +32,12 @@ run_sound n all events honest puts =
 pub each_store_is_its_sum : (n : ℕ) (events : List Event) → EachStoreIsItsSum n events
 each_store_is_its_sum n events honest k =
     IfSome_from _ _ (λ node h. ((run_sound n events events honest (λ e a. a)).nodes k node h).is_sum)
+
+pub each_store_is_least : (n : ℕ) (events : List Event) → EachStoreIsLeast n events
+each_store_is_least n events honest k =
+    IfSome_from (slice_get (after events (blank n)).nodes k) (λ node. (s : EntryMap) → IsStoreBelow node.store s ↔ IsAboveEdits node.took s)
+    (λ node h s. (let P : EntryMap → Type 0 = λ t. IsStoreBelow t s ↔ IsAboveEdits node.took s in
+    subst P (sym ((run_sound n events events honest (λ e a. a)).nodes k node h).is_sum) (sum_of-least node.took s)))
 
 pub same_took_same_store : (n : ℕ) (before later : List Event) → SameTookSameStore n before later
 same_took_same_store n before later honest k l =

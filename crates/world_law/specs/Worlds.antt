@@ -1,11 +1,11 @@
 -- Worlds of nodes that put, ask, cut and give.
 -- Source (causal history, and strong eventual consistency): Shapiro, Preguica, Baquero, Zawirski 2011; asks and pieces after Almeida, Shoker, Baquero 2018.
-use Rattle.std.specs.Prelude.{◌≡◌, ◌<◌, ℕ, zero, suc, if◌then◌else◌, ◌==◌, nat_lt, Option, Some, None, IfSome, List, [], ◌∷◌, ◌++◌, slice_get, replicate}
+use Rattle.std.specs.Prelude.{◌≡◌, ◌↔◌, ◌<◌, ℕ, zero, suc, if◌then◌else◌, ◌==◌, nat_lt, Option, Some, None, IfSome, List, [], ◌∷◌, ◌++◌, slice_get, replicate}
 use Rattle.std.specs.FinMap as finmap
 use Rattle.list_laws.specs.Members.{IsAmong}
 use Rattle.edit_sums.specs.declared.entries.Edit.{Edit}
 use Rattle.load_path.specs.Paths.{PathParts}
-use Rattle.edit_sums.specs.Sums.{EntryMap, IsHonest, sum_of, edits_of, join}
+use Rattle.edit_sums.specs.Sums.{EntryMap, IsAboveEdits, IsHonest, IsStoreBelow, sum_of, edits_of, join}
 use Rattle.world_law.specs.Cuts.{VersionMap, digest_of, cut, at_paths}
 use Rattle.world_law.specs.declared.events.Event.{Event}
 use Rattle.world_law.specs.declared.events.Event.TheVariants.{Put, Ask, Cut, Give}
@@ -88,6 +88,11 @@ puts_of n (Give p k ∷ es) = puts_of n es
 abbrev pub EachStoreIsItsSum : ℕ → List Event → Type 0
 EachStoreIsItsSum n events =
     IsHonest (puts_of n events) → (k : ℕ) → IfSome (slice_get (after events (blank n)).nodes k) (λ node. node.store ≡ sum_of node.took)
+
+-- and that is the least store above these edits: it lies below just those that are above each of them
+abbrev pub EachStoreIsLeast : ℕ → List Event → Type 0
+EachStoreIsLeast n events =
+    IsHonest (puts_of n events) → (k : ℕ) → IfSome (slice_get (after events (blank n)).nodes k) (λ node. (s : EntryMap) → IsStoreBelow node.store s ↔ IsAboveEdits node.took s)
 
 -- the same edits, in any order and number
 abbrev pub AreSameEdits : List Edit → List Edit → Type 0

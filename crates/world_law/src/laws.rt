@@ -3,7 +3,7 @@ ghost use Rattle.std.specs.Prelude.{◌≡◌, ◌++◌, ℕ, None, List};
 ghost use Rattle.edit_sums.specs.Sums.{EntryMap, IsHonest, edits_of, join};
 ghost use Rattle.world_law.specs.declared.events.Event.{Event};
 ghost use Rattle.world_law.specs.Cuts.{cut, digest_of};
-ghost use Rattle.world_law.specs.Worlds.{EachStoreIsItsSum, SameTookSameStore};
+ghost use Rattle.world_law.specs.Worlds.{EachStoreIsItsSum, EachStoreIsLeast, SameTookSameStore};
 ghost use Rattle.world_law.specs.Took.{HoldsTheSum, TookAsTold};
 
 /// Whatever happens, each node's store is the sum of what it took, and nodes that took the same
@@ -11,6 +11,9 @@ ghost use Rattle.world_law.specs.Took.{HoldsTheSum, TookAsTold};
 /// version stands for two of them.
 pub fn converges()
     ensures sums { (nodes : ℕ) (events : List Event) → EachStoreIsItsSum nodes events }
+
+    // That is the least store above these edits.
+    ensures least { (nodes : ℕ) (events : List Event) → EachStoreIsLeast nodes events }
 
     // The same, with what a node took told from the events alone.
     ensures told { (nodes : ℕ) (events : List Event) → HoldsTheSum nodes events }

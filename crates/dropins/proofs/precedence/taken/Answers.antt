@@ -2,10 +2,10 @@ use Rattle.std.proofs.Common.{◌≡◌, ◌∙◌, ℕ, List, ap, arith, None, 
 use Rattle.std.specs.BTreeMap.{get}
 use Rattle.std.proofs.lemmas.Result.{IfOk-weaker}
 use Rattle.unit_name.specs.Names.{name_cmp}
-use Rattle.load_levels.specs.Levels.{levels}
+use Rattle.load_path.specs.Levels.{levels}
 use Rattle.dropins.specs.Walks.{first_for, took, took_in}
 use Rattle.list_laws.specs.FirstSaid.{first_said, said_more}
-use Rattle.load_levels.specs.LevelLaws.{level_is}
+use Rattle.load_path.specs.LevelLaws.{level_is}
 use Rattle.dropins.proofs.precedence.taken.Goals as goal
 
 pub loop-level-preserved : goal.loop-level-preserved

@@ -1,6 +1,6 @@
 use Rattle.std.proofs.Common.{◌≡◌, ℕ, List, take}
 use Rattle.list_laws.specs.FirstSaid.{first_said}
-use Rattle.load_levels.specs.Levels.{levels}
+use Rattle.load_path.specs.Levels.{levels}
 use Rattle.dropins.specs.Walks.{first_for, took_in}
 use Rattle.dropins.proofs.precedence.taken.Given as goal
 

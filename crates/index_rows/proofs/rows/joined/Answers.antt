@@ -2,17 +2,24 @@ use Rattle.std.proofs.Common.{◌≡◌, ◌++◌, ◌⊎◌, ◌<◌, ℕ, List
 use Rattle.list_laws.specs.Members.{IsAmong}
 use Rattle.index_rows.specs.Rows.{row as row_of}
 use Rattle.index_rows.specs.RowLaws.{row-below}
-use Rattle.index_rows.proofs.Building.{AreMade-none, AreMade-more, AreMade-all, AreMade-rows, row-from, append_is}
+use Rattle.index_rows.proofs.Building.{AreMade-none, AreMade-more, AreMade-all, AreMade-rows, row-from, append_is, rise-none, rise-more}
 use Rattle.index_rows.proofs.rows.joined.Goals as goal
 
 pub rows-init : goal.rows-init
-rows-init c = AreMade-none _ _ c.new-rows.ensures.items
+rows-init c = record { made = AreMade-none _ _ c.new-rows.ensures.items; rise = rise-none _ c.new-rows.ensures.items }
 
 pub rows-preserved : goal.rows-preserved
 rows-preserved c =
-    let nodes : c.extend_from_slice.new.self.items ≡ row_of c.args.first.now c.rows.node ++ row_of c.args.second.now c.rows.node =
-    c.in_ok-extend_from_slice.ensures.items ∙ ap (λ (l : List ℕ). l ++ c.row-in-rows.result.now) (c.in_ok-nodes.ensures.items ∙ c.row.ensures) ∙ ap (λ (l : List ℕ). row_of c.args.first.now c.rows.node ++ l) c.row-in-rows.ensures in
-    AreMade-more _ _ _ _ c.extend_from_slice.new.self c.rows.invariant c.in_ok-push.ensures.items (λ v. append_is v _ _ _ nodes)
+    let first = row_of c.args.first.now c.rows.node in
+    let second = row_of c.args.second.now c.rows.node in
+    let nodes : c.extend_from_slice.new.self.items ≡ first ++ second =
+    c.in_ok-extend_from_slice.ensures.items ∙ ap (λ (l : List ℕ). l ++ c.row-in-rows.result.now) (c.in_ok-nodes.ensures.items ∙ c.row.ensures) ∙ ap (λ (l : List ℕ). first ++ l) c.row-in-rows.ensures in
+    let put = c.put_in_order.ensures in
+    record {
+      made = AreMade-more _ _ _ _ c.put_in_order.new.nodes c.rows.invariant.made c.in_ok-push.ensures.items
+          (λ v. (let both = append_is v _ _ _ nodes in let ordered = put.members v in (λ h. both.0 (ordered.0 h), λ h. ordered.1 (both.1 h))));
+      rise = rise-more _ _ c.put_in_order.new.nodes c.rows.invariant.rise c.in_ok-push.ensures.items put.rising;
+    }
 
 pub returns : goal.returns
 returns c =
@@ -24,6 +31,7 @@ returns c =
     λ u v h. elim h [ inl a ↦ row-below (length c.args.first.now) c.args.first.now u v first.within a | inr b ↦ row-below (length c.args.first.now) c.args.second.now u v second.within b ] in
     let done : c.rows.node ≡ length c.args.first.now = omega arith in
     record {
-      steps = AreMade-all (λ u v. IsAmong v (row_of c.args.first.now u) ⊎ IsAmong v (row_of c.args.second.now u)) (length c.args.first.now) c.rows.node c.rows.rows.items done c.rows.invariant within;
-      rows = AreMade-rows (λ u v. IsAmong v (row_of c.args.first.now u) ⊎ IsAmong v (row_of c.args.second.now u)) (length c.args.first.now) c.rows.node c.rows.rows.items done c.rows.invariant within stays;
+      rising = c.rows.invariant.rise;
+      steps = AreMade-all (λ u v. IsAmong v (row_of c.args.first.now u) ⊎ IsAmong v (row_of c.args.second.now u)) (length c.args.first.now) c.rows.node c.rows.rows.items done c.rows.invariant.made within;
+      rows = AreMade-rows (λ u v. IsAmong v (row_of c.args.first.now u) ⊎ IsAmong v (row_of c.args.second.now u)) (length c.args.first.now) c.rows.node c.rows.rows.items done c.rows.invariant.made within stays;
     }

@@ -1,8 +1,11 @@
 use Rattle.std.proofs.Common.{◌⊎◌}
 use Rattle.list_laws.specs.Members.{IsAmong}
 use Rattle.index_rows.specs.Rows.{row}
-use Rattle.index_rows.proofs.Building.{AreMade}
+use Rattle.index_rows.proofs.Building.{AllRise, AreMade}
 use Rattle.index_rows.proofs.rows.joined.Given as goal
 
 abbrev pub invariant-rows : goal.invariant-rows
-invariant-rows l = AreMade (λ u v. IsAmong v (row l.first u) ⊎ IsAmong v (row l.second u)) l.node l.rows.items
+invariant-rows l = record {
+  made : AreMade (λ u v. IsAmong v (row l.first u) ⊎ IsAmong v (row l.second u)) l.node l.rows.items;
+  rise : AllRise l.rows.items;
+}

@@ -1,14 +1,35 @@
-use Rattle.std.proofs.Common.{◌≡◌, ◌<◌, ◌++◌, ◌∷◌, [], ℕ, Bool, List, IsTrue, length, take, get_or, ap, subst, sym, ◌∙◌, arith}
+use Rattle.std.proofs.Common.{◌≡◌, ◌<◌, ◌≤◌, ◌++◌, ◌∷◌, [], ℕ, Bool, List, IsTrue, length, take, get_or, ap, subst, sym, ◌∙◌, arith}
 use Rattle.std.specs.Map.{keys_of}
+use Rattle.std.specs.FinMap.Entries.{is_sorted}
+use Rattle.std.specs.declared.vec.Vec.{Vec}
+use Rattle.std.specs.declared.alloc.Global.{Global}
 use Rattle.std.proofs.lemmas.List.{take_more, take_all, map-append}
 use Rattle.unit_name.specs.Names.{Name, name_cmp}
+use Rattle.parallel_load.specs.declared.loaded.NameLoad.{NameLoad}
+use Rattle.parallel_load.specs.Loads.{LoadMap}
 use Rattle.inverse_deps.specs.Edges.{AreEdges, EdgeMap}
-use Rattle.inverse_deps.specs.Numbers.{name_at}
-use Rattle.inverse_deps.specs.Tables.{AreListsFrom}
-use Rattle.inverse_deps.specs.MakingLaws.{made_more}
-use Rattle.inverse_deps.specs.NumberLaws.{key_at_place, keys_length}
-use Rattle.inverse_deps.proofs.Tabling.{sorted_by_keys, all_edges}
+use Rattle.inverse_deps.specs.Tables.{AreKept, AreTables, lists_from}
+use Rattle.inverse_deps.specs.MakingLaws.{AreMade, made_more}
+use Rattle.inverse_deps.specs.NumberLaws.{key_at_place, keys_length, sorted_by_keys}
+use Rattle.inverse_deps.proofs.Tabling.{all_edges, all_kept}
 use Rattle.inverse_deps.proofs.building.edges.Goals as goal
+
+-- lists that were made for all names of a load
+record Made (load : LoadMap) (tables : List (Vec (Vec ℕ Global) Global)) (units : EdgeMap) : Type 0 where
+  edges : AreEdges load units
+  kept : AreKept units tables
+
+made : (load : LoadMap) (es : List (Name × NameLoad)) → es ≡ load.names → IsTrue (is_sorted name_cmp es) → (tables : List (Vec (Vec ℕ Global) Global)) → AreTables load tables
+    → (units : EdgeMap) (number : ℕ) → keys_of units ≡ take number (keys_of es) → AreMade (λ k p. p.1 ≡ lists_from load tables k) number units → length es ≤ number → Made load tables units
+made load es same ordered tables are units number keys lists all =
+    let whole : keys_of units ≡ keys_of es = keys ∙ take_all number (keys_of es) (omega (arith, keys_length es, all)) in
+    let P : Bool → Type 0 = λ b. IsTrue b in
+    let Q : List (Name × NameLoad) → Type 0 = λ ns. IsTrue (is_sorted name_cmp ns) in
+    let sorted = subst P (sym (sorted_by_keys name_cmp units es whole)) ordered in
+    let each : (k : ℕ) (d : Name × List (List Name)) → k < length units → (get_or units k d).1 ≡ lists_from load tables k = λ k d l. lists.each k d (omega (arith, l, lists.count)) in
+    let names : keys_of units ≡ keys_of load.names = whole ∙ ap keys_of same in
+    let in_order : IsTrue (is_sorted name_cmp load.names) = subst Q same ordered in
+    record { edges = all_edges load in_order tables are units names sorted each; kept = all_kept load in_order tables are units names sorted each }
 
 pub names-preserved : goal.names-preserved
 names-preserved c =
@@ -18,34 +39,18 @@ names-preserved c =
     let below : i < length (keys_of es) = omega (arith, c.names-test.true, keys_length es) in
     let name : c.in_ok-name.name ≡ get_or (keys_of es) i [] = c.in_ok-name.ensures.copy ∙ key_at_place es i c.index-names-number.result [] c.names-test.true in
     let pair : Name × List (List Name) = (c.in_ok-name.name, c.in_ok-lists_at.field-0) in
-    let P : ℕ → Name × List (List Name) → Type 0 = λ k p. AreListsFrom load (name_at load k) p.1 in
+    let P : ℕ → Name × List (List Name) → Type 0 = λ k p. p.1 ≡ lists_from load c.in_ok-tables.tables.items k in
     record {
       keys =
           ap keys_of c.in_ok-push.ensures.items ∙ map-append (λ (p : Name × List (List Name)). p.0) c.names.units.items (pair ∷ [])
           ∙ ap (λ ks. ks ++ c.in_ok-name.name ∷ []) c.names.invariant.keys ∙ ap (λ n. take i (keys_of es) ++ n ∷ []) name
           ∙ sym (take_more (keys_of es) i [] below);
-      lists = made_more P i _ _ pair c.names.invariant.lists c.in_ok-push.ensures.items c.in_ok-lists_at.ensures.lists;
+      lists = made_more P i _ _ pair c.names.invariant.lists c.in_ok-push.ensures.items (c.in_ok-lists_at.ensures.lists ∙ ap (λ ts. lists_from load ts i) c.deref.ensures.value);
     }
 
 pub new-requires : goal.new-requires
-new-requires c =
-    let es = c.names-names.result.now in
-    let keys : keys_of c.names.units.items ≡ keys_of es =
-    c.names.invariant.keys ∙ take_all c.names.number (keys_of es) (omega (arith, keys_length es, c.names-test.false)) in
-    let P : Bool → Type 0 = λ b. IsTrue b in
-    record { sorted = subst P (sym (sorted_by_keys name_cmp c.names.units.items es keys)) c.names-names.ensures.sorted }
+new-requires c = record { kept = (made c.args.loaded.now c.names-names.result.now c.names-names.ensures.names c.names-names.ensures.sorted _ c.in_ok-tables.ensures.tables _ c.names.number c.names.invariant.keys c.names.invariant.lists (omega (arith, c.names-test.false))).kept }
 
 pub returns : goal.returns
-returns c =
-    let load = c.args.loaded.now in
-    let es = c.names-names.result.now in
-    let keys : keys_of c.names.units.items ≡ keys_of es =
-    c.names.invariant.keys ∙ take_all c.names.number (keys_of es) (omega (arith, keys_length es, c.names-test.false)) in
-    let P : Bool → Type 0 = λ b. IsTrue b in
-    let sorted = subst P (sym (sorted_by_keys name_cmp c.names.units.items es keys)) c.names-names.ensures.sorted in
-    let A : EdgeMap → Type 0 = λ m. AreEdges load m in
-    record {
-      edges = subst A (sym c.new.ensures.edges)
-          (all_edges load c.names.units.items (keys ∙ ap keys_of c.names-names.ensures.names) sorted
-          (λ k d l. c.names.invariant.lists.each k d (omega (arith, l, c.names.invariant.lists.count))));
-    }
+returns c = record { edges = subst (AreEdges c.args.loaded.now) (sym c.new.ensures.edges)
+    (made c.args.loaded.now c.names-names.result.now c.names-names.ensures.names c.names-names.ensures.sorted _ c.in_ok-tables.ensures.tables _ c.names.number c.names.invariant.keys c.names.invariant.lists (omega (arith, c.names-test.false))).edges }

@@ -1,20 +1,17 @@
-use Rattle.std.proofs.Common.{◌≡◌, ◌<◌, [], ℕ, List, map, get_or, ap, subst, sym, ◌∙◌, arith}
+use Rattle.std.proofs.Common.{◌≡◌, ◌<◌, ◌+◌, ◌++◌, ◌∷◌, [], ℕ, List, map, take, ap, subst, sym, ◌∙◌, arith}
 use Rattle.std.specs.List.{All}
+use Rattle.std.specs.declared.vec.Vec.{Vec}
+use Rattle.std.specs.declared.alloc.Global.{Global}
+use Rattle.std.proofs.lemmas.List.{take_more, take_all, map-append}
 use Rattle.index_rows.specs.Rows.{row}
 use Rattle.index_rows.specs.RowLaws.{All-row}
 use Rattle.unit_name.specs.Names.{Name}
-use Rattle.setting_rules.specs.declared.kinds.DepKind.{DepKind}
-use Rattle.setting_rules.specs.declared.kinds.DepKind.TheVariants.{Before}
-use Rattle.setting_rules.specs.Dependencies.{in_byte_order}
-use Rattle.setting_rules.specs.Kinds.{kinds}
-use Rattle.inverse_deps.specs.Edges.{AreEdgesFrom, place}
 use Rattle.inverse_deps.specs.Numbers.{count_of, name_at}
-use Rattle.inverse_deps.specs.MakingLaws.{made_none, made_more}
-use Rattle.inverse_deps.proofs.Tabling.{rows_of_kind, edges_of_row, stands_at}
+use Rattle.inverse_deps.proofs.Tabling.{rows_of_kind}
 use Rattle.inverse_deps.proofs.building.lists_at.Goals as goal
 
 pub tables-init : goal.tables-init
-tables-init c = made_none _ _ c.new-lists.ensures.empty
+tables-init c = c.new-lists.ensures.empty
 
 pub row-requires : goal.row-requires
 row-requires c =
@@ -31,21 +28,17 @@ names_of-requires c =
 pub tables-preserved : goal.tables-preserved
 tables-preserved c =
     let load = c.args.loaded.now in
-    let u = name_at load c.args.number in
-    let dep = get_or kinds c.tables.table-index Before in
-    let r = rows_of_kind load c.args.tables.now c.tables.table-index c.table-item.result c.deref.result.now c.requires.tables c.tables-test.true c.table-item.is c.deref.ensures.value in
-    let P : ℕ → List Name → Type 0 = λ k names. AreEdgesFrom load (get_or kinds k Before) u names in
-    let here : c.in_byte_order.result ≡ in_byte_order (map (name_at load) (row c.deref.result.now c.args.number)) =
-    c.in_byte_order.ensures.names ∙ ap in_byte_order (c.in_ok-names.ensures.names ∙ ap (map (name_at load)) c.row.ensures) in
-    made_more P c.tables.table-index _ _ c.in_byte_order.result c.tables.invariant c.in_ok-push.ensures.ok
-    (subst (P c.tables.table-index) (sym here) (edges_of_row load dep u (row c.deref.result.now c.args.number) (r.steps c.args.number c.requires.number)))
+    let i = c.tables.table-index in
+    let ts : List (Vec (Vec ℕ Global) Global) = c.args.tables.now in
+    let f : Vec (Vec ℕ Global) Global → List Name = λ t. map (name_at load) (row t.items c.args.number) in
+    let more : take (i + 1) ts ≡ take i ts ++ c.table-item.result ∷ [] =
+    take_more ts i c.table-item.result c.tables-test.true ∙ ap (λ (t : Vec (Vec ℕ Global) Global). take i ts ++ t ∷ []) (sym c.table-item.is) in
+    let here : c.from_vec.result ≡ f c.table-item.result =
+    c.from_vec.ensures.elements ∙ c.in_ok-names.ensures.names ∙ ap (map (name_at load)) (c.row.ensures ∙ ap (λ rs. row rs c.args.number) c.deref.ensures.value) in
+    c.in_ok-push.ensures.ok ∙ ap (λ ls. ls ++ c.from_vec.result ∷ []) c.tables.invariant ∙ ap (λ (ns : List Name). map f (take i ts) ++ ns ∷ []) here
+    ∙ sym (ap (map f) more ∙ map-append f (take i ts) (c.table-item.result ∷ []))
 
 pub returns : goal.returns
 returns c =
-    let load = c.args.loaded.now in
-    let u = name_at load c.args.number in
-    record {
-      lists = λ dep. (let at = stands_at dep in
-          let P : DepKind → Type 0 = λ k. AreEdgesFrom load k u (get_or c.tables.lists (place dep) []) in
-          subst P at.there (c.tables.invariant.each (place dep) [] (omega (arith, at.below, c.requires.tables.all, c.tables-test.false))));
-    }
+    let f : Vec (Vec ℕ Global) Global → List Name = λ t. map (name_at c.args.loaded.now) (row t.items c.args.number) in
+    record { lists = c.tables.invariant ∙ ap (map f) (take_all c.tables.table-index c.args.tables.now (omega arith)) }

@@ -53,6 +53,7 @@ kinds-preserved c =
       steps = edge_steps load named.sorted dep c.inverse.result c.inverse.ensures.inverse c.deref-in-kinds.result.now c.deref.result.now back rows named.steps naming.steps
           (subst T (sym c.deref-in-kinds-2.ensures.value) c.in_ok-naming.ensures.steps) within c.in_ok-joined.ensures.steps;
       within = subst R named.within.one_each c.in_ok-joined.ensures.rows;
+      rising = c.in_ok-joined.ensures.rising;
     })
 
 pub returns : goal.returns

@@ -1,4 +1,4 @@
-use Rattle.world_law.proofs.Theorem.{each_store_is_its_sum, same_took_same_store}
+use Rattle.world_law.proofs.Theorem.{each_store_is_its_sum, each_store_is_least, same_took_same_store}
 use Rattle.world_law.proofs.TookLemmas.{holds_the_sum}
 use Rattle.world_law.proofs.laws.converges.Goals as goal
 
@@ -10,3 +10,6 @@ returns-clause-same c = same_took_same_store
 
 pub returns-clause-told : goal.returns-clause-told
 returns-clause-told c = holds_the_sum
+
+pub returns-clause-least : goal.returns-clause-least
+returns-clause-least c = each_store_is_least

@@ -15,7 +15,7 @@ pub named_distances-requires : goal.named_distances-requires
 named_distances-requires c =
     let load = c.args.self.now.load in
     let same : c.self.inside.loaded.now ≡ load = ap (λ (g : GraphMap). g.load) c.self.view_is in
-    let order = graph_numbering c.self.inside.loaded.now load same c.self.invariant.sorted in
+    let order = graph_numbering c.self.inside.loaded.now load same c.self.inside.edges.now c.self.invariant in
     let M : Option ℕ → Type 0 = λ o. MatchOption o (¬ IsKnown load c.args.from.now) (IsNumberFor load c.args.from.now) in
     let n = subst M c.unwrap-number.ensures c.number.ensures.number in
     let A : List (ℕ × ℕ) → Type 0 = λ ps. All (λ p. p.1 < count_of load) ps in
@@ -30,7 +30,7 @@ pub returns : goal.returns
 returns c =
     let load = c.args.self.now.load in
     let same : c.self.inside.loaded.now ≡ load = ap (λ (g : GraphMap). g.load) c.self.view_is in
-    let order = graph_numbering c.self.inside.loaded.now load same c.self.invariant.sorted in
+    let order = graph_numbering c.self.inside.loaded.now load same c.self.inside.edges.now c.self.invariant in
     let M : Option ℕ → Type 0 = λ o. MatchOption o (¬ IsKnown load c.args.from.now) (IsNumberFor load c.args.from.now) in
     let n = subst M c.unwrap-number.ensures c.number.ensures.number in
     let f : LoadMap → ℕ × ℕ → ℕ × Name = λ m p. (p.0, name_at m p.1) in

@@ -1,0 +1,107 @@
+//! Lists as values.
+ghost use Rattle.std.specs.Prelude.{◌≡◌, OnOk, OnErr, [], ◌∷◌, ◌++◌};
+
+use crate::keys::TryClone;
+use std::alloc::{AllocError, Global};
+use std::marker::Model;
+
+/// A list that contracts see as its elements alone.
+#[derive(Debug, Drop)]
+pub struct Items<T: Drop> {
+    elements: Vec<T>,
+}
+
+impl<T: Drop> Model for Items<T> {
+    ghost use Rattle.std.specs.Prelude.{List};
+
+    ghost Value = { List T };
+
+    ghost view = { λ i. i.elements.items };
+}
+
+impl<T: Drop> Items<T> {
+    /// No elements. It takes no memory.
+    pub fn new(alloc: Global) -> Self
+        ensures empty { result ≡ [] }
+    {
+        Items {
+            elements: Vec::new(alloc),
+        }
+    }
+
+    /// These elements, without a copy of them. It takes no memory.
+    pub fn from_vec(elements: Vec<T>) -> Self
+        ensures elements { result ≡ elements.items }
+    {
+        Items { elements }
+    }
+
+    /// Puts an element behind the others. It fails for want of memory alone, and then changes nothing.
+    pub fn push(&mut self, element: T) -> Result<(), AllocError>
+        ensures ok { OnOk result (self.new ≡ self.old ++ element ∷ []) }
+        ensures err { OnErr result (self.new ≡ self.old) }
+    {
+        self.elements.push(element)?;
+        Ok(())
+    }
+
+    /// Puts the elements of another list behind these, without a copy of them. It fails for want of memory alone, and then
+    /// changes nothing.
+    pub fn append(&mut self, other: Items<T>) -> Result<(), AllocError>
+        ensures ok { OnOk result (self.new ≡ self.old ++ other) }
+        ensures err { OnErr result (self.new ≡ self.old) }
+    {
+        let mut elements = other.elements;
+        self.elements.append(&mut elements)
+    }
+
+    /// Takes all elements away. It takes no memory, and keeps the room.
+    pub fn clear(&mut self)
+        ensures empty { self.new ≡ [] }
+    {
+        self.elements.clear();
+    }
+
+    /// The elements as a vector, without a copy of them. It takes no memory.
+    pub fn into_vec(self) -> Vec<T>
+        ensures elements { result.items ≡ self }
+    {
+        let Items { elements } = self;
+        elements
+    }
+
+    /// The elements. It takes no memory.
+    pub fn as_slice(&self) -> &[T]
+        ensures elements { result.now ≡ self.now }
+    {
+        &self.elements
+    }
+}
+
+impl<T: TryClone> TryClone for Items<T> {
+    fn try_clone(&self) -> Result<Items<T>, AllocError> {
+        let mut copy = Items::new(*self.elements.allocator());
+        for element in &self.elements {
+            copy.push(element.try_clone()?)?;
+        }
+        Ok(copy)
+    }
+}
+
+impl<T: PartialEq + Drop> PartialEq for Items<T> {
+    ghost use Rattle.std.specs.Cmp.Lexicographic.{lists_per, pointwise};
+
+    ghost eq = { pointwise T.eq };
+
+    ghost laws = { lists_per T.laws };
+
+    fn eq(&self, other: &Self) -> bool {
+        self.elements == other.elements
+    }
+}
+
+impl<T: Eq + Drop> Eq for Items<T> {
+    ghost use Rattle.std.specs.Cmp.Lexicographic.{lists_equiv};
+
+    ghost laws = { lists_equiv T.Eq.laws };
+}

@@ -1,0 +1,71 @@
+//! Lines with their answers.
+use crate::faults::LineFault;
+use script_pipes::{Watched, read_all, write_all};
+use script_words::{cut_line, is_passed_over};
+use std::alloc::{AllocError, Global};
+use std::io;
+use std::io::{Input, Print};
+use std::process::ExitCode;
+
+// Writes what a line answers; where it has no answer, why, behind the sign with which answers begin.
+fn append_answer(
+    out: &mut Vec<u8>,
+    sign: &[u8],
+    answered: &Result<Vec<u8>, LineFault>,
+) -> Result<(), AllocError> {
+    let why: &[u8] = match answered {
+        Ok(text) => return out.extend_from_slice(text),
+        Err(LineFault::Words) => b"no such call",
+        Err(LineFault::Memory) => b"memory",
+    };
+    out.extend_from_slice(sign)?;
+    out.extend_from_slice(why)
+}
+
+/// All lines of a text, each with its answer, which begins with a sign. Lines that are empty or begin with `#` are repeated
+/// as they are.
+pub fn answer_lines<F: Fn(&[u8]) -> Result<Vec<u8>, LineFault>>(
+    alloc: Global,
+    text: &[u8],
+    sign: &[u8],
+    answer: F,
+) -> Result<Vec<u8>, AllocError>
+    requires { F.IsAlwaysCallable answer }
+{
+    let mut out = Vec::new(alloc);
+    let mut rest = text;
+    while !rest.is_empty() {
+        let (line, later) = cut_line(rest);
+        out.extend_from_slice(line)?;
+        if !is_passed_over(line) {
+            append_answer(&mut out, sign, &answer(line))?;
+        }
+        out.push(b'\n')?;
+        rest = later;
+    }
+    Ok(out)
+}
+
+/// Reads all of standard input, and writes what is made of it. Status 1 where that fails, and 2 where memory was refused.
+pub fn work_input<
+    R: AllocGlobal + Input + Print,
+    F: FnOnce(&[u8]) -> Result<Vec<u8>, AllocError>,
+>(
+    rt: &R,
+    work: F,
+) -> ExitCode
+    requires { F.IsAlwaysCallable work }
+{
+    let mut reader = Watched::new(rt.reader());
+    let Ok(text) = read_all(rt.alloc(), &mut reader) else {
+        return ExitCode::from(1);
+    };
+    let Ok(out) = work(&text) else {
+        return ExitCode::from(2);
+    };
+    let mut writer = Watched::new(io::writer(rt));
+    if write_all(&mut writer, &out).is_err() {
+        return ExitCode::from(1);
+    }
+    ExitCode::from(0)
+}

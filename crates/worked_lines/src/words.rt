@@ -1,0 +1,122 @@
+//! The words of a line.
+use crate::faults::LineFault;
+use crate::spelled::{file_of, is, name_of, number_of, path_of, text_of, writer_of};
+use edit_sums::Content;
+use load_path::Path;
+use script_words::cut_word;
+use std::alloc::Global;
+use unit_name::UnitName;
+
+/// The words of a line that are left.
+#[derive(Drop)]
+pub struct Words<'a> {
+    /// Where the memory of a call is from.
+    pub alloc: Global,
+    rest: &'a [u8],
+}
+
+impl<'a> Words<'a> {
+    /// The words of these bytes.
+    pub fn new(alloc: Global, rest: &'a [u8]) -> Self {
+        Words { alloc, rest }
+    }
+
+    /// As many words as there are at the most.
+    pub fn most(&self) -> usize {
+        self.rest.len()
+    }
+
+    /// Whether no word is left.
+    pub fn is_over(&self) -> bool {
+        cut_word(self.rest).is_none()
+    }
+
+    /// The next word, if one is left.
+    pub fn next_word(&mut self) -> Option<&'a [u8]> {
+        let (word, rest) = cut_word(self.rest)?;
+        self.rest = rest;
+        Some(word)
+    }
+
+    /// The next word as it is written.
+    pub fn word(&mut self) -> Result<&'a [u8], LineFault> {
+        self.next_word().ok_or(LineFault::Words)
+    }
+
+    /// The next word of a list, which the word `+` or the end of the line ends.
+    pub fn listed(&mut self) -> Option<&'a [u8]> {
+        let word = self.next_word()?;
+        if is(word, b"+") { None } else { Some(word) }
+    }
+
+    /// What the next word spells.
+    pub fn text(&mut self) -> Result<Vec<u8>, LineFault> {
+        let word = self.word()?;
+        text_of(self.alloc, word)
+    }
+
+    /// The next word as a number.
+    pub fn number(&mut self) -> Result<u64, LineFault> {
+        number_of(self.word()?)
+    }
+
+    /// The next word as a number of what is in memory.
+    pub fn place(&mut self) -> Result<usize, LineFault> {
+        Ok(self.number()? as usize)
+    }
+
+    /// The next word as a writer's number.
+    pub fn writer(&mut self) -> Result<u32, LineFault> {
+        writer_of(self.word()?)
+    }
+
+    /// The next word as a path.
+    pub fn path(&mut self) -> Result<Path, LineFault> {
+        let word = self.word()?;
+        path_of(self.alloc, word)
+    }
+
+    /// The next word as the content of a file.
+    pub fn file(&mut self) -> Result<Content, LineFault> {
+        let word = self.word()?;
+        file_of(self.alloc, word)
+    }
+
+    /// The next word as what spells a unit's name.
+    pub fn name(&mut self) -> Result<UnitName, LineFault> {
+        let text = self.text()?;
+        name_of(self.alloc, &text)
+    }
+
+    /// The names that a list of words writes.
+    pub fn names(&mut self) -> Result<Vec<UnitName>, LineFault> {
+        let mut names = Vec::new(self.alloc);
+        for _ in 0..self.most() {
+            let Some(word) = self.listed() else {
+                break;
+            };
+            names.push(name_of(self.alloc, word)?)?;
+        }
+        Ok(names)
+    }
+
+    /// The numbers that a list of words writes.
+    pub fn numbers(&mut self) -> Result<Vec<usize>, LineFault> {
+        let mut numbers = Vec::new(self.alloc);
+        for _ in 0..self.most() {
+            let Some(word) = self.listed() else {
+                break;
+            };
+            numbers.push(number_of(word)? as usize)?;
+        }
+        Ok(numbers)
+    }
+
+    /// That no word is left.
+    pub fn end(&mut self) -> Result<(), LineFault> {
+        match self.next_word() {
+            None => Ok(()),
+            Some(_) => Err(LineFault::Words),
+        }
+    }
+}
