@@ -29,6 +29,7 @@ class Run:
     refusals: int
     reads: int
     writes: int
+    threads: int
 
 
 class Hung(Exception):
@@ -81,7 +82,7 @@ class Bench:
     def counted(self):
         """What the last run asked for."""
         with open(self.counts, "rb") as file:
-            return struct.unpack("<4Q", file.read(32))
+            return struct.unpack("<5Q", file.read(40))
 
 
 def strides(requests):

@@ -43,6 +43,7 @@ struct counts {
     _Atomic uint64_t refusals;
     _Atomic uint64_t reads;
     _Atomic uint64_t writes;
+    _Atomic uint64_t threads;
 };
 
 static struct list refused_memory;
@@ -156,6 +157,7 @@ void *realloc(void *block, size_t size) {
 int pthread_create(pthread_t *thread, const pthread_attr_t *attributes, void *(*work)(void *), void *argument) {
     if (is_refused())
         return EAGAIN;
+    atomic_fetch_add(&counts->threads, 1);
     return next_create(thread, attributes, work, argument);
 }
 

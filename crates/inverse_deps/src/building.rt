@@ -21,7 +21,7 @@ pub fn edges(alloc: Global, loaded: &Loaded) -> Result<Edges, AllocError>
 {
     let tables = tables(alloc, loaded)?;
     let names = loaded.names();
-    let mut units = Vec::new(alloc);
+    let mut units = Vec::with_capacity(alloc, names.len())?;
     'names: for number in 0..names.len() {
         let name = names[number].0.try_clone()?;
         units.push((name, lists_at(alloc, loaded, &tables, number)?))?;
@@ -53,10 +53,10 @@ fn lists_at(
     requires number { number < count_of loaded.now }
     ensures lists { IfOk result (λ lists. lists ≡ lists_from loaded.now tables.now number) }
 {
-    let mut lists = Items::new(alloc);
+    let mut lists = Vec::with_capacity(alloc, tables.len())?;
     'tables: for table in tables {
         let names = names_of(alloc, loaded, row(table, number))?;
         lists.push(Items::from_vec(names))?;
     }
-    Ok(lists)
+    Ok(Items::from_vec(lists))
 }

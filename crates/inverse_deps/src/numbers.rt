@@ -55,7 +55,7 @@ pub fn names_of(
     ensures names { IfOk result (λ names. names.items ≡ map (name_at loaded.now) numbers.now) }
 {
     let names = loaded.names();
-    let mut named = Vec::new(alloc);
+    let mut named = Vec::with_capacity(alloc, numbers.len())?;
     'numbers: for number in numbers {
         named.push(names[*number].0.try_clone()?)?;
     }

@@ -48,7 +48,7 @@ fn dependency_rows(
     ensures sorted { IsTrue (is_sorted name_cmp loaded.now.names) }
 {
     let names = loaded.names();
-    let mut rows = Vec::new(alloc);
+    let mut rows = Vec::with_capacity(alloc, names.len())?;
     'names: for number in 0..names.len() {
         rows.push(match &names[number].1 {
             NameLoad::Unit(unit) => listed_numbers(alloc, loaded, unit.deps.as_slice(), kind)?,

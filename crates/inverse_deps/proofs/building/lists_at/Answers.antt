@@ -11,7 +11,7 @@ use Rattle.inverse_deps.proofs.Tabling.{rows_of_kind}
 use Rattle.inverse_deps.proofs.building.lists_at.Goals as goal
 
 pub tables-init : goal.tables-init
-tables-init c = c.new-lists.ensures.empty
+tables-init c = c.in_ok-lists.ensures.items
 
 pub row-requires : goal.row-requires
 row-requires c =
@@ -35,10 +35,10 @@ tables-preserved c =
     take_more ts i c.table-item.result c.tables-test.true ∙ ap (λ (t : Vec (Vec ℕ Global) Global). take i ts ++ t ∷ []) (sym c.table-item.is) in
     let here : c.from_vec.result ≡ f c.table-item.result =
     c.from_vec.ensures.elements ∙ c.in_ok-names.ensures.names ∙ ap (map (name_at load)) (c.row.ensures ∙ ap (λ rs. row rs c.args.number) c.deref.ensures.value) in
-    c.in_ok-push.ensures.ok ∙ ap (λ ls. ls ++ c.from_vec.result ∷ []) c.tables.invariant ∙ ap (λ (ns : List Name). map f (take i ts) ++ ns ∷ []) here
+    c.in_ok-push.ensures.items ∙ ap (λ ls. ls ++ c.from_vec.result ∷ []) c.tables.invariant ∙ ap (λ (ns : List Name). map f (take i ts) ++ ns ∷ []) here
     ∙ sym (ap (map f) more ∙ map-append f (take i ts) (c.table-item.result ∷ []))
 
 pub returns : goal.returns
 returns c =
     let f : Vec (Vec ℕ Global) Global → List Name = λ t. map (name_at c.args.loaded.now) (row t.items c.args.number) in
-    record { lists = c.tables.invariant ∙ ap (map f) (take_all c.tables.table-index c.args.tables.now (omega arith)) }
+    record { lists = c.from_vec-2.ensures.elements ∙ c.tables.invariant ∙ ap (map f) (take_all c.tables.table-index c.args.tables.now (omega arith)) }

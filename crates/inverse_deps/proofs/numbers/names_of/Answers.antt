@@ -7,7 +7,7 @@ use Rattle.inverse_deps.specs.NumberLaws.{key_at_place}
 use Rattle.inverse_deps.proofs.numbers.names_of.Goals as goal
 
 pub numbers-init : goal.numbers-init
-numbers-init c = c.new-named.ensures.items
+numbers-init c = c.in_ok-named.ensures.items
 
 pub numbers-preserved : goal.numbers-preserved
 numbers-preserved c =

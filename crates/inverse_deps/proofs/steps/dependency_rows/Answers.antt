@@ -12,7 +12,7 @@ use Rattle.inverse_deps.proofs.steps.dependency_rows.Goals as goal
 use Rattle.inverse_deps.proofs.steps.dependency_rows.Goals.{in-Unit+in_ok-listed_numbers-in-Unit, in-Alias}
 
 pub names-init : goal.names-init
-names-init c = made_none _ _ c.new-rows.ensures.items
+names-init c = made_none _ _ c.in_ok-rows.ensures.items
 
 pub names-preserved : goal.names-preserved
 names-preserved c =
