@@ -13,8 +13,8 @@ ghost use Rattle.dropins.specs.Taken.Candidate.{At};
 ghost use Rattle.dropins.specs.declared.precedence.Search.TheVariants.{DropIns, Links};
 ghost use Rattle.dropins.specs.Walks.{first_for, path, said_for, take_at, take_of, took, took_in, unmasked};
 
-use plain_values::Bytes;
 use load_path::LEVELS;
+use plain_values::Bytes;
 use replica_store::{Content, LinkTarget, Path, Placed, Store};
 use std::alloc::{AllocError, Global};
 use std::collections::BTreeMap;

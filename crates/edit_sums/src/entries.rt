@@ -3,8 +3,8 @@ ghost use Rattle.std.specs.Prelude.{◌≡◌, IfOk};
 
 use crate::contents::Content;
 use join_law::Version;
-use plain_values::Key;
 use load_path::Path;
+use plain_values::Key;
 use std::alloc::AllocError;
 
 /// What a store has at a path: a version and a content, ordered by version, then content. Of two

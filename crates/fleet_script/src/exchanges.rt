@@ -10,9 +10,9 @@ ghost use Rattle.fleet_script.specs.Does.{if_any};
 ghost use Rattle.fleet_script.specs.Holds.{Continues, Executes, IsJoinedAt, kept_in};
 
 use crate::states::Shell;
-use plain_values::Bytes;
 use delta_pieces::{Piece, delta_at, delta_between, digest_at};
 use load_path::Path;
+use plain_values::Bytes;
 use replica_store::Replica;
 use script_answers::{merge_done, part_done};
 use script_commands::{Fault, Refusal, Words, read_paths};

@@ -7,9 +7,9 @@ ghost use Rattle.fleet_script.specs.Holds.{Continues, Executes, Goes, HasNoNode,
 ghost use Rattle.fleet_script.specs.Scripts.{AnswersLine};
 
 use crate::states::Shell;
-use plain_values::Bytes;
 use edit_sums::Content;
 use load_path::Path;
+use plain_values::Bytes;
 use replica_store::Replica;
 use script_answers::{
     Crew, list_files, put_done, refused, tell_crowd, tell_files, tell_list, tell_plan, tell_unit,

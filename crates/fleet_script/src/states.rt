@@ -1,6 +1,6 @@
 //! What the shell keeps.
-use plain_values::Bytes;
 use delta_pieces::Piece;
+use plain_values::Bytes;
 use replica_store::Replica;
 use script_answers::Crew;
 use std::collections::{BTreeMap, BTreeSet};

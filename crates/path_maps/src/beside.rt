@@ -12,9 +12,9 @@ ghost use Rattle.path_maps.specs.Spread.{AllKeys};
 use crate::entries::Placed;
 use crate::meets::meet;
 use crate::stores::{FolderMap, NameMap, RankMap};
-use plain_values::Bytes;
 use edit_sums::{Content, Entry};
 use join_law::Versioned;
+use plain_values::Bytes;
 use std::marker::Model;
 
 // The names that are left of a folder, and those of the same folder of another store.

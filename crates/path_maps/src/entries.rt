@@ -9,10 +9,10 @@ ghost use Rattle.path_maps.specs.PathMaps.{in_folder, listed};
 ghost use Rattle.path_maps.specs.Spread.{AllKeys};
 
 use crate::stores::{FolderMap, NameMap, RankMap};
-use plain_values::Bytes;
 use edit_sums::{Content, Entry};
 use join_law::Versioned;
 use load_path::Path;
+use plain_values::Bytes;
 use std::alloc::{AllocError, Global};
 use std::cmp::Ordering;
 use std::marker::Model;

@@ -12,10 +12,10 @@ use crate::changes::count_changes;
 use crate::counts::{Counts, count_entries};
 use crate::entries::{Entries, Placed};
 use crate::look_ups::{folder_at, pair_at};
-use plain_values::Bytes;
 use edit_sums::{Content, Edit, Entry};
 use join_law::{Join, JoinMap, Rest, Versioned};
 use load_path::Path;
+use plain_values::Bytes;
 use std::alloc::{AllocError, Global};
 use std::marker::Model;
 

@@ -9,11 +9,11 @@ use crate::refusals::fault_of_plan;
 use crate::requests::{read_name, read_request};
 use crate::unit_lines::unit_text;
 use fleet_answers::{Answer, AnswerFault, Question, answer_question};
-use worker_rounds::OpenGate;
 use replica_store::Store;
 use script_commands::{Fault, Refusal, Words};
 use std::alloc::Global;
 use std::thread::Threads;
+use worker_rounds::OpenGate;
 
 /// Tells the unit that a word names, as all that must be loaded of a store comes to it: its main name, status, names,
 /// drop-ins, values, dependencies in both directions, and notes. Refused are, in this order, a word that is no unit name,

@@ -6,12 +6,12 @@ ghost use Rattle.script_answers.specs.Crowds.{TellsCrowd};
 
 use crate::answers::crowd_done;
 use crowds::{CrowdFault, ROOM, crowd};
-use worker_rounds::OpenGate;
 use replica_store::Replica;
 use script_commands::{EditCount, Fault, Refusal};
 use std::alloc::Global;
 use std::sync::Wait;
 use std::thread::Threads;
+use worker_rounds::OpenGate;
 
 /// Tells how many takes so many workers make side by side at a copy of a replica, each with so many edits, and how many
 /// paths are held then. It is refused where the seats aren't 1 to 64. The copy is dropped. It may wait.

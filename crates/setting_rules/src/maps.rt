@@ -3,8 +3,8 @@ ghost use Rattle.std.specs.Prelude.{◌≡◌, ◌↔◌, ◌<◌, ◌++◌, [],
 ghost use Rattle.setting_rules.specs.Maps.{place_of, with_key, changed, values_at};
 
 use crate::keys::SettingKey;
-use plain_values::{Bytes, Items};
 use indexmap::IndexMap;
+use plain_values::{Bytes, Items};
 use std::alloc::{AllocError, Global};
 use std::marker::Model;
 

@@ -7,8 +7,8 @@ ghost use Rattle.name_closure.specs.Loading.{AreLoaded, AreLoads, AreOthers, IsR
 
 use crate::gates::{Gate, pass_gate};
 use crate::pieces::{Piece, cut, put_together};
-use plain_values::Key;
 use name_closure::{Loads, Round, load_each, names_of};
+use plain_values::Key;
 use std::alloc::{AllocError, Global};
 use std::thread;
 use std::thread::Threads;
