@@ -16,7 +16,7 @@ mod reader;
 mod sections;
 
 pub use assignments::{Assignment, Note, NoteKind};
-pub use plain_values::Bytes;
 pub use laws::{reading_laws, writing_laws};
+pub use plain_values::Bytes;
 pub use reader::read;
 pub use sections::Sections;

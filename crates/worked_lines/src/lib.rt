@@ -13,5 +13,8 @@ mod words;
 pub use faults::LineFault;
 pub use gates::Meeting;
 pub use lines::{answer_lines, work_input};
-pub use spelled::{byte_of, cut_at, file_of, is, link_of, name_of, number_of, parts_of, path_of, text_of, writer_of};
+pub use spelled::{
+    byte_of, cut_at, file_of, is, link_of, name_of, number_of, parts_of, path_of, text_of,
+    writer_of,
+};
 pub use words::Words;

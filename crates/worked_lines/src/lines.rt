@@ -47,10 +47,7 @@ pub fn answer_lines<F: Fn(&[u8]) -> Result<Vec<u8>, LineFault>>(
 }
 
 /// Reads all of standard input, and writes what is made of it. Status 1 where that fails, and 2 where memory was refused.
-pub fn work_input<
-    R: AllocGlobal + Input + Print,
-    F: FnOnce(&[u8]) -> Result<Vec<u8>, AllocError>,
->(
+pub fn work_input<R: AllocGlobal + Input + Print, F: FnOnce(&[u8]) -> Result<Vec<u8>, AllocError>>(
     rt: &R,
     work: F,
 ) -> ExitCode

@@ -145,7 +145,11 @@ fn one(alloc: Global, words: &mut Words) -> Result<Vec<u8>, LineFault> {
 }
 
 /// What a line answers.
-pub fn answer<R: Threads + Clock + Sync>(rt: &R, alloc: Global, line: &[u8]) -> Result<Vec<u8>, LineFault> {
+pub fn answer<R: Threads + Clock + Sync>(
+    rt: &R,
+    alloc: Global,
+    line: &[u8],
+) -> Result<Vec<u8>, LineFault> {
     let mut words = Words::new(alloc, line);
     let call = words.word()?;
     if is(call, b"graph") {

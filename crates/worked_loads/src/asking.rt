@@ -209,7 +209,17 @@ fn told_at<R: Threads + Sync>(
     question: &Question,
     workers: usize,
 ) -> Result<Vec<u8>, LineFault> {
-    match answer_in_world(rt, alloc, &[1, 2], events, node, &[], question, workers, &OpenGate) {
+    match answer_in_world(
+        rt,
+        alloc,
+        &[1, 2],
+        events,
+        node,
+        &[],
+        question,
+        workers,
+        &OpenGate,
+    ) {
         Ok(Some(answer)) => text_of(alloc, &answer),
         Ok(None) => Ok(Vec::from_slice(alloc, b"none")?),
         Err(fault) => fault_text(alloc, fault),
@@ -226,11 +236,17 @@ fn append_nodes<R: Threads + Sync>(
     workers: usize,
 ) -> Result<(), LineFault> {
     let first = told_at(rt, alloc, events, 0, question, workers)?;
-    begin(out, format!(in alloc; "{workers} workers, node 0: ")?.as_bytes())?;
+    begin(
+        out,
+        format!(in alloc; "{workers} workers, node 0: ")?.as_bytes(),
+    )?;
     out.extend_from_slice(&first)?;
     for node in 1..3 {
         let told = told_at(rt, alloc, events, node, question, workers)?;
-        begin(out, format!(in alloc; "{workers} workers, node {node}: ")?.as_bytes())?;
+        begin(
+            out,
+            format!(in alloc; "{workers} workers, node {node}: ")?.as_bytes(),
+        )?;
         append_beside(out, &told, &first)?;
     }
     Ok(())

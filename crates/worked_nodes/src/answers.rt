@@ -135,7 +135,11 @@ fn answer_threads<R: Threads + Wait + Sync>(
 }
 
 /// What a line answers.
-pub fn answer<R: Threads + Wait + Clock + Sync>(rt: &R, alloc: Global, line: &[u8]) -> Result<Vec<u8>, LineFault> {
+pub fn answer<R: Threads + Wait + Clock + Sync>(
+    rt: &R,
+    alloc: Global,
+    line: &[u8],
+) -> Result<Vec<u8>, LineFault> {
     let mut words = Words::new(alloc, line);
     let call = words.word()?;
     if is(call, b"node") {

@@ -68,5 +68,7 @@ fn work_all<R: AllocGlobal + Threads + Wait + Sync>(
 }
 
 fn main(rt: HostRuntime) -> ExitCode {
-    work_input(&rt, |text: &[u8]| -> Result<Vec<u8>, AllocError> { work_all(&rt, text) })
+    work_input(&rt, |text: &[u8]| -> Result<Vec<u8>, AllocError> {
+        work_all(&rt, text)
+    })
 }

@@ -52,5 +52,7 @@ pub new-requires : goal.new-requires
 new-requires c = record { kept = (made c.args.loaded.now c.names-names.result.now c.names-names.ensures.names c.names-names.ensures.sorted _ c.in_ok-tables.ensures.tables _ c.names.number c.names.invariant.keys c.names.invariant.lists (omega (arith, c.names-test.false))).kept }
 
 pub returns : goal.returns
-returns c = record { edges = subst (AreEdges c.args.loaded.now) (sym c.new.ensures.edges)
-    (made c.args.loaded.now c.names-names.result.now c.names-names.ensures.names c.names-names.ensures.sorted _ c.in_ok-tables.ensures.tables _ c.names.number c.names.invariant.keys c.names.invariant.lists (omega (arith, c.names-test.false))).edges }
+returns c = record {
+  edges = subst (AreEdges c.args.loaded.now) (sym c.new.ensures.edges)
+      (made c.args.loaded.now c.names-names.result.now c.names-names.ensures.names c.names-names.ensures.sorted _ c.in_ok-tables.ensures.tables _ c.names.number c.names.invariant.keys c.names.invariant.lists (omega (arith, c.names-test.false))).edges;
+}
