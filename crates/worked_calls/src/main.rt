@@ -79,11 +79,12 @@ fn answer(subject: &[u8], words: &mut Words, out: &mut Answer) -> Result<(), Lin
 fn line_answer(alloc: Global, line: &[u8]) -> Result<Vec<u8>, LineFault> {
     let mut words = Words::new(alloc, line);
     let mut out = Answer::new(alloc);
-    out.write(SIGN)?;
     let subject = words.word()?;
     answer(subject, &mut words, &mut out)?;
     words.end()?;
-    Ok(out.bytes)
+    let mut text = Vec::from_slice(alloc, SIGN)?;
+    text.extend_from_slice(&out.bytes)?;
+    Ok(text)
 }
 
 fn main(rt: HostRuntime) -> ExitCode {
