@@ -114,7 +114,7 @@ fn append_beside(out: &mut Vec<u8>, text: &[u8], before: &[u8]) -> Result<(), Al
     out.extend_from_slice(if text == before { b"the same" } else { text })
 }
 
-// A question, what is asked beside it, and by how many workers.
+// A question, and by how many workers it is answered, each time.
 #[derive(Drop)]
 struct Asking {
     question: Question,
