@@ -1,5 +1,6 @@
 //! How a replica takes a piece.
 ghost use Rattle.std.specs.Prelude.{◌≡◌, IfOk, OnOk, OnErr, IfErr};
+ghost use Rattle.std.specs.FinMap as finmap;
 ghost use Rattle.edit_sums.specs.Sums.{changed_paths, join, IsStoreBelow};
 
 use crate::pieces::Piece;
@@ -17,13 +18,15 @@ pub struct TakeFault {
 /// then it costs what is news and a search for each, or one pass over both, whichever is less.
 ///
 /// Where memory is refused, the replica's store lies between what it was and the join, and taking
-/// the rest that comes back gives that join.
+/// the rest that comes back gives that join; where the piece has one entry, the replica is as it
+/// was.
 pub fn take(replica: &mut Replica, piece: Piece) -> Result<u64, TakeFault>
     ensures ok { OnOk result (replica.new ≡ record replica.old { store = join replica.old.store piece }) }
     ensures changed { IfOk result (λ changed. changed ≡ changed_paths replica.old.store replica.new.store) }
     ensures kept { OnErr result (IsStoreBelow replica.old.store replica.new.store) }
     ensures within { OnErr result (IsStoreBelow replica.new.store (join replica.old.store piece)) }
     ensures rest { IfErr result (λ fault. join replica.new.store fault.rest ≡ join replica.old.store piece) }
+    ensures single { OnErr result (finmap.len piece ≡ 1 → replica.new ≡ replica.old) }
     ensures writer { replica.new.writer ≡ replica.old.writer }
 {
     match replica.absorb(piece.into_store()) {

@@ -6,53 +6,26 @@ ghost use Rattle.join_law.specs.Maps.{IsHeld, IsMap, IsSinglePair, MapBelow};
 ghost use Rattle.join_law.specs.Order.{IsBetween, IsJoin};
 
 use crate::joins::Join;
-use crate::passes::join_copies_in_one;
+use crate::passes::{are_few, join_copies_in_one};
 use plain_values::Key;
 use sorted_pairs::seek;
 use std::alloc::{AllocError, Global};
 
-// Joins a copy of one pair.
+// Joins a copy of one pair, the first of so many that are left, and answers whether it did. Where its key is new and many are
+// left, it does nothing: then one pass over all costs less.
 fn join_pair_copy<K: Key, V: Join>(
     pairs: &mut Vec<(K, V)>,
     key: &K,
     value: &V,
-) -> Result<(), AllocError>
+    left: usize,
+) -> Result<bool, AllocError>
     requires map { IsMap K.cmp V.below V.is_valid pairs.old.items }
     requires held { IsHeld V.below V.is_valid value.now }
     ensures map { IsMap K.cmp V.below V.is_valid pairs.new.items }
-    ensures ok { OnOk result (IsJoin (MapBelow K.cmp V.below) pairs.old.items
-        ((key.now, value.now) ∷ []) pairs.new.items) }
-    ensures refused { OnErr result (IsBetween (MapBelow K.cmp V.below) pairs.old.items
-        ((key.now, value.now) ∷ []) pairs.new.items) }
-    ensures single { OnErr result (V.is_single value.now → pairs.new.items ≡ pairs.old.items) }
-    ensures known { MapBelow K.cmp V.below ((key.now, value.now) ∷ []) pairs.old.items → IsOk result }
-{
-    match seek(pairs, key) {
-        Ok(at) => {
-            let place = &mut pairs[at];
-            place.1.join_copy(value)?;
-            Ok(())
-        }
-        Err(at) => {
-            let copy = key.try_clone()?;
-            pairs.insert(at, (copy, value.try_clone()?))?;
-            Ok(())
-        }
-    }
-}
-
-// Joins a copy of a value at a key that is held, and answers whether it is. No pair is moved.
-fn join_held_copy<K: Key, V: Join>(
-    pairs: &mut Vec<(K, V)>,
-    key: &K,
-    value: &V,
-) -> Result<bool, AllocError>
-    requires map { IsMap K.cmp V.below V.is_valid pairs.old.items }
-    ensures map { IsMap K.cmp V.below V.is_valid pairs.new.items }
-    ensures ok { IfOk result (λ held. OnTrue held (IsJoin (MapBelow K.cmp V.below) pairs.old.items
+    ensures ok { IfOk result (λ joined. OnTrue joined (IsJoin (MapBelow K.cmp V.below) pairs.old.items
         ((key.now, value.now) ∷ []) pairs.new.items)) }
-    ensures absent { IfOk result (λ held. OnFalse held (find K.cmp key.now pairs.old.items ≡ None)) }
-    ensures unchanged { IfOk result (λ held. OnFalse held (pairs.new.items ≡ pairs.old.items)) }
+    ensures absent { IfOk result (λ joined. OnFalse joined (find K.cmp key.now pairs.old.items ≡ None)) }
+    ensures unchanged { IfOk result (λ joined. OnFalse joined (pairs.new.items ≡ pairs.old.items)) }
     ensures refused { OnErr result (IsBetween (MapBelow K.cmp V.below) pairs.old.items
         ((key.now, value.now) ∷ []) pairs.new.items) }
     ensures single { OnErr result (V.is_single value.now → pairs.new.items ≡ pairs.old.items) }
@@ -64,52 +37,19 @@ fn join_held_copy<K: Key, V: Join>(
             place.1.join_copy(value)?;
             Ok(true)
         }
-        Err(_) => Ok(false),
+        Err(at) => {
+            if !are_few(left, pairs.len()) {
+                return Ok(false);
+            }
+            let copy = key.try_clone()?;
+            pairs.insert(at, (copy, value.try_clone()?))?;
+            Ok(true)
+        }
     }
 }
 
-// Joins copies of what the others have more: a search for each.
-fn join_each_copy<K: Key, V: Join>(
-    pairs: &mut Vec<(K, V)>,
-    other: &[(K, V)],
-) -> Result<(), AllocError>
-    requires map { IsMap K.cmp V.below V.is_valid pairs.old.items }
-    requires other_map { IsMap K.cmp V.below V.is_valid other.now }
-    ensures map { IsMap K.cmp V.below V.is_valid pairs.new.items }
-    ensures ok { OnOk result (IsJoin (MapBelow K.cmp V.below) pairs.old.items other.now pairs.new.items) }
-    ensures refused { OnErr result (IsBetween (MapBelow K.cmp V.below) pairs.old.items other.now
-        pairs.new.items) }
-    ensures single { OnErr result (IsSinglePair V.is_single other.now → pairs.new.items ≡ pairs.old.items) }
-{
-    for pair in other {
-        join_pair_copy(pairs, &pair.0, &pair.1)?;
-    }
-    Ok(())
-}
-
-// Joins copies of what the others have more: a search for each where they are few, else one growth
-// and one pass over both.
-fn join_new_copies<K: Key, V: Join>(
-    pairs: &mut Vec<(K, V)>,
-    other: &[(K, V)],
-) -> Result<(), AllocError>
-    requires map { IsMap K.cmp V.below V.is_valid pairs.old.items }
-    requires other_map { IsMap K.cmp V.below V.is_valid other.now }
-    ensures map { IsMap K.cmp V.below V.is_valid pairs.new.items }
-    ensures ok { OnOk result (IsJoin (MapBelow K.cmp V.below) pairs.old.items other.now pairs.new.items) }
-    ensures refused { OnErr result (IsBetween (MapBelow K.cmp V.below) pairs.old.items other.now
-        pairs.new.items) }
-    ensures single { OnErr result (IsSinglePair V.is_single other.now → pairs.new.items ≡ pairs.old.items) }
-{
-    if other.len() <= 1 || other.len() < pairs.len() / 64 {
-        join_each_copy(pairs, other)
-    } else {
-        join_copies_in_one(pairs, other)
-    }
-}
-
-// Joins copies of what the others have more. Up to the first key that is new, it searches for each
-// of them and moves no pair.
+// Joins copies of what the others have more: a search for each, until a key is new and many are left; then one growth and one
+// pass over both. Up to the first key that is new it moves no pair.
 pub fn join_copies<K: Key, V: Join>(
     pairs: &mut Vec<(K, V)>,
     other: &[(K, V)],
@@ -125,8 +65,8 @@ pub fn join_copies<K: Key, V: Join>(
 {
     for i in 0..other.len() {
         let pair = &other[i];
-        if !join_held_copy(pairs, &pair.0, &pair.1)? {
-            return join_new_copies(pairs, &other[i..]);
+        if !join_pair_copy(pairs, &pair.0, &pair.1, other.len() - i)? {
+            return join_copies_in_one(pairs, &other[i..]);
         }
     }
     Ok(())

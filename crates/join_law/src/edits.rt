@@ -6,7 +6,7 @@ ghost use Rattle.join_law.specs.Maps.{IsMap, IsSinglePair, MapBelow};
 ghost use Rattle.join_law.specs.Order.{IsJoin, IsLeast, IsPartialJoin};
 
 use crate::joins::{Join, Rest};
-use crate::passes::join_pairs_in_one;
+use crate::passes::{are_few, join_pairs_in_one};
 use plain_values::Key;
 use sorted_pairs::seek;
 use std::mem;
@@ -47,33 +47,8 @@ pub fn join_pair<K: Key, V: Join>(
     }
 }
 
-// Joins all pairs of `other`, from its end, and answers whether all went in: a search for each.
-fn join_each_pair<K: Key, V: Join>(pairs: &mut Vec<(K, V)>, other: &mut Vec<(K, V)>) -> bool
-    requires map { IsMap K.cmp V.below V.is_valid pairs.old.items }
-    requires other_map { IsMap K.cmp V.below V.is_valid other.old.items }
-    ensures map { IsMap K.cmp V.below V.is_valid pairs.new.items }
-    ensures other_map { IsMap K.cmp V.below V.is_valid other.new.items }
-    ensures ok { OnTrue result (IsJoin (MapBelow K.cmp V.below) pairs.old.items other.old.items
-        pairs.new.items) }
-    ensures refused { OnFalse result (IsPartialJoin (MapBelow K.cmp V.below) pairs.old.items other.old.items
-        pairs.new.items other.new.items) }
-    ensures single { OnFalse result (IsSinglePair V.is_single other.old.items →
-        pairs.new.items ≡ pairs.old.items) }
-{
-    while let Some((key, value)) = other.pop() {
-        if let Err(Rest { rest }) = join_pair(pairs, key, value) {
-            // It goes back into the room that it left.
-            match other.push(rest) {
-                Ok(()) => return false,
-                Err(_) => unreachable!(),
-            }
-        }
-    }
-    true
-}
-
-// Joins all pairs of `other`, and answers whether all went in: a search for each where they are few,
-// else one growth and one pass over both.
+// Joins all pairs of `other`, and answers whether all went in: a search for each, from its end, where they are few, else one
+// growth and one pass over both.
 pub fn join_pairs<K: Key, V: Join>(pairs: &mut Vec<(K, V)>, other: &mut Vec<(K, V)>) -> bool
     requires map { IsMap K.cmp V.below V.is_valid pairs.old.items }
     requires other_map { IsMap K.cmp V.below V.is_valid other.old.items }
@@ -90,8 +65,17 @@ pub fn join_pairs<K: Key, V: Join>(pairs: &mut Vec<(K, V)>, other: &mut Vec<(K, 
         mem::swap(pairs, other);
         return true;
     }
-    if other.len() <= 1 || other.len() < pairs.len() / 64 {
-        return join_each_pair(pairs, other);
+    if !are_few(other.len(), pairs.len()) {
+        return join_pairs_in_one(pairs, other);
     }
-    join_pairs_in_one(pairs, other)
+    while let Some((key, value)) = other.pop() {
+        if let Err(Rest { rest }) = join_pair(pairs, key, value) {
+            // It goes back into the room that it left.
+            match other.push(rest) {
+                Ok(()) => return false,
+                Err(_) => unreachable!(),
+            }
+        }
+    }
+    true
 }

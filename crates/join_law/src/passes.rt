@@ -14,6 +14,13 @@ use std::alloc::AllocError;
 use std::collections::VecDeque;
 use std::mem;
 
+// Whether pairs are so few beside those that are held that a search for each costs less than one pass over both.
+pub fn are_few(pairs: usize, held: usize) -> bool
+    ensures many { OnFalse result (1 < pairs) }
+{
+    pairs <= 1 || pairs < held / 64
+}
+
 // Whether the first pair has this key.
 fn is_first<K: Key, V>(ahead: &VecDeque<(K, V)>, key: &K) -> bool
     requires next { IsNotBelow K.cmp key.now ahead.now.items }

@@ -32,7 +32,7 @@ some_front : {A : Type 0} (xs ys : List A) → xs ≢ [] → xs ++ ys ≢ []
 some_front [] ys h = absurd (h refl)
 some_front (x ∷ xs) ys h = λ e. cc (e)
 
-at_name_some : (rank : ℕ) (folder name : List ℕ) (v : Versioned Content) → ¬ IsLeast (IsUpTo content_cmp) v → at_name rank folder name v ≢ []
+pub at_name_some : (rank : ℕ) (folder name : List ℕ) (v : Versioned Content) → ¬ IsLeast (IsUpTo content_cmp) v → at_name rank folder name v ≢ []
 at_name_some rank folder name Never h = absurd (h (never_least content_cmp))
 at_name_some rank folder name (At x) h = λ e. cc (e)
 

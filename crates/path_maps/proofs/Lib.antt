@@ -9,3 +9,4 @@ pub mod LeftBeside
 pub mod Rises
 pub mod Sizes
 pub mod Merges
+pub mod Singles

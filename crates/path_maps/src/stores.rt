@@ -227,13 +227,15 @@ impl Store {
     /// there is news, the join then costs what is news and a search for each, or one pass over both, whichever is less.
     /// Copies of entries share their bytes.
     ///
-    /// Where memory is refused, the store has part of what the join adds, and calling again with the same gives the rest.
+    /// Where memory is refused, the store has part of what the join adds, and calling again with the same gives the rest;
+    /// where the other has one entry, the store is as it was.
     pub fn merge(&mut self, other: &Store) -> Result<u64, AllocError>
         ensures ok { OnOk result (self.new ≡ join self.old other.now) }
         ensures changed { IfOk result (λ changed. changed ≡ changed_paths self.old self.new) }
         ensures kept { OnErr result (IsStoreBelow self.old self.new) }
         ensures within { OnErr result (IsStoreBelow self.new (join self.old other.now)) }
         ensures again { OnErr result (join self.new other.now ≡ join self.old other.now) }
+        ensures single { OnErr result (finmap.len other.now ≡ 1 → self.new ≡ self.old) }
     {
         let changes = count_changes(self, other);
         if changes.changed == 0 {
@@ -259,13 +261,14 @@ impl Store {
     /// news, the join then costs what is news and a search for each, or one pass over both, whichever is less.
     ///
     /// Where memory is refused, the store lies between what it was and the join, and joining the rest that comes back
-    /// gives that join.
+    /// gives that join; where the other has one entry, the store is as it was.
     pub fn absorb(&mut self, other: Store) -> Result<u64, Rest<Store>>
         ensures ok { OnOk result (self.new ≡ join self.old other) }
         ensures changed { IfOk result (λ changed. changed ≡ changed_paths self.old self.new) }
         ensures kept { OnErr result (IsStoreBelow self.old self.new) }
         ensures within { OnErr result (IsStoreBelow self.new (join self.old other)) }
         ensures rest { IfErr result (λ fault. join self.new fault.rest ≡ join self.old other) }
+        ensures single { OnErr result (finmap.len other ≡ 1 → self.new ≡ self.old) }
     {
         let changes = count_changes(self, &other);
         if changes.changed == 0 {

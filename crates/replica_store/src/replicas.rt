@@ -148,13 +148,14 @@ impl Replica {
     /// what is news and a search for each, or one pass over both, whichever is less. Copies of entries share their bytes.
     ///
     /// Where memory is refused, the store lies between what it was and the join, and the same call
-    /// may be made again.
+    /// may be made again; where the other has one entry, the replica is as it was.
     pub fn merge(&mut self, other: &Store) -> Result<u64, AllocError>
         ensures ok { OnOk result (self.new ≡ record self.old { store = join self.old.store other.now }) }
         ensures changed { IfOk result (λ changed. changed ≡ changed_paths self.old.store self.new.store) }
         ensures kept { OnErr result (IsStoreBelow self.old.store self.new.store) }
         ensures within { OnErr result (IsStoreBelow self.new.store (join self.old.store other.now)) }
         ensures again { OnErr result (join self.new.store other.now ≡ join self.old.store other.now) }
+        ensures single { OnErr result (finmap.len other.now ≡ 1 → self.new ≡ self.old) }
         ensures writer { self.new.writer ≡ self.old.writer }
     {
         self.store.merge(other)
@@ -164,13 +165,14 @@ impl Replica {
     /// news and a search for each, or one pass over both, whichever is less.
     ///
     /// Where memory is refused, the store lies between what it was and the join, and joining the rest that comes back
-    /// gives that join.
+    /// gives that join; where the other has one entry, the replica is as it was.
     pub fn absorb(&mut self, other: Store) -> Result<u64, Rest<Store>>
         ensures ok { OnOk result (self.new ≡ record self.old { store = join self.old.store other }) }
         ensures changed { IfOk result (λ changed. changed ≡ changed_paths self.old.store self.new.store) }
         ensures kept { OnErr result (IsStoreBelow self.old.store self.new.store) }
         ensures within { OnErr result (IsStoreBelow self.new.store (join self.old.store other)) }
         ensures rest { IfErr result (λ fault. join self.new.store fault.rest ≡ join self.old.store other) }
+        ensures single { OnErr result (finmap.len other ≡ 1 → self.new ≡ self.old) }
         ensures writer { self.new.writer ≡ self.old.writer }
     {
         self.store.absorb(other)

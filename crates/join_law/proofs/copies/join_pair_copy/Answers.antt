@@ -1,5 +1,6 @@
 use Rattle.std.proofs.Common.{◌≡◌, ap, ◌∙◌, set}
 use Rattle.join_law.proofs.MapEdits.{set_same, joined_is_map, joined_is_join, known_here, between_is_map, between_is_between, unchanged_is_between, inserted_is_map, inserted_is_join, not_known}
+use Rattle.sorted_pairs.specs.PlaceLaws.{find_gap}
 use Rattle.join_law.proofs.Outcomes.{on_err}
 use Rattle.join_law.proofs.copies.join_pair_copy.Goals as goal
 
@@ -68,3 +69,7 @@ pub returns-in_ok-insert-in-Err-clause-ok : goal.returns-in_ok-insert-in-Err-cla
 returns-in_ok-insert-in-Err-clause-ok g c =
     rw (c.in_ok-insert-in-Err.ensures.items, c.in_ok-copy-in-Err.ensures.copy, c.in_ok-try_clone-in-Err.ensures.copy)
     (inserted_is_join g.K.Ord.cmp g.met.K.Ord.total g.V.Join.is_valid g.V.Join.below g.met.V.Join.reflexive g.met.V.Join.transitive c.args.key.now _ _ c.requires.map c.args.value.now c.requires.held.not_least (rw c.deref.ensures.value at c.in-Err.ensures.absent))
+
+pub returns-then-not-are_few-clause-absent : goal.returns-then-not-are_few-clause-absent
+returns-then-not-are_few-clause-absent g c =
+    find_gap g.K.Ord.cmp c.args.key.now g.met.K.Ord.total _ _ c.requires.map.sorted (rw c.deref.ensures.value at c.in-Err.ensures.absent)

@@ -3,6 +3,8 @@ use Rattle.std.specs.Prelude.{Result, Ok, Err, OnErr, ◌≤◌}
 use Rattle.edit_sums.specs.SumLaws.{store_below_refl, join-left}
 use Rattle.path_maps.proofs.Merges.{merged, merged_kept, merged_changes, part_kept, part_within, part_again, within_listed, within_fits, within_counted}
 use Rattle.path_maps.proofs.Rises.{join_known, nothing_changed}
+use Rattle.path_maps.specs.PathMaps.{flat}
+use Rattle.path_maps.proofs.Singles.{single_ranks}
 use Rattle.path_maps.proofs.stores.Store.merge.Goals as goal
 
 on_err : {T E P : Type 0} (r : Result T E) → P → OnErr r P
@@ -66,3 +68,7 @@ returns-then-changes-eq0-clause-ok c = join_known c.args.self.now c.args.other.n
 
 pub returns-then-changes-eq0-clause-changed : goal.returns-then-changes-eq0-clause-changed
 returns-then-changes-eq0-clause-changed c = sym (nothing_changed c.args.self.now)
+
+pub returns-in-Err-clause-single : goal.returns-in-Err-clause-single
+returns-in-Err-clause-single c = λ one.
+    ap flat (c.in-Err.ensures.single (single_ranks c.other.inside.ranks c.args.other.now c.other.view_is c.other.invariant.ranks one)) ∙ c.self.view_is

@@ -1,5 +1,5 @@
 use Rattle.join_law.proofs.Ends.{under_way_more, stopped_is_join, stopped_is_map}
-use Rattle.join_law.proofs.edits.join_each_pair.Goals as goal
+use Rattle.join_law.proofs.edits.join_pairs.Goals as goal
 
 pub returns-in-Ok-clause-other_map : goal.returns-in-Ok-clause-other_map
 returns-in-Ok-clause-other_map g c = rw c.in-Ok.ensures.items

@@ -1,0 +1,50 @@
+-- A store of one entry is maps of one pair each.
+use Rattle.std.proofs.Common.{◌≡◌, ◌≢◌, ◌≤◌, ℕ, List, [], ◌∷◌, ◌++◌, refl, sym, ap, ◌∙◌, length, arith, length-append}
+use Rattle.std.specs.FinMap as finmap
+use Rattle.join_law.specs.declared.versions.Versioned.{Versioned}
+use Rattle.join_law.specs.Order.{IsLeast}
+use Rattle.join_law.specs.VersionOrder.{IsUpTo}
+use Rattle.join_law.specs.Maps.{AllHeld, IsSinglePair}
+use Rattle.edit_sums.specs.declared.contents.Content.{Content}
+use Rattle.edit_sums.specs.Contents.{content_cmp}
+use Rattle.edit_sums.specs.Sums.{EntryMap}
+use Rattle.path_maps.specs.Spread.{spread}
+use Rattle.path_maps.specs.PathMaps.{NameMap, FolderMap, RankMap, NamesBelow, FoldersBelow, AreNames, AreFolders, AreRanks, at_name, in_folder, in_rank, listed, flat}
+use Rattle.path_maps.specs.PathMapLaws.{entries-flat}
+use Rattle.path_maps.proofs.Cursors.{at_name_some, in_folder_some, in_rank_some}
+
+some_length : {A : Type 0} (xs : List A) → xs ≢ [] → 1 ≤ length xs
+some_length [] h = absurd (h refl)
+some_length (x ∷ xs) h = omega arith
+
+-- each pair stands for something: where all of them stand for one thing, there is one, and it does
+single_spread : {K V A E : Type 0} (part : K → V → List (A × E)) (below : V → V → Type 0) (valid is_single : V → Type 0) →
+    ((k : K) (v : V) → ¬ IsLeast below v → valid v → part k v ≢ []) → ((k : K) (v : V) → valid v → length (part k v) ≡ 1 → is_single v) →
+    (es : List (K × V)) → AllHeld below valid es → length (spread part es) ≡ 1 → IsSinglePair is_single es
+single_spread part below valid is_single some one [] h n = absurd (omega (arith, n))
+single_spread part below valid is_single some one (e ∷ []) h n =
+    let all = length-append (part e.0 e.1) [] in
+    one e.0 e.1 h.0.lawful (omega (arith, n, all))
+single_spread part below valid is_single some one (e ∷ f ∷ es) h n =
+    let all = length-append (part e.0 e.1) (part f.0 f.1 ++ spread part es) in
+    let rest = length-append (part f.0 f.1) (spread part es) in
+    let first = some_length (part e.0 e.1) (some e.0 e.1 h.0.not_least h.0.lawful) in
+    let second = some_length (part f.0 f.1) (some f.0 f.1 h.1.0.not_least h.1.0.lawful) in
+    absurd (omega (arith, n, all, rest, first, second))
+
+abbrev IsSingleName : NameMap → Type 0
+IsSingleName = IsSinglePair (λ _. Unit {0})
+
+single_names : (rank : ℕ) (folder : List ℕ) (names : NameMap) → AreNames names → length (in_folder rank folder names) ≡ 1 → IsSingleName names
+single_names rank folder names is =
+    single_spread (at_name rank folder) (IsUpTo content_cmp) (λ _. Unit {0}) (λ _. Unit {0}) (λ k v n _. at_name_some rank folder k v n) (λ k v _ _. tt) names is.held
+
+single_folders : (rank : ℕ) (folders : FolderMap) → AreFolders folders → length (in_rank rank folders) ≡ 1 → IsSinglePair IsSingleName folders
+single_folders rank folders is =
+    single_spread (in_folder rank) NamesBelow AreNames IsSingleName (in_folder_some rank) (single_names rank) folders is.held
+
+-- the maps of a store of one entry
+pub single_ranks : (m : RankMap) (s : EntryMap) → flat m ≡ s → AreRanks m → finmap.len s ≡ 1 → IsSinglePair (IsSinglePair IsSingleName) m
+single_ranks m s e is one =
+    single_spread in_rank FoldersBelow AreFolders (IsSinglePair IsSingleName) in_rank_some single_folders m is.held
+    (ap length (sym (entries-flat m is)) ∙ sym (finmap.len-entries (flat m)) ∙ ap (λ (t : EntryMap). finmap.len t) e ∙ one)
