@@ -28,7 +28,7 @@ pub fn reached_inside(
     let mut seen = no_marks(alloc, inside.len())?;
     let mut todo = Vec::new(alloc);
     spread(&mut seen, &mut todo, sources)?;
-    'todo: while let Some(node) = todo.pop() {
+    while let Some(node) = todo.pop() {
         steps.spread(&mut seen, &mut todo, inside, node)?;
     }
     Ok(seen)

@@ -18,8 +18,8 @@ pub fn no_marks(alloc: Global, count: usize) -> Result<Vec<bool>, AllocError>
     vec![in alloc; false; count]
 }
 
-/// So many marks, which are all set.
-pub fn all_marks(alloc: Global, count: usize) -> Result<Vec<bool>, AllocError>
+// So many marks, which are all set.
+pub(crate) fn all_marks(alloc: Global, count: usize) -> Result<Vec<bool>, AllocError>
     ensures all { IfOk result (λ marks. marks.items ≡ replicate count true) }
     ensures units { IfOk result (λ marks. length marks.items ≡ count) }
 {
@@ -32,8 +32,8 @@ pub fn marked_nodes(alloc: Global, marks: &[bool]) -> Result<Vec<usize>, AllocEr
     ensures members { IfOk result (λ nodes. (v : ℕ) → IsAmong v nodes.items ↔ Marked marks.now v) }
 {
     let mut nodes = Vec::new(alloc);
-    for node in 0..marks.len() {
-        if marks[node] {
+    for (node, is_marked) in marks.iter().enumerate() {
+        if *is_marked {
             nodes.push(node)?;
         }
     }
@@ -47,8 +47,8 @@ pub fn unmarked(alloc: Global, marks: &[bool]) -> Result<Vec<bool>, AllocError>
         ↔ ((v < length marks.now) × ¬ Marked marks.now v)) }
 {
     let mut others = Vec::new(alloc);
-    for node in 0..marks.len() {
-        others.push(!marks[node])?;
+    for is_marked in marks {
+        others.push(!*is_marked)?;
     }
     Ok(others)
 }
@@ -60,8 +60,8 @@ pub fn without(alloc: Global, marks: &[bool], others: &[bool]) -> Result<Vec<boo
     ensures left { IfOk result (λ left. (v : ℕ) → Marked left.items v ↔ (Marked marks.now v × ¬ Marked others.now v)) }
 {
     let mut left = Vec::new(alloc);
-    for node in 0..marks.len() {
-        left.push(marks[node] && !others[node])?;
+    for (node, is_marked) in marks.iter().enumerate() {
+        left.push(*is_marked && !others[node])?;
     }
     Ok(left)
 }
@@ -70,12 +70,7 @@ pub fn without(alloc: Global, marks: &[bool], others: &[bool]) -> Result<Vec<boo
 pub fn first_marked(marks: &[bool]) -> Option<usize>
     ensures { MatchOption result ((v : ℕ) → ¬ Marked marks.now v) (IsLeast nat_cmp (Marked marks.now)) }
 {
-    for node in 0..marks.len() {
-        if marks[node] {
-            return Some(node);
-        }
-    }
-    None
+    marks.iter().position(|is_marked| *is_marked)
 }
 
 /// The least marked node of a list. O(its length).
@@ -85,7 +80,7 @@ pub fn least_marked(nodes: &[usize], marks: &[bool]) -> Option<usize>
         (IsLeast nat_cmp (λ v. IsAmong v nodes.now × Marked marks.now v)) }
 {
     let mut least = marks.len();
-    'nodes: for node in nodes {
+    for node in nodes {
         if marks[*node] && *node < least {
             least = *node;
         }
@@ -98,7 +93,7 @@ pub fn least_marked(nodes: &[usize], marks: &[bool]) -> Option<usize>
 }
 
 // Marks the nodes, and notes those that weren't marked.
-pub fn spread(
+pub(crate) fn spread(
     seen: &mut Vec<bool>,
     noted: &mut Vec<usize>,
     nodes: &[usize],
@@ -106,7 +101,7 @@ pub fn spread(
     requires { All (λ v. v < length seen.old.items) nodes.now }
     ensures { OnOk result (IsSpread seen.old.items seen.new.items noted.old.items noted.new.items nodes.now) }
 {
-    'nodes: for node in nodes {
+    for node in nodes {
         if !seen[*node] {
             seen[*node] = true;
             noted.push(*node)?;

@@ -44,7 +44,7 @@ fn note(rows: &mut Vec<Vec<usize>>, nodes: &[usize], node: usize) -> Result<(), 
     requires { All (λ v. v < length rows.old.items) nodes.now }
     ensures { OnOk result (IsNoted rows.old.items rows.new.items nodes.now node) }
 {
-    'nodes: for other in nodes {
+    for other in nodes {
         note_at(rows, *other, node)?;
     }
     Ok(())
@@ -59,7 +59,7 @@ pub fn turned(alloc: Global, rows: &[Vec<usize>]) -> Result<Vec<Vec<usize>>, All
     ensures rows { IfOk result (λ others. AreRowsOf (length rows.now) others.items) }
 {
     let mut others = no_rows(alloc, rows.len())?;
-    'rows: for node in 0..rows.len() {
+    for node in 0..rows.len() {
         note(&mut others, row(rows, node), node)?;
     }
     Ok(others)
@@ -79,7 +79,7 @@ pub fn joined(
     ensures rising { IfOk result (λ rows. (u : ℕ) → IsStrictlySortedBy nat_cmp (row_of rows.items u)) }
 {
     let mut rows = Vec::new(alloc);
-    'rows: for node in 0..first.len() {
+    for node in 0..first.len() {
         let mut nodes = Vec::from_slice(alloc, row(first, node))?;
         nodes.extend_from_slice(row(second, node))?;
         put_in_order(&mut nodes);

@@ -38,7 +38,7 @@ fn next_level(
         (flat_map (steps_from steps.now) level.now)) }
 {
     let mut next = Vec::new(alloc);
-    'level: for node in level {
+    for node in level {
         steps.spread(seen, &mut next, all, *node)?;
     }
     Ok(next)
@@ -52,7 +52,7 @@ fn push_level(
 ) -> Result<(), AllocError>
     ensures { OnOk result (pairs.new.items ≡ pairs.old.items ++ map (λ v. (distance, v)) level.now) }
 {
-    'level: for node in level {
+    for node in level {
         pairs.push((distance, *node))?;
     }
     Ok(())
@@ -76,7 +76,7 @@ pub fn distances(
     let mut level = Vec::new(alloc);
     spread(&mut seen, &mut level, sources)?;
     let mut distance = 0;
-    'levels: while !level.is_empty() {
+    while !level.is_empty() {
         put_in_order(&mut level);
         push_level(&mut pairs, distance, &level)?;
         level = next_level(alloc, &mut seen, steps, &all, &level)?;

@@ -68,7 +68,7 @@ impl<'a> Steps<'a> {
             (IsLeast nat_cmp (λ v. IsAmong v (steps_from self.now node) × Marked marks.now v)) }
     {
         let mut least = None;
-        'kinds: for rows in &self.kinds {
+        for rows in &self.kinds {
             least = lesser(least, least_marked(row(rows, node), marks));
         }
         least
@@ -88,7 +88,7 @@ impl<'a> Steps<'a> {
         ensures spread { OnOk result (IsSpread seen.old.items seen.new.items noted.old.items noted.new.items
             (steps_inside inside.now self.now node)) }
     {
-        'kinds: for rows in &self.kinds {
+        for rows in &self.kinds {
             spread_inside(seen, noted, inside, row(rows, node))?;
         }
         Ok(())
@@ -118,7 +118,7 @@ fn spread_inside(
     ensures { OnOk result (IsSpread seen.old.items seen.new.items noted.old.items noted.new.items
         (filter (is_marked inside.now) nodes.now)) }
 {
-    'nodes: for node in nodes {
+    for node in nodes {
         if inside[*node] {
             mark(seen, noted, *node)?;
         }

@@ -1,11 +1,9 @@
 -- What a search among the names of a load finds.
-use Rattle.std.proofs.Common.{◌≡◌, ◌<◌, ℕ, zero, suc, List, [], ◌∷◌, length, get_or, IsTrue, ap, sym, ◌∙◌, subst}
+use Rattle.std.proofs.Common.{◌≡◌, ◌<◌, ℕ, List, [], length, get_or, IsTrue, ap, sym, ◌∙◌, subst}
 use Rattle.std.specs.Map.{keys_of}
 use Rattle.std.specs.Option.{option_and_then}
 use Rattle.std.specs.Cmp.Lexicographic.{nat_list_cmp_total}
-use Rattle.std.specs.FinMap.{IsAntisymmetric}
 use Rattle.std.specs.FinMap.Entries.{find, is_sorted}
-use Rattle.std.specs.declared.cmp.Ordering.{Ordering}
 use Rattle.std.proofs.lemmas.Option.{none-some}
 use Rattle.sorted_pairs.specs.Places.{IsAt, IsGap}
 use Rattle.sorted_pairs.specs.PlaceLaws.{at_within, find_at, find_gap}
@@ -14,14 +12,10 @@ use Rattle.unit_name.specs.NameLaws.{name_cmp-IsAntisymmetric}
 use Rattle.unit_loads.specs.declared.units.Unit.{Unit as LoadedUnit}
 use Rattle.parallel_load.specs.declared.loaded.NameLoad.{NameLoad}
 use Rattle.parallel_load.specs.declared.loaded.NameLoad.TheVariants.{Unit as OfUnit, Alias as OfAlias}
+use Rattle.parallel_load.specs.KeyLaws.{key_found}
 use Rattle.parallel_load.specs.Loads.{LoadMap, unit_in, unit_part}
 use Rattle.inverse_deps.specs.Edges.{IsUnitIn}
 use Rattle.inverse_deps.specs.Numbers.{IsNumberOf}
-
-key_at : {K V : Type 0} (R : K → K → Ordering) → IsAntisymmetric R → (k : K) (es : List (K × V)) (i : ℕ) (d : K) → IsAt R k es i → get_or (keys_of es) i d ≡ k
-key_at R exact k [] i d a = absurd a
-key_at R exact k (e ∷ es) zero d a = sym (exact k e.0 a)
-key_at R exact k (e ∷ es) (suc i) d a = key_at R exact k es i d a.1
 
 module _ (load : LoadMap) (es : List (Name × NameLoad)) (same : es ≡ load.names) (name : Name) where
   part_at : (at : ℕ) (p : Name × NameLoad) → IsAt name_cmp name es at → unit_in load name ≡ unit_part (get_or es at p).1
@@ -33,7 +27,7 @@ module _ (load : LoadMap) (es : List (Name × NameLoad)) (same : es ≡ load.nam
   found_unit at p unit a u = record {
     below = (let P : List (Name × NameLoad) → Type 0 = λ ns. at < length ns in subst P same (at_within name_cmp name es at a));
     named = (let P : List (Name × NameLoad) → Type 0 = λ ns. get_or (keys_of ns) at [] ≡ name in
-        subst P same (key_at name_cmp name_cmp-IsAntisymmetric name es at [] a));
+        subst P same (key_found name_cmp name_cmp-IsAntisymmetric name es at [] a));
     unit = (unit, part_at at p a ∙ ap unit_part u);
   }
 

@@ -1,67 +1,87 @@
 -- Rows of dependencies and of edges.
-use Rattle.std.proofs.Common.{◌≡◌, ◌<◌, ◌⊎◌, ◌↔◌, ℕ, List, [], length, get_or, IsTrue, Some, ap, sym, subst, ◌∙◌}
+use Rattle.std.proofs.Common.{◌≡◌, ◌<◌, ◌⊎◌, ◌↔◌, ℕ, zero, suc, List, [], ◌∷◌, length, get_or, IsTrue, Some, refl, ap, sym, subst, ◌∙◌, arith}
 use Rattle.std.specs.declared.vec.Vec.{Vec}
 use Rattle.std.specs.declared.alloc.Global.{Global}
 use Rattle.std.specs.Cmp.Lexicographic.{nat_list_cmp_total}
 use Rattle.std.specs.FinMap.Entries.{is_sorted}
 use Rattle.std.proofs.lemmas.Option.{none-some}
-use Rattle.list_laws.specs.Members.{IsAmong}
+use Rattle.list_laws.specs.Members.{IsAmong, none_there}
 use Rattle.name_closure.specs.ListedLaws.{Listed, Named}
 use Rattle.index_rows.specs.Numbering.{AreNames, AreNamedSteps}
 use Rattle.index_rows.specs.Rows.{row, AreRowsOf}
 use Rattle.index_rows.specs.RowLaws.{row-below}
 use Rattle.unit_name.specs.Names.{Name, name_cmp}
-use Rattle.setting_rules.specs.declared.dependency_lists.DependencyList.{DependencyList}
 use Rattle.setting_rules.specs.declared.kinds.DepKind.{DepKind}
 use Rattle.setting_rules.specs.Kinds.{inverse}
 use Rattle.unit_loads.specs.declared.units.Unit.{Unit as LoadedUnit}
 use Rattle.unit_loads.specs.NamedUnits.{IsListed}
+use Rattle.parallel_load.specs.declared.loaded.Dependency.{Dependency}
 use Rattle.parallel_load.specs.declared.loaded.NameLoad.{NameLoad}
 use Rattle.parallel_load.specs.declared.loaded.NameLoad.TheVariants.{Unit as OfUnit, Alias as OfAlias}
 use Rattle.parallel_load.specs.Loads.{LoadMap, unit_in, unit_part}
+use Rattle.parallel_load.specs.Numbers.{AreDependenciesOf, AreDependencyRows, lists_in}
 use Rattle.inverse_deps.specs.Edges.{IsUnitIn, DependsOn, IsEdge}
 use Rattle.inverse_deps.specs.Numbers.{count_of, name_at}
-use Rattle.inverse_deps.specs.NamingLaws.{names_along, names_none, names_either, turned_named}
+use Rattle.inverse_deps.specs.NamingLaws.{names_along, names_either, turned_named}
 use Rattle.inverse_deps.specs.NumberLaws.{load_numbering, unit_at, unit_number}
+use Rattle.inverse_deps.specs.Tables.{AreNumbersBy}
 
-module _ (load : LoadMap) (es : List (Name × NameLoad)) (same : es ≡ load.names) (sorted : IsTrue (is_sorted name_cmp es)) (dep : DepKind) where
-  in_order : IsTrue (is_sorted name_cmp load.names)
-  in_order = let P : List (Name × NameLoad) → Type 0 = λ ns. IsTrue (is_sorted name_cmp ns) in subst P same sorted
+module _ (load : LoadMap) (sorted : IsTrue (is_sorted name_cmp load.names)) (dep : DepKind) (number : ℕ) (p : Name × NameLoad) (below : number < count_of load) where
+  part : unit_in load (name_at load number) ≡ unit_part (get_or load.names number p).1
+  part = unit_at load sorted number p below
 
-  module _ (number : ℕ) (p : Name × NameLoad) (below : number < length es) where
-    part : unit_in load (name_at load number) ≡ unit_part (get_or es number p).1
-    part =
-        let P : List (Name × NameLoad) → Type 0 = λ ns. number < length ns in
-        unit_at load in_order number p (subst P same below) ∙ ap (λ ns. unit_part (get_or ns number p).1) (sym same)
+  there : (one : NameLoad) → (get_or load.names number p).1 ≡ one → (v : Name) → IsListed (lists_in one) dep v → IsUnitIn load v → DependsOn load dep (name_at load number) v
+  there (OfUnit u) e v l w = record { unit = u; unit_is = part ∙ ap unit_part e; listed = l; other = w }
+  there (OfAlias m) e v l w = none_there l.list l.there
 
-    -- the row of a unit
-    pub unit_row : (unit : LoadedUnit) (lists : List DependencyList) (is : List ℕ) → (get_or es number p).1 ≡ OfUnit unit → lists ≡ unit.deps
-        → AreNames (count_of load) (name_at load) (Listed is) (λ v. IsListed lists dep v × IsUnitIn load v)
-        → AreNames (count_of load) (name_at load) (Listed is) (DependsOn load dep (name_at load number))
-    unit_row unit lists is u l a =
-        names_along (count_of load) (name_at load) (Listed is) (Listed is) (λ v. IsListed lists dep v × IsUnitIn load v) (DependsOn load dep (name_at load number)) a
-        (λ j. (λ h. h, λ h. h)) (λ v. (there v, back v))
-      where
-        there : (v : Name) → IsListed lists dep v × IsUnitIn load v → DependsOn load dep (name_at load number) v
-        there v h =
-            let P : List DependencyList → Type 0 = λ ls. IsListed ls dep v in
-            record { unit = unit; unit_is = part ∙ ap unit_part u; listed = subst P l h.0; other = h.1 }
+  back : (one : NameLoad) → (get_or load.names number p).1 ≡ one → (v : Name) → DependsOn load dep (name_at load number) v → IsListed (lists_in one) dep v
+  back (OfUnit u) e v d =
+      let f : Some d.unit ≡ Some u = sym d.unit_is ∙ part ∙ ap unit_part e in
+      let same : d.unit ≡ u = cc (f) in
+      let Q : LoadedUnit → Type 0 = λ w. IsListed w.deps dep v in
+      subst Q same d.listed
+  back (OfAlias m) e v d = absurd (none-some _ (sym (part ∙ ap unit_part e) ∙ d.unit_is))
 
-        back : (v : Name) → DependsOn load dep (name_at load number) v → IsListed lists dep v × IsUnitIn load v
-        back v d =
-            let P : List DependencyList → Type 0 = λ ls. IsListed ls dep v in
-            let e : Some d.unit ≡ Some unit = sym d.unit_is ∙ part ∙ ap unit_part u in
-            let one : d.unit ≡ unit = cc (e) in
-            let Q : LoadedUnit → Type 0 = λ w. IsListed w.deps dep v in
-            (subst P (sym l) (subst Q one d.listed), d.other)
+  -- the numbers of a name's dependencies are the numbers of what it depends on
+  pub numbers_named : (deps : List Dependency) (is : List ℕ) → AreDependenciesOf load.names (lists_in (get_or load.names number p).1) deps → AreNumbersBy deps dep is
+      → AreNames (count_of load) (name_at load) (Listed is) (DependsOn load dep (name_at load number))
+  numbers_named deps is a by = record { within = within; named = named; numbered = numbered }
+    where
+      within : (i : ℕ) → Listed is i → i < count_of load
+      within i h =
+          let k = (by i).0 h in
+          let P : ℕ → Type 0 = λ j. j < count_of load in
+          subst P k.number_is (a.each k.one k.there).below
 
-    -- and that of an alias, which has nothing
-    pub alias_row : (of : Name) (is : List ℕ) → (get_or es number p).1 ≡ OfAlias of → is ≡ []
-        → AreNames (count_of load) (name_at load) (Listed is) (DependsOn load dep (name_at load number))
-    alias_row of is u e =
-        names_none (count_of load) (name_at load) (Listed is) (DependsOn load dep (name_at load number))
-        (λ j h. (let P : List ℕ → Type 0 = λ l. IsAmong j l in absurd (subst P e h)))
-        (λ v d. absurd (none-some _ (sym (part ∙ ap unit_part u) ∙ d.unit_is)))
+      named : (i : ℕ) → Listed is i → DependsOn load dep (name_at load number) (name_at load i)
+      named i h =
+          let k = (by i).0 h in
+          let d = a.each k.one k.there in
+          let K : DepKind → Type 0 = λ e. IsListed (lists_in (get_or load.names number p).1) e (name_at load k.one.number) in
+          let L : ℕ → Type 0 = λ j. IsListed (lists_in (get_or load.names number p).1) dep (name_at load j) in
+          let U : ℕ → Type 0 = λ j. IsUnitIn load (name_at load j) in
+          there (get_or load.names number p).1 refl (name_at load i) (subst L k.number_is (subst K k.kind_is d.listed)) (subst U k.number_is d.unit)
+
+      numbered : (v : Name) → DependsOn load dep (name_at load number) v → (i : ℕ) × (Listed is i × (name_at load i ≡ v))
+      numbered v d =
+          let r = a.all dep v (back (get_or load.names number p).1 refl v d) in
+          (r.one.number, ((by r.one.number).1 (record { one = r.one; there = r.there; kind_is = r.kind_is; number_is = refl }), r.named))
+
+-- what stands at a place, whatever stands for none
+same_at : {X : Type 0} (xs : List X) (i : ℕ) (d e : X) → i < length xs → get_or xs i d ≡ get_or xs i e
+same_at [] i d e l = absurd (omega arith)
+same_at (x ∷ xs) zero d e l = refl
+same_at (x ∷ xs) (suc i) d e l = same_at xs i d e (omega arith)
+
+-- the same for the rows of a load
+pub row_named : (load : LoadMap) → IsTrue (is_sorted name_cmp load.names) → (dep : DepKind) (rows : List (List Dependency)) → AreDependencyRows load.names rows → (number : ℕ) → number < length rows
+    → (deps : List Dependency) → deps ≡ get_or rows number deps → (is : List ℕ) → AreNumbersBy deps dep is → AreNames (count_of load) (name_at load) (Listed is) (DependsOn load dep (name_at load number))
+row_named load sorted dep rows a number l deps e is by =
+    let p : Name × NameLoad = ([], OfAlias []) in
+    let each = a.one_each in
+    let below : number < count_of load = omega (arith, each, l) in
+    let D : List Dependency → Type 0 = λ ds. AreDependenciesOf load.names (lists_in (get_or load.names number p).1) ds in
+    numbers_named load sorted dep number p below deps is (subst D (sym (e ∙ same_at rows number deps [] l)) (a.rows number p below)) by
 
 -- edges: what a unit names, and what names it by the inverse
 module _ (load : LoadMap) (sorted : IsTrue (is_sorted name_cmp load.names)) (dep other : DepKind) (is_inverse : other ≡ inverse dep) (named naming back rows : List (Vec ℕ Global)) where

@@ -7,6 +7,7 @@ use Rattle.std.specs.FinMap.Entries.{find, is_sorted}
 use Rattle.std.specs.Ordering.{nat_cmp}
 use Rattle.std.specs.declared.vec.Vec.{Vec}
 use Rattle.std.specs.declared.alloc.Global.{Global}
+use Rattle.std.proofs.lemmas.List.{length-map}
 use Rattle.std.proofs.lemmas.Option.{none-some}
 use Rattle.name_closure.specs.ListedLaws.{Listed}
 use Rattle.index_rows.specs.Numbering.{AreNames}
@@ -21,11 +22,11 @@ use Rattle.setting_rules.specs.declared.kinds.DepKind.TheVariants.{Before, After
 use Rattle.setting_rules.specs.Kinds.{kinds}
 use Rattle.parallel_load.specs.Loads.{LoadMap}
 use Rattle.inverse_deps.specs.EdgeLaws.{edges_join_units}
-use Rattle.inverse_deps.specs.EdgeRows.{AreRowsBy, AreRowsByKinds, listed_name}
+use Rattle.inverse_deps.specs.EdgeRows.{listed_name, rows_at}
 use Rattle.inverse_deps.specs.Edges.{IsEdge, AreEdgesFrom, AreEdges, EdgeMap, list_at, names_in, place}
 use Rattle.inverse_deps.specs.Numbers.{count_of, name_at}
 use Rattle.inverse_deps.specs.NumberLaws.{find_place, keys_length, load_numbering, place_of_found, unit_number}
-use Rattle.inverse_deps.specs.Tables.{AreEdgeRows, AreKept, AreListsFrom, AreNamingRows, AreNamingTables, AreTables, lists_from}
+use Rattle.inverse_deps.specs.Tables.{AreKept, AreListsFrom, AreNamingRows, AreNamingTables, AreTables, lists_from}
 
 -- ---- kinds
 
@@ -75,27 +76,42 @@ tag_is OnFailureOf = refl
 tag_is PropagatesReloadTo = refl
 tag_is ReloadPropagatedFrom = refl
 
--- the rows of a kind's dependencies, as indexing reads them
-pub naming_rows : (load : LoadMap) (tables : List (Vec (Vec ℕ Global) Global)) (dep : DepKind) (t : Vec (Vec ℕ Global) Global) (rows : List (Vec ℕ Global)) → AreNamingTables load tables
-    → t ≡ get_or tables (tag_of kinds_of.the_type dep) t → rows ≡ t.items → AreNamingRows load dep rows
-naming_rows load tables dep t rows a g f =
+-- what was made for each kind in order is there by kind
+pub by_kinds : (P : DepKind → List (Vec ℕ Global) → Type 0) (tables : List (List (Vec ℕ Global))) → ((k : ℕ) (d : List (Vec ℕ Global)) → k < length kinds → P (get_or kinds k Before) (get_or tables k d))
+    → (dep : DepKind) → P dep (rows_at tables dep)
+by_kinds P tables each dep =
     let at = stands_at dep in
-    let P : DepKind → Type 0 = λ d. AreNamingRows load d (get_or tables (place dep) t).items in
-    let Q : Vec (Vec ℕ Global) Global → Type 0 = λ v. AreNamingRows load dep v.items in
-    let R : List (Vec ℕ Global) → Type 0 = λ rs. AreNamingRows load dep rs in
-    subst R (sym f) (subst Q (ap (λ i. get_or tables i t) (sym (tag_is dep)) ∙ sym g) (subst P at.there (a.each (place dep) t at.below)))
+    let Q : DepKind → Type 0 = λ d. P d (rows_at tables dep) in
+    subst Q at.there (each (place dep) [] at.below)
+
+-- what stands at a place of a mapped list
+get_mapped : {X Y : Type 0} (f : X → Y) (xs : List X) (k : ℕ) (x : X) (y : Y) → k < length xs → get_or (map f xs) k y ≡ f (get_or xs k x)
+get_mapped f [] k x y l = absurd (omega arith)
+get_mapped f (z ∷ zs) zero x y l = refl
+get_mapped f (z ∷ zs) (suc k) x y l = get_mapped f zs k x y (omega arith)
+
+-- rows as they are kept, and as contracts see them
+module _ (kept : List (Vec (Vec ℕ Global) Global)) (tables : List (List (Vec ℕ Global))) (are : map (λ rows. rows.items) kept ≡ tables) (all : length tables ≡ length kinds) (dep : DepKind) where
+  pub kind_within : tag_of kinds_of.the_type dep < length kept
+  kind_within =
+      let below = (stands_at dep).below in
+      let tag = tag_is dep in
+      let count : length kept ≡ length tables = sym (length-map kept (λ (rows : Vec (Vec ℕ Global) Global). rows.items)) ∙ ap length are in
+      omega (arith, below, tag, count, all)
+
+  pub kind_rows : (rows : Vec (Vec ℕ Global) Global) → rows ≡ get_or kept (tag_of kinds_of.the_type dep) rows → rows.items ≡ rows_at tables dep
+  kind_rows rows e =
+      ap (λ (v : Vec (Vec ℕ Global) Global). v.items) e
+      ∙ sym (get_mapped (λ (v : Vec (Vec ℕ Global) Global). v.items) kept (tag_of kinds_of.the_type dep) rows [] kind_within)
+      ∙ ap (λ (ts : List (List (Vec ℕ Global))). get_or ts (tag_of kinds_of.the_type dep) []) are ∙ ap (λ i. get_or tables i []) (tag_is dep)
+
+-- the rows of a kind's dependencies
+pub naming_rows : (load : LoadMap) (tables : List (List (Vec ℕ Global))) (dep : DepKind) (rows : List (Vec ℕ Global)) → AreNamingTables load tables → rows ≡ rows_at tables dep → AreNamingRows load dep rows
+naming_rows load tables dep rows a e = let P : List (Vec ℕ Global) → Type 0 = λ rs. AreNamingRows load dep rs in subst P (sym e) (a.each dep)
 
 -- rows lead to as many nodes as there are rows
 pub own_rows : (load : LoadMap) (dep : DepKind) (rows : List (Vec ℕ Global)) → AreNamingRows load dep rows → AreRowsOf (length rows) rows
 own_rows load dep rows a = let P : ℕ → Type 0 = λ n. AreRowsOf n rows in subst P (sym a.within.one_each) a.within
-
--- the rows of a kind
-pub rows_of_kind : (load : LoadMap) (tables : List (Vec (Vec ℕ Global) Global)) (k : ℕ) (t : Vec (Vec ℕ Global) Global) (rows : List (Vec ℕ Global)) → AreTables load tables
-    → k < length tables → t ≡ get_or tables k t → rows ≡ t.items → AreEdgeRows load (get_or kinds k Before) rows
-rows_of_kind load tables k t rows a l e f =
-    let P : Vec (Vec ℕ Global) Global → Type 0 = λ v. AreEdgeRows load (get_or kinds k Before) v.items in
-    let Q : List (Vec ℕ Global) → Type 0 = λ rs. AreEdgeRows load (get_or kinds k Before) rs in
-    subst Q (sym f) (subst P (sym e) (a.each k t (omega (arith, l, a.all))))
 
 -- ---- one list
 
@@ -113,19 +129,8 @@ none_rise : IsStrictlySortedBy name_cmp []
 unfolding IsStrictlySortedBy
 none_rise = tt
 
--- what stands at a place of a mapped list
-get_mapped : {X Y : Type 0} (f : X → Y) (xs : List X) (k : ℕ) (x : X) (y : Y) → k < length xs → get_or (map f xs) k y ≡ f (get_or xs k x)
-get_mapped f [] k x y l = absurd (omega arith)
-get_mapped f (z ∷ zs) zero x y l = refl
-get_mapped f (z ∷ zs) (suc k) x y l = get_mapped f zs k x y (omega arith)
-
--- there is a kind, so there is a table
-a_table : (tables : List (Vec (Vec ℕ Global) Global)) → length tables ≡ length kinds → Vec (Vec ℕ Global) Global
-a_table [] e = absurd (omega (arith, e))
-a_table (t ∷ ts) e = t
-
 -- lists for all names of a load, made of the rows of all its edges
-module _ (load : LoadMap) (ordered : IsTrue (is_sorted name_cmp load.names)) (tables : List (Vec (Vec ℕ Global) Global)) (are : AreTables load tables)
+module _ (load : LoadMap) (ordered : IsTrue (is_sorted name_cmp load.names)) (tables : List (List (Vec ℕ Global))) (are : AreTables load tables)
     (edges : EdgeMap) (keys : keys_of edges ≡ keys_of load.names) (sorted : IsTrue (is_sorted name_cmp edges))
     (each : (k : ℕ) (d : Name × List (List Name)) → k < length edges → (get_or edges k d).1 ≡ lists_from load tables k) where
   count : length edges ≡ count_of load
@@ -134,23 +139,18 @@ module _ (load : LoadMap) (ordered : IsTrue (is_sorted name_cmp load.names)) (ta
   named_alike : (i : ℕ) → get_or (keys_of edges) i [] ≡ name_at load i
   named_alike i = ap (λ ks. get_or ks i []) keys
 
-  kind_rows : (dep : DepKind) (t : Vec (Vec ℕ Global) Global) → AreEdgeRows load dep (get_or tables (place dep) t).items
-  kind_rows dep t =
+  kind_names : (dep : DepKind) (i : ℕ) → get_or (lists_from load tables i) (place dep) [] ≡ map (name_at load) (row (rows_at tables dep) i)
+  kind_names dep i =
       let at = stands_at dep in
-      let P : DepKind → Type 0 = λ d. AreEdgeRows load d (get_or tables (place dep) t).items in
-      subst P at.there (are.each (place dep) t at.below)
-
-  kind_names : (dep : DepKind) (t : Vec (Vec ℕ Global) Global) (i : ℕ) → get_or (lists_from load tables i) (place dep) [] ≡ map (name_at load) (row (get_or tables (place dep) t).items i)
-  kind_names dep t i =
-      get_mapped (λ (v : Vec (Vec ℕ Global) Global). map (name_at load) (row v.items i)) tables (place dep) t [] (omega (arith, (stands_at dep).below, are.all))
+      get_mapped (λ (d : DepKind). map (name_at load) (row (rows_at tables d) i)) kinds (place dep) Before [] at.below
+      ∙ ap (λ (d : DepKind). map (name_at load) (row (rows_at tables d) i)) at.there
 
   list_there : (k : ℕ) (d : Name × List (List Name)) → k < length edges → AreListsFrom load (name_at load k) (get_or edges k d).1
   list_there k d l dep =
-      let t = a_table tables are.all in
-      let r = kind_rows dep t in
+      let r = are.each dep in
       let P : List Name → Type 0 = λ ns. AreEdgesFrom load dep (name_at load k) ns in
-      subst P (sym (ap (λ ls. get_or ls (place dep) []) (each k d l) ∙ kind_names dep t k))
-      (edges_of_row load ordered dep (name_at load k) (row (get_or tables (place dep) t).items k) (r.rising k) (r.steps k (omega (arith, l, count))))
+      subst P (sym (ap (λ ls. get_or ls (place dep) []) (each k d l) ∙ kind_names dep k))
+      (edges_of_row load ordered dep (name_at load k) (row (rows_at tables dep) k) (r.rising k) (r.steps k (omega (arith, l, count))))
 
   found_edges : (dep : DepKind) (u : Name) (lists : List (List Name)) → find name_cmp u edges ≡ Some lists → AreEdgesFrom load dep u (get_or lists (place dep) [])
   found_edges dep u lists f =
@@ -181,12 +181,11 @@ module _ (load : LoadMap) (ordered : IsTrue (is_sorted name_cmp load.names)) (ta
   pub all_edges : AreEdges load edges
   all_edges = record { names = keys; in_order = sorted; lists = λ dep u. edges_there dep u (find name_cmp u edges) refl }
 
-  rows_there : (dep : DepKind) (t : Vec (Vec ℕ Global) Global) (i : ℕ) → i < length edges
-      → map (listed_name edges) (row (get_or tables (place dep) t).items i) ≡ names_in edges dep (listed_name edges i)
-  rows_there dep t i l =
+  rows_there : (dep : DepKind) (i : ℕ) → i < length edges → map (listed_name edges) (row (rows_at tables dep) i) ≡ names_in edges dep (listed_name edges i)
+  rows_there dep i l =
       let d : Name × List (List Name) = ([], []) in
-      ap (λ ks. map (λ n. get_or ks n []) (row (get_or tables (place dep) t).items i)) keys
-      ∙ sym (kind_names dep t i) ∙ ap (λ ls. get_or ls (place dep) []) (sym (each i d l))
+      ap (λ ks. map (λ n. get_or ks n []) (row (rows_at tables dep) i)) keys
+      ∙ sym (kind_names dep i) ∙ ap (λ ls. get_or ls (place dep) []) (sym (each i d l))
       ∙ ap (list_at dep) (sym (find_place name_cmp nat_list_cmp_total edges i [] d sorted l))
 
   -- and the rows are the lists, by numbers
@@ -195,16 +194,8 @@ module _ (load : LoadMap) (ordered : IsTrue (is_sorted name_cmp load.names)) (ta
     sorted = sorted;
     rows = record {
       all = are.all;
-      each = λ dep t. (let r = kind_rows dep t in
-          let P : ℕ → Type 0 = λ n. AreRowsOf n (get_or tables (place dep) t).items in
-          record { within = subst P (sym count) r.within; rising = r.rising; exact = rows_there dep t });
+      each = λ dep. (let r = are.each dep in
+          let P : ℕ → Type 0 = λ n. AreRowsOf n (rows_at tables dep) in
+          record { within = subst P (sym count) r.within; rising = r.rising; exact = rows_there dep });
     };
   }
-
--- the rows of a kind, as indexing reads them
-pub rows_by_kind : (edges : EdgeMap) (tables : List (Vec (Vec ℕ Global) Global)) (dep : DepKind) (t : Vec (Vec ℕ Global) Global) (rows : List (Vec ℕ Global)) → AreRowsByKinds edges tables
-    → t ≡ get_or tables (tag_of kinds_of.the_type dep) t → rows ≡ t.items → AreRowsBy edges dep rows
-rows_by_kind edges tables dep t rows a g f =
-    let Q : Vec (Vec ℕ Global) Global → Type 0 = λ v. AreRowsBy edges dep v.items in
-    let R : List (Vec ℕ Global) → Type 0 = λ rs. AreRowsBy edges dep rs in
-    subst R (sym f) (subst Q (ap (λ i. get_or tables i t) (sym (tag_is dep)) ∙ sym g) (a.each dep t))

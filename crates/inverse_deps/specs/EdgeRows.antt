@@ -23,7 +23,11 @@ pub record AreRowsBy (edges : EdgeMap) (dep : DepKind) (rows : List (Vec ℕ Glo
   pub rising : (u : ℕ) → IsStrictlySortedBy nat_cmp (row rows u)
   pub exact : (i : ℕ) → i < length edges → map (listed_name edges) (row rows i) ≡ names_in edges dep (listed_name edges i)
 
--- such rows for each kind, in the order of the kinds
-pub record AreRowsByKinds (edges : EdgeMap) (tables : List (Vec (Vec ℕ Global) Global)) : Type 0 where
+-- the rows of a kind among rows for each kind, in the order of the kinds
+abbrev pub rows_at : List (List (Vec ℕ Global)) → DepKind → List (Vec ℕ Global)
+rows_at tables dep = slice_index_or tables (place dep) []
+
+-- such rows for each kind
+pub record AreRowsByKinds (edges : EdgeMap) (tables : List (List (Vec ℕ Global))) : Type 0 where
   pub all : length tables ≡ length kinds
-  pub each : (dep : DepKind) (d : Vec (Vec ℕ Global) Global) → AreRowsBy edges dep (slice_index_or tables (place dep) d).items
+  pub each : (dep : DepKind) → AreRowsBy edges dep (rows_at tables dep)

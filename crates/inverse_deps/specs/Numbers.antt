@@ -1,10 +1,9 @@
 -- The names of a load, numbered in byte order from 0.
 -- Source: this project's own.
-use Rattle.std.specs.Prelude.{◌≡◌, ◌<◌, ℕ, length, []}
-use Rattle.std.specs.List.{slice_index_or}
-use Rattle.std.specs.Map.{keys_of}
+use Rattle.std.specs.Prelude.{◌≡◌, ◌<◌, ℕ, length}
 use Rattle.unit_name.specs.Names.{Name}
 use Rattle.parallel_load.specs.Loads.{LoadMap}
+use Rattle.parallel_load.specs.Numbers.{name_of}
 use Rattle.inverse_deps.specs.Edges.{IsUnitIn}
 
 -- how many names there are
@@ -13,7 +12,7 @@ count_of load = length load.names
 
 -- the name that has this number
 abbrev pub name_at : LoadMap → ℕ → Name
-name_at load number = slice_index_or (keys_of load.names) number []
+name_at load number = name_of load.names number
 
 -- this is the number of a unit
 pub record IsNumberOf (load : LoadMap) (name : Name) (number : ℕ) : Type 0 where

@@ -2,11 +2,12 @@
 ghost use Rattle.std.specs.Prelude.{◌≡◌, ◌<◌, IfOk};
 ghost use Rattle.inverse_deps.specs.Edges.{AreEdges};
 ghost use Rattle.inverse_deps.specs.Numbers.{count_of};
-ghost use Rattle.inverse_deps.specs.Tables.{AreTables, lists_from};
+ghost use Rattle.inverse_deps.specs.Tables.{AreKept, AreTables, lists_from};
 
+use crate::kind_rows::KindRows;
 use crate::lists::Edges;
 use crate::numbers::names_of;
-use crate::steps::dependency_tables;
+use crate::steps::dependency_rows;
 use index_rows::{joined, row, turned};
 use parallel_load::Loaded;
 use plain_values::Items;
@@ -19,43 +20,58 @@ use unit_name::UnitName;
 pub fn edges(alloc: Global, loaded: &Loaded) -> Result<Edges, AllocError>
     ensures edges { IfOk result (AreEdges loaded.now) }
 {
-    let tables = tables(alloc, loaded)?;
-    let names = loaded.names();
-    let mut units = Vec::with_capacity(alloc, names.len())?;
-    'names: for number in 0..names.len() {
-        let name = names[number].0.try_clone()?;
-        units.push((name, lists_at(alloc, loaded, &tables, number)?))?;
-    }
-    Ok(Edges::new(units, tables))
+    let rows = edge_rows(alloc, loaded)?;
+    let units = unit_lists(alloc, loaded, &rows)?;
+    Ok(Edges::new(units, rows))
 }
 
-// For each kind, in order, the rows of its edges: what units name by it, and what names them by its inverse.
-fn tables(alloc: Global, loaded: &Loaded) -> Result<Vec<Vec<Vec<usize>>>, AllocError>
-    ensures tables { IfOk result (λ tables. AreTables loaded.now tables.items) }
+// For each name the edges from it, kind by kind, by names.
+fn unit_lists(
+    alloc: Global,
+    loaded: &Loaded,
+    rows: &KindRows,
+) -> Result<Vec<(UnitName, Items<Items<UnitName>>)>, AllocError>
+    requires rows { AreTables loaded.now rows.now }
+    ensures edges { IfOk result (λ units. AreEdges loaded.now units.items) }
+    ensures kept { IfOk result (λ units. AreKept units.items rows.now) }
 {
-    let named = dependency_tables(alloc, loaded)?;
-    let mut tables = Vec::new(alloc);
-    'kinds: for kind in DepKind::all() {
-        let naming = turned(alloc, &named[kind.inverse() as usize])?;
-        tables.push(joined(alloc, &named[*kind as usize], &naming)?)?;
+    let names = loaded.names();
+    let mut units = Vec::with_capacity(alloc, names.len())?;
+    for (number, (name, _)) in names.iter().enumerate() {
+        let name = name.try_clone()?;
+        units.push((name, lists_at(alloc, loaded, rows, number)?))?;
     }
-    Ok(tables)
+    Ok(units)
+}
+
+// For each kind the rows of its edges: what units name by it, and what names them by its inverse.
+fn edge_rows(alloc: Global, loaded: &Loaded) -> Result<KindRows, AllocError>
+    ensures rows { IfOk result (AreTables loaded.now) }
+{
+    let named = dependency_rows(alloc, loaded)?;
+    let mut rows = KindRows::new(alloc);
+    for kind in DepKind::all() {
+        let naming = turned(alloc, named.of(kind.inverse()))?;
+        rows.push(joined(alloc, named.of(*kind), &naming)?)?;
+    }
+    Ok(rows)
 }
 
 // The edges from a unit, kind by kind, by names: numbers that rise have names that do.
 fn lists_at(
     alloc: Global,
     loaded: &Loaded,
-    tables: &[Vec<Vec<usize>>],
+    rows: &KindRows,
     number: usize,
 ) -> Result<Items<Items<UnitName>>, AllocError>
-    requires tables { AreTables loaded.now tables.now }
+    requires rows { AreTables loaded.now rows.now }
     requires number { number < count_of loaded.now }
-    ensures lists { IfOk result (λ lists. lists ≡ lists_from loaded.now tables.now number) }
+    ensures lists { IfOk result (λ lists. lists ≡ lists_from loaded.now rows.now number) }
 {
-    let mut lists = Vec::with_capacity(alloc, tables.len())?;
-    'tables: for table in tables {
-        let names = names_of(alloc, loaded, row(table, number))?;
+    let kinds = DepKind::all();
+    let mut lists = Vec::with_capacity(alloc, kinds.len())?;
+    for kind in kinds {
+        let names = names_of(alloc, loaded, row(rows.of(*kind), number))?;
         lists.push(Items::from_vec(names))?;
     }
     Ok(Items::from_vec(lists))

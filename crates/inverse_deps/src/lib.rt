@@ -7,6 +7,7 @@
 #![tactic(auto)]
 
 mod building;
+mod kind_rows;
 mod laws;
 mod lists;
 mod numbers;
@@ -15,4 +16,4 @@ mod steps;
 pub use building::edges;
 pub use laws::edge_laws;
 pub use lists::Edges;
-pub use numbers::{names_of, number_of, numbers_of};
+pub use numbers::{names_of, number_of};

@@ -4,6 +4,7 @@ ghost use Rattle.inverse_deps.specs.EdgeRows.{AreRowsBy};
 ghost use Rattle.inverse_deps.specs.Edges.{list_at, names_in};
 ghost use Rattle.inverse_deps.specs.Tables.{AreKept};
 
+use crate::kind_rows::KindRows;
 use plain_values::Items;
 use setting_rules::DepKind;
 use sorted_pairs::seek;
@@ -14,8 +15,8 @@ use unit_name::UnitName;
 #[derive(Debug, Drop)]
 pub struct Edges {
     units: Vec<(UnitName, Items<Items<UnitName>>)>,
-    // The same by numbers, for each kind in order.
-    tables: Vec<Vec<Vec<usize>>>,
+    // The same by numbers.
+    rows: KindRows,
 }
 
 impl Model for Edges {
@@ -26,19 +27,16 @@ impl Model for Edges {
 
     ghost view = { λ e. e.units.items };
 
-    ghost invariant = { λ e. AreKept e.units.items e.tables.items };
+    ghost invariant = { λ e. AreKept e.units.items e.rows };
 }
 
 impl Edges {
     // These lists, whose names are in byte order, and the same by numbers.
-    pub(crate) fn new(
-        units: Vec<(UnitName, Items<Items<UnitName>>)>,
-        tables: Vec<Vec<Vec<usize>>>,
-    ) -> Edges
-        requires kept { AreKept units.items tables.items }
+    pub(crate) fn new(units: Vec<(UnitName, Items<Items<UnitName>>)>, rows: KindRows) -> Edges
+        requires kept { AreKept units.items rows }
         ensures edges { result ≡ units.items }
     {
-        Edges { units, tables }
+        Edges { units, rows }
     }
 
     /// The units to which edges of a kind lead from a unit, by its main name, in byte order. Empty for a name that is of
@@ -57,7 +55,7 @@ impl Edges {
     pub fn rows(&self, kind: DepKind) -> &[Vec<usize>]
         ensures rows { AreRowsBy self.now kind result.now }
     {
-        &self.tables[kind as usize]
+        self.rows.of(kind)
     }
 }
 

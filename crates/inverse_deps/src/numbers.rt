@@ -1,9 +1,6 @@
 //! Numbers of names: the places of a load's names in byte order.
 ghost use Rattle.std.specs.Prelude.{◌≡◌, ◌<◌, IfOk, MatchOption, map};
 ghost use Rattle.std.specs.List.{All};
-ghost use Rattle.list_laws.specs.Members.{IsAmong};
-ghost use Rattle.name_closure.specs.ListedLaws.{Listed};
-ghost use Rattle.index_rows.specs.Numbering.{AreNames};
 ghost use Rattle.inverse_deps.specs.Edges.{IsUnitIn};
 ghost use Rattle.inverse_deps.specs.Numbers.{IsNumberOf, count_of, name_at};
 
@@ -27,24 +24,6 @@ pub fn number_of(loaded: &Loaded, name: &UnitName) -> Option<usize>
     }
 }
 
-/// The numbers of the units among names. O(k log n) for k names.
-pub fn numbers_of(
-    alloc: Global,
-    loaded: &Loaded,
-    names: &[UnitName],
-) -> Result<Vec<usize>, AllocError>
-    ensures numbers { IfOk result (λ numbers. AreNames (count_of loaded.now) (name_at loaded.now) (Listed numbers.items)
-        (λ v. IsAmong v names.now × IsUnitIn loaded.now v)) }
-{
-    let mut numbers = Vec::new(alloc);
-    'names: for name in names {
-        if let Some(number) = number_of(loaded, name) {
-            numbers.push(number)?;
-        }
-    }
-    Ok(numbers)
-}
-
 /// The names of numbers. Linear in them. It fails for want of memory alone.
 pub fn names_of(
     alloc: Global,
@@ -56,7 +35,7 @@ pub fn names_of(
 {
     let names = loaded.names();
     let mut named = Vec::with_capacity(alloc, numbers.len())?;
-    'numbers: for number in numbers {
+    for number in numbers {
         named.push(names[*number].0.try_clone()?)?;
     }
     Ok(named)

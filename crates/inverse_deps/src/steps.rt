@@ -1,74 +1,54 @@
 //! Steps between the units of a load, by rows of numbers.
-ghost use Rattle.std.specs.Prelude.{◌≡◌, Some, IfOk, IsTrue};
+ghost use Rattle.std.specs.Prelude.{◌≡◌, IfOk, IsTrue};
 ghost use Rattle.std.specs.FinMap.{is_sorted};
-ghost use Rattle.list_laws.specs.Members.{IsAmong};
-ghost use Rattle.name_closure.specs.ListedLaws.{Listed, Named};
-ghost use Rattle.index_rows.specs.Numbering.{AreNames, AreNamedSteps};
+ghost use Rattle.name_closure.specs.ListedLaws.{Named};
+ghost use Rattle.index_rows.specs.Numbering.{AreNamedSteps};
 ghost use Rattle.index_rows.specs.Rows.{AreRowsOf, row as row_of};
 ghost use Rattle.unit_name.specs.Names.{name_cmp};
-ghost use Rattle.unit_loads.specs.NamedUnits.{IsListed};
-ghost use Rattle.inverse_deps.specs.Edges.{DependsOn, IsUnitIn};
+ghost use Rattle.inverse_deps.specs.Edges.{DependsOn};
 ghost use Rattle.inverse_deps.specs.Numbers.{count_of, name_at};
-ghost use Rattle.inverse_deps.specs.Tables.{AreNamingTables};
+ghost use Rattle.inverse_deps.specs.Tables.{AreNamingTables, AreNumbersBy};
 
-use crate::numbers::numbers_of;
-use parallel_load::{Loaded, NameLoad};
-use setting_rules::{DepKind, DependencyList};
+use crate::kind_rows::KindRows;
+use parallel_load::{Dependency, Loaded};
+use setting_rules::DepKind;
 use std::alloc::{AllocError, Global};
 
-// The units that lists of dependencies have for a kind.
-fn listed_numbers(
-    alloc: Global,
-    loaded: &Loaded,
-    lists: &[DependencyList],
-    kind: DepKind,
-) -> Result<Vec<usize>, AllocError>
-    ensures numbers { IfOk result (λ numbers. AreNames (count_of loaded.now) (name_at loaded.now) (Listed numbers.items)
-        (λ v. IsListed lists.now kind v × IsUnitIn loaded.now v)) }
+// The numbers of the dependencies of a kind.
+fn numbers_by(alloc: Global, deps: &[Dependency], kind: DepKind) -> Result<Vec<usize>, AllocError>
+    ensures numbers { IfOk result (λ numbers. AreNumbersBy deps.now kind numbers.items) }
 {
     let mut numbers = Vec::new(alloc);
-    'lists: for list in lists {
-        if list.kind == kind {
-            let more = numbers_of(alloc, loaded, list.names.as_slice())?;
-            numbers.extend_from_slice(&more)?;
+    for dep in deps {
+        if dep.kind == kind {
+            numbers.push(dep.number)?;
         }
     }
     Ok(numbers)
 }
 
 // From each unit to those that it has as dependencies of a kind.
-fn dependency_rows(
-    alloc: Global,
-    loaded: &Loaded,
-    kind: DepKind,
-) -> Result<Vec<Vec<usize>>, AllocError>
+fn rows_by(alloc: Global, loaded: &Loaded, kind: DepKind) -> Result<Vec<Vec<usize>>, AllocError>
     ensures steps { IfOk result (λ rows. AreNamedSteps (count_of loaded.now) (name_at loaded.now)
         (Named (row_of rows.items)) (DependsOn loaded.now kind)) }
     ensures rows { IfOk result (λ rows. AreRowsOf (count_of loaded.now) rows.items) }
     ensures sorted { IsTrue (is_sorted name_cmp loaded.now.names) }
 {
-    let names = loaded.names();
-    let mut rows = Vec::with_capacity(alloc, names.len())?;
-    'names: for number in 0..names.len() {
-        rows.push(match &names[number].1 {
-            NameLoad::Unit(unit) => listed_numbers(alloc, loaded, unit.deps.as_slice(), kind)?,
-            NameLoad::Alias(_) => Vec::new(alloc),
-        })?;
+    let mut rows = Vec::with_capacity(alloc, loaded.names().len())?;
+    for deps in loaded.dependencies() {
+        rows.push(numbers_by(alloc, deps.as_slice(), kind)?)?;
     }
     Ok(rows)
 }
 
-/// For each kind, in order, from each unit to those that it has as dependencies of the kind. O(n) and the dependencies,
-/// beside the logarithm of n: each dependency is sought once among the names.
-pub(crate) fn dependency_tables(
-    alloc: Global,
-    loaded: &Loaded,
-) -> Result<Vec<Vec<Vec<usize>>>, AllocError>
-    ensures tables { IfOk result (λ tables. AreNamingTables loaded.now tables.items) }
+/// For each kind, from each unit to those that it has as dependencies of the kind. O(n) and the dependencies, as the load
+/// has their numbers.
+pub(crate) fn dependency_rows(alloc: Global, loaded: &Loaded) -> Result<KindRows, AllocError>
+    ensures rows { IfOk result (AreNamingTables loaded.now) }
 {
-    let mut tables = Vec::new(alloc);
-    'kinds: for kind in DepKind::all() {
-        tables.push(dependency_rows(alloc, loaded, *kind)?)?;
+    let mut rows = KindRows::new(alloc);
+    for kind in DepKind::all() {
+        rows.push(rows_by(alloc, loaded, *kind)?)?;
     }
-    Ok(tables)
+    Ok(rows)
 }

@@ -1,9 +1,9 @@
 -- What a refusal of a closure tells.
 -- Source: this project's own.
-use Rattle.name_closure.specs.declared.loads.CloseFault.{CloseFault}
-use Rattle.name_closure.specs.declared.loads.CloseFault.TheVariants.{TooMany, Memory}
+use Rattle.name_closure.specs.declared.loads.ClosureFault.{ClosureFault}
+use Rattle.name_closure.specs.declared.loads.ClosureFault.TheVariants.{TooMany, Memory}
 
 -- where the refusal is that there are too many, the fact holds
-abbrev pub OnTooMany : CloseFault → Type 0 → Type 0
+abbrev pub OnTooMany : ClosureFault → Type 0 → Type 0
 OnTooMany TooMany P = P
 OnTooMany Memory P = Unit {0}

@@ -7,7 +7,7 @@ ghost use Rattle.name_closure.specs.Faults.{OnTooMany};
 ghost use Rattle.name_closure.specs.ListedLaws.{Listed};
 ghost use Rattle.name_closure.specs.Loading.{LeadsByLoad, AreLoaded, IsRound};
 
-use crate::loads::{CloseFault, Loads, Round};
+use crate::loads::{ClosureFault, Loads, Round};
 use crate::names::load_round;
 use crate::rounds::{add_loaded, copy_of, new_of};
 use plain_values::Key;
@@ -28,7 +28,7 @@ pub fn close_loaded<K: Key, L: Loads<K>>(
     loader: &L,
     sources: &[K],
     limit: usize,
-) -> Result<BTreeMap<K, L::Loaded>, CloseFault>
+) -> Result<BTreeMap<K, L::Loaded>, ClosureFault>
     requires sources { All (L.is_node loader.now) sources.now }
     ensures closure { IfOk result (λ found. IsClosure (Listed sources.now)
         (LeadsByLoad (L.is_loaded loader.now) (L.named loader.now)) K.cmp (keys found)) }
@@ -62,7 +62,7 @@ pub fn close_by_rounds<
     sources: &[K],
     limit: usize,
     load_round: F,
-) -> Result<BTreeMap<K, L::Loaded>, CloseFault>
+) -> Result<BTreeMap<K, L::Loaded>, ClosureFault>
     requires sources { All (L.is_node loader.now) sources.now }
     requires ready { (fresh : _) → IsStrictlySortedBy K.cmp fresh.items → All (L.is_node loader.now) fresh.items
         → F.pre load_round fresh }
@@ -82,9 +82,9 @@ pub fn close_by_rounds<
     let sources = copy_of(alloc, sources)?;
     let mut found = BTreeMap::new(alloc);
     let mut fresh = new_of(&found, sources);
-    'rounds: while !fresh.is_empty() {
+    while !fresh.is_empty() {
         if fresh.len() > limit - found.len() {
-            return Err(CloseFault::TooMany);
+            return Err(ClosureFault::TooMany);
         }
         let Round { pairs, names } = load_round(fresh)?;
         add_loaded(alloc, loader, &mut found, pairs)?;

@@ -21,5 +21,5 @@ pub use laws::{
     NodeSet, StepSet, closures_of_same_steps, distances_by_lists, distances_of_nodes,
     least_closed_sets, lists_of_closures, one_load, sources_of_closures,
 };
-pub use loads::{CloseFault, Loads, Round, load_each};
+pub use loads::{ClosureFault, Loads, Round, load_each};
 pub use names::names_of;

@@ -8,7 +8,7 @@ use thiserror::Error;
 
 /// Why there is no closure.
 #[derive(Clone, Copy, Debug, PartialEq, Eq, Error)]
-pub enum CloseFault {
+pub enum ClosureFault {
     /// More is reached than the limit.
     #[error("more is reached than the limit")]
     TooMany,
@@ -16,14 +16,14 @@ pub enum CloseFault {
     Memory,
 }
 
-impl From<AllocError> for CloseFault {
+impl From<AllocError> for ClosureFault {
     ghost use Rattle.std.specs.Prelude.{◌≡◌};
-    ghost use Rattle.name_closure.specs.declared.loads.CloseFault.TheVariants.{Memory};
+    ghost use Rattle.name_closure.specs.declared.loads.ClosureFault.TheVariants.{Memory};
 
     ghost from_gives = { λ _ fault. fault ≡ Memory };
 
-    fn from(_fault: AllocError) -> CloseFault {
-        CloseFault::Memory
+    fn from(_fault: AllocError) -> ClosureFault {
+        ClosureFault::Memory
     }
 }
 

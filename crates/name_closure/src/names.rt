@@ -77,7 +77,7 @@ fn is_own<K: Key, U>(pairs: &[(K, U)], node: &K) -> bool
 }
 
 // The nodes, each once, in order. In place, without memory; O(m log m) for m nodes.
-pub fn each_once<K: Key>(nodes: Vec<K>) -> Vec<K>
+pub(crate) fn each_once<K: Key>(nodes: Vec<K>) -> Vec<K>
     ensures rising { IsStrictlySortedBy K.cmp result.items }
     ensures members { (n : K) → IsAmong n result.items ↔ IsAmong n nodes.items }
 {

@@ -14,7 +14,7 @@ use std::alloc::{AllocError, Global};
 use std::collections::BTreeMap;
 
 // An equal list.
-pub fn copy_of<K: Key>(alloc: Global, nodes: &[K]) -> Result<Vec<K>, AllocError>
+pub(crate) fn copy_of<K: Key>(alloc: Global, nodes: &[K]) -> Result<Vec<K>, AllocError>
     ensures copy { IfOk result (λ copy. copy.items ≡ nodes.now) }
 {
     let mut copy = Vec::new(alloc);
@@ -26,7 +26,7 @@ pub fn copy_of<K: Key>(alloc: Global, nodes: &[K]) -> Result<Vec<K>, AllocError>
 
 // The nodes that aren't found yet, each once, in order. In place, without memory; a search for each
 // node, and O(m log m) for m that aren't found.
-pub fn new_of<K: Key, U>(found: &BTreeMap<K, U>, nodes: Vec<K>) -> Vec<K>
+pub(crate) fn new_of<K: Key, U>(found: &BTreeMap<K, U>, nodes: Vec<K>) -> Vec<K>
     ensures fresh { AreNew K.cmp (keys found.now) nodes.items result.items }
 {
     let mut fresh = nodes;
@@ -36,7 +36,7 @@ pub fn new_of<K: Key, U>(found: &BTreeMap<K, U>, nodes: Vec<K>) -> Vec<K>
 
 // Adds what was loaded for nodes to what is found. O(m + n) for m nodes that rise and n that are found where m is over a quarter
 // of n, and else O(m log n).
-pub fn add_loaded<K: Key, L: Loads<K>>(
+pub(crate) fn add_loaded<K: Key, L: Loads<K>>(
     alloc: Global,
     loader: &L,
     found: &mut BTreeMap<K, L::Loaded>,

@@ -1,5 +1,6 @@
 mod Closing
+mod Numbering
+mod Pieces
 mod Rows
 mod Settling
 mod Steps
-mod Pieces

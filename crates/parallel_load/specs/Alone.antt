@@ -8,7 +8,7 @@ use Rattle.setting_rules.specs.declared.dependency_lists.DependencyList.{Depende
 use Rattle.unit_loads.specs.Units.{IsUnit}
 use Rattle.parallel_load.specs.declared.loaded.NameLoad.{NameLoad}
 use Rattle.parallel_load.specs.declared.loaded.NameLoad.TheVariants.{Unit as OfUnit, Alias as OfAlias}
-use Rattle.parallel_load.specs.Loads.{IsAliasOf, by_mains}
+use Rattle.parallel_load.specs.Loads.{IsAliasOf}
 
 -- a unit as it is loaded alone, or what a name is an alias of
 abbrev pub IsLoadAlone : EntryMap → Name → NameLoad → Type 0
@@ -23,8 +23,3 @@ names_in_lists lists = flat_map (λ list. list.names) lists
 abbrev pub named_in : NameLoad → List Name
 named_in (OfUnit unit) = names_in_lists unit.deps
 named_in (OfAlias of) = of ∷ []
-
--- what is loaded, with dependencies by main names
-abbrev pub with_mains : (Name → Name) → NameLoad → NameLoad
-with_mains main_of (OfUnit unit) = OfUnit (by_mains main_of unit)
-with_mains main_of (OfAlias of) = OfAlias of

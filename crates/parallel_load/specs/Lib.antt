@@ -1,8 +1,10 @@
 pub mod Alone
 pub mod AloneLaws
+pub mod Indexes
+pub mod KeyLaws
 pub mod LoadLaws
 pub mod Loads
-pub mod Mains
+pub mod Numbers
 pub mod PairLaws
 pub mod Refusals
 pub mod Settled

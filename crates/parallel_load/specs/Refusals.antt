@@ -1,14 +1,14 @@
 -- What a refusal of a load tells.
 -- Source: this project's own.
-use Rattle.name_closure.specs.declared.loads.CloseFault.{CloseFault}
-use Rattle.name_closure.specs.declared.loads.CloseFault.TheVariants as one_thread
-use Rattle.worker_rounds.specs.declared.faults.LoadFault.{LoadFault as WorkersFault}
-use Rattle.worker_rounds.specs.declared.faults.LoadFault.TheVariants as workers
+use Rattle.name_closure.specs.declared.loads.ClosureFault.{ClosureFault}
+use Rattle.name_closure.specs.declared.loads.ClosureFault.TheVariants as one_thread
+use Rattle.worker_rounds.specs.declared.faults.RoundFault.{RoundFault as WorkersFault}
+use Rattle.worker_rounds.specs.declared.faults.RoundFault.TheVariants as workers
 use Rattle.parallel_load.specs.declared.faults.LoadFault.{LoadFault}
 use Rattle.parallel_load.specs.declared.faults.LoadFault.TheVariants.{Workers, TooManyUnits, Memory}
 
 -- a refusal of a closure by one thread, as one of a load
-abbrev pub refusal_of : CloseFault → LoadFault
+abbrev pub refusal_of : ClosureFault → LoadFault
 refusal_of one_thread.TooMany = TooManyUnits
 refusal_of one_thread.Memory = Memory
 

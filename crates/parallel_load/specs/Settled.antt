@@ -1,16 +1,109 @@
--- A load made of what was found: words for private clauses.
+-- A load made of what was found, by the numbers of main names: words for private clauses.
 -- Source: this project's own.
-use Rattle.std.specs.Prelude.{List, map}
-use Rattle.std.specs.List.{filter_map}
-use Rattle.unit_name.specs.Names.{Name}
+use Rattle.std.specs.Prelude.{◌≡◌, ◌<◌, ℕ, if◌then◌else◌, Option, Some, None, List, [], ◌∷◌, length, map}
+use Rattle.std.specs.FinMap.{find}
+use Rattle.std.specs.List.{filter_map, flat_map}
+use Rattle.std.specs.Map.{keys_of}
+use Rattle.std.specs.Option.{option_and_then}
+use Rattle.list_laws.specs.Members.{IsAmong}
+use Rattle.unit_name.specs.Names.{Name, name_cmp}
+use Rattle.setting_rules.specs.declared.dependency_lists.DependencyList.{DependencyList}
+use Rattle.setting_rules.specs.declared.kinds.DepKind.{DepKind}
+use Rattle.setting_rules.specs.Dependencies.{in_byte_order}
+use Rattle.fragment_choice.specs.Choices.{is_same}
+use Rattle.unit_loads.specs.declared.units.Unit.{Unit as LoadedUnit}
+use Rattle.parallel_load.specs.declared.loaded.Dependency.{Dependency}
 use Rattle.parallel_load.specs.declared.loaded.NameLoad.{NameLoad}
-use Rattle.parallel_load.specs.Alone.{with_mains}
-use Rattle.parallel_load.specs.Mains.{alias_pair, main_by}
+use Rattle.parallel_load.specs.declared.loaded.NameLoad.TheVariants.{Unit as OfUnit, Alias as OfAlias}
+use Rattle.parallel_load.specs.declared.mains.Settled.{Settled}
+use Rattle.parallel_load.specs.Alone.{named_in}
+use Rattle.parallel_load.specs.Indexes.{key_at}
+use Rattle.parallel_load.specs.Numbers.{name_of}
 
--- names with what they stand for, dependencies by the main names that these aliases give
-abbrev pub settled_by : List (Name × Name) → List (Name × NameLoad) → List (Name × NameLoad)
-settled_by aliases names = map (λ p. (p.0, with_mains (main_by aliases) p.1)) names
+-- ---- dependencies by the numbers of main names
 
--- each name with what it stands for, dependencies by the main names that are found
-abbrev pub settled_names : List (Name × NameLoad) → List (Name × NameLoad)
-settled_names found = settled_by (filter_map alias_pair found) found
+-- a number, unless a unit of this name has it
+abbrev pub unless_unit : List (Name × ℕ) → Name → ℕ → Option ℕ
+unless_unit mains unit number = if is_same (key_at mains number) unit then None else Some number
+
+-- the number of a name's main name, unless that is the unit
+abbrev pub other_number : List (Name × ℕ) → Name → Name → Option ℕ
+other_number mains unit name = option_and_then (unless_unit mains unit) (find name_cmp name mains)
+
+-- the numbers of the main names of names, but for the unit's
+abbrev pub other_numbers : List (Name × ℕ) → Name → List Name → List ℕ
+other_numbers mains unit names = filter_map (other_number mains unit) names
+
+-- and these main names
+abbrev pub other_mains : List (Name × ℕ) → Name → List Name → List Name
+other_mains mains unit names = map (key_at mains) (other_numbers mains unit names)
+
+abbrev pub dependency_of : DepKind → ℕ → Dependency
+dependency_of dep number = record { kind = dep; number = number }
+
+-- a list of a unit's dependencies by numbers
+abbrev pub list_numbers : List (Name × ℕ) → Name → DependencyList → List Dependency
+list_numbers mains unit list = map (dependency_of list.kind) (other_numbers mains unit list.names)
+
+-- and by main names
+abbrev pub list_settled : List (Name × ℕ) → Name → DependencyList → DependencyList
+list_settled mains unit list = record { kind = list.kind; names = in_byte_order (other_mains mains unit list.names) }
+
+-- ---- what names stand for
+
+abbrev pub unit_settled : List (Name × ℕ) → LoadedUnit → LoadedUnit
+unit_settled mains unit = record unit { deps = map (list_settled mains unit.name) unit.deps }
+
+-- what was found, with dependencies by main names
+abbrev pub load_settled : List (Name × ℕ) → NameLoad → NameLoad
+load_settled mains (OfUnit unit) = OfUnit (unit_settled mains unit)
+load_settled mains (OfAlias of) = OfAlias of
+
+-- its dependencies by numbers
+abbrev pub load_numbers : List (Name × ℕ) → NameLoad → List Dependency
+load_numbers mains (OfUnit unit) = flat_map (list_numbers mains unit.name) unit.deps
+load_numbers mains (OfAlias of) = []
+
+-- a name with both
+abbrev pub settled_name : List (Name × ℕ) → Name × NameLoad → Settled
+settled_name mains p = record { name = p.0; load = load_settled mains p.1; deps = load_numbers mains p.1 }
+
+-- names with what they stand for
+abbrev pub name_loads : List Settled → List (Name × NameLoad)
+name_loads all = map (λ one. (one.name, one.load)) all
+
+-- their dependencies by numbers
+abbrev pub name_numbers : List Settled → List (List Dependency)
+name_numbers all = map (λ one. one.deps) all
+
+-- ---- the numbers of main names
+
+-- the main name of a name that was found
+abbrev pub main_name : Name × NameLoad → Name
+main_name (name, OfUnit unit) = name
+main_name (name, OfAlias of) = of
+
+-- this is the number of a name's main name, if that was found
+pub record IsMainNumber (found : List (Name × NameLoad)) (p : Name × NameLoad) (number : ℕ) : Type 0 where
+  pub below : number < length found
+  pub named : IsAmong (main_name p) (keys_of found) → name_of found number ≡ main_name p
+
+-- these are names that were found, each with the number of its main name
+abbrev pub AreNumbered : List (Name × NameLoad) → List (Name × NameLoad) → List (Name × ℕ) → Type 0
+AreNumbered found [] [] = Unit {0}
+AreNumbered found [] (m ∷ ms) = ⊥
+AreNumbered found (p ∷ ps) [] = ⊥
+AreNumbered found (p ∷ ps) (m ∷ ms) = (m.0 ≡ p.0) × IsMainNumber found p m.1 × AreNumbered found ps ms
+
+-- ---- the load
+
+-- what was found: with each name all that it leads to, and for an alias the unit
+pub record IsWhole (found : List (Name × NameLoad)) : Type 0 where
+  pub named : (p : Name × NameLoad) (name : Name) → IsAmong p found → IsAmong name (named_in p.1) → (one : NameLoad) × IsAmong {X = Name × NameLoad} (name, one) found
+  pub mains : (name of : Name) → IsAmong {X = Name × NameLoad} (name, OfAlias of) found → (unit : LoadedUnit) × IsAmong {X = Name × NameLoad} (of, OfUnit unit) found
+
+-- these are the names that were found with what they stand for, dependencies by main names
+pub record AreSettled (found names : List (Name × NameLoad)) : Type 0 where
+  pub mains : List (Name × ℕ)
+  pub numbered : AreNumbered found found mains
+  pub names_are : names ≡ name_loads (map (settled_name mains) found)

@@ -1,7 +1,7 @@
 //! Why there is no load.
 ghost use Rattle.std.specs.Prelude.{◌≡◌};
 
-use name_closure::CloseFault;
+use name_closure::ClosureFault;
 use std::alloc::AllocError;
 use thiserror::Error;
 
@@ -29,29 +29,29 @@ impl From<AllocError> for LoadFault {
     }
 }
 
-impl From<CloseFault> for LoadFault {
+impl From<ClosureFault> for LoadFault {
     ghost use Rattle.parallel_load.specs.Refusals.{refusal_of};
 
     ghost from_gives = { λ fault refusal. refusal ≡ refusal_of fault };
 
-    fn from(fault: CloseFault) -> LoadFault {
+    fn from(fault: ClosureFault) -> LoadFault {
         match fault {
-            CloseFault::TooMany => LoadFault::TooManyUnits,
-            CloseFault::Memory => LoadFault::Memory,
+            ClosureFault::TooMany => LoadFault::TooManyUnits,
+            ClosureFault::Memory => LoadFault::Memory,
         }
     }
 }
 
-impl From<worker_rounds::LoadFault> for LoadFault {
+impl From<worker_rounds::RoundFault> for LoadFault {
     ghost use Rattle.parallel_load.specs.Refusals.{refusal_by_workers};
 
     ghost from_gives = { λ fault refusal. refusal ≡ refusal_by_workers fault };
 
-    fn from(fault: worker_rounds::LoadFault) -> LoadFault {
+    fn from(fault: worker_rounds::RoundFault) -> LoadFault {
         match fault {
-            worker_rounds::LoadFault::Workers => LoadFault::Workers,
-            worker_rounds::LoadFault::TooMany => LoadFault::TooManyUnits,
-            worker_rounds::LoadFault::Memory => LoadFault::Memory,
+            worker_rounds::RoundFault::Workers => LoadFault::Workers,
+            worker_rounds::RoundFault::TooMany => LoadFault::TooManyUnits,
+            worker_rounds::RoundFault::Memory => LoadFault::Memory,
         }
     }
 }

@@ -1,24 +1,23 @@
-//! A load made of what was found: its names in order, dependencies by main names.
+//! A load made of what was found: its names in order, dependencies by main names and by numbers.
 ghost use Rattle.std.specs.Prelude.{◌≡◌, ◌<◌, ℕ, length, slice_index_or, map, IfOk, IsTrue};
 ghost use Rattle.std.specs.BTreeMap.{keys};
 ghost use Rattle.std.specs.FinMap.{is_sorted};
-ghost use Rattle.std.specs.List.{filter_map};
 ghost use Rattle.std.specs.List.Sorted.{IsStrictlySortedBy};
 ghost use Rattle.unit_name.specs.Names.{name_cmp};
-ghost use Rattle.parallel_load.specs.Mains.{alias_pair};
-ghost use Rattle.parallel_load.specs.Settled.{settled_by, settled_names};
+ghost use Rattle.parallel_load.specs.Numbers.{AreDependencyRows};
+ghost use Rattle.parallel_load.specs.Settled.{AreNumbered, AreSettled, IsWhole, name_loads, name_numbers, settled_name};
 
 use crate::kept::Kept;
-use crate::loaded::{Loaded, NameLoad};
+use crate::loaded::{Dependency, Loaded, NameLoad};
 use crate::loader::add_names;
-use crate::mains::Aliases;
+use crate::mains::{Mains, Settled};
 use plain_values::Items;
 use std::alloc::{AllocError, Global};
 use std::collections::BTreeMap;
 use std::thread;
 use std::thread::Threads;
 use unit_name::UnitName;
-use worker_rounds::{Piece, cut, put_together};
+use worker_rounds::{Share, cut, put_together};
 
 /// The load of what was found, with dependencies by main names. It fails for want of memory alone.
 pub(crate) fn settled(
@@ -27,15 +26,16 @@ pub(crate) fn settled(
     found: BTreeMap<UnitName, Kept>,
 ) -> Result<Loaded, AllocError>
     requires rising { IsStrictlySortedBy name_cmp (keys found) }
+    requires whole { IsWhole found.entries }
     ensures extra { IfOk result (λ load. load.extra ≡ extra.now) }
-    ensures names { IfOk result (λ load. load.names ≡ settled_names found.entries) }
+    ensures names { IfOk result (λ load. AreSettled found.entries load.names) }
 {
-    let Found { pairs, aliases } = found_of(alloc, found)?;
-    let names = aliases.settle_all(alloc, pairs)?;
+    let Found { pairs, mains } = found_of(alloc, found)?;
+    let names = mains.settle_all(alloc, pairs)?;
     load_of(alloc, extra, names)
 }
 
-/// The same, where so many workers put the main names in, each for a piece of the names. It may wait for threads.
+/// The same, where so many workers put the main names in, each for a share of the names. It may wait for threads.
 pub(crate) fn settled_by_workers<R: Threads + Sync>(
     rt: &R,
     alloc: Global,
@@ -45,30 +45,31 @@ pub(crate) fn settled_by_workers<R: Threads + Sync>(
 ) -> Result<Loaded, AllocError>
     requires some { 0 < workers }
     requires rising { IsStrictlySortedBy name_cmp (keys found) }
+    requires whole { IsWhole found.entries }
     ensures extra { IfOk result (λ load. load.extra ≡ extra.now) }
-    ensures names { IfOk result (λ load. load.names ≡ settled_names found.entries) }
+    ensures names { IfOk result (λ load. AreSettled found.entries load.names) }
 {
-    let Found { pairs, aliases } = found_of(alloc, found)?;
-    let names = settle_by_workers(rt, alloc, &aliases, pairs, workers)?;
+    let Found { pairs, mains } = found_of(alloc, found)?;
+    let names = settle_by_workers(rt, alloc, &mains, pairs, workers)?;
     load_of(alloc, extra, names)
 }
 
-// What was found, in order, and the aliases among the names.
+// What was found, in order, and the numbers of main names.
 #[derive(Drop)]
 struct Found {
     pairs: Vec<(UnitName, Kept)>,
-    aliases: Aliases,
+    mains: Mains,
 }
 
 // What was found, in order.
 fn found_of(alloc: Global, found: BTreeMap<UnitName, Kept>) -> Result<Found, AllocError>
     requires rising { IsStrictlySortedBy name_cmp (keys found) }
     ensures pairs { IfOk result (λ all. all.pairs.items ≡ found.entries) }
-    ensures aliases { IfOk result (λ all. all.aliases ≡ filter_map alias_pair found.entries) }
+    ensures mains { IfOk result (λ all. AreNumbered found.entries found.entries all.mains) }
 {
     let pairs = pairs_of(alloc, found)?;
-    let aliases = Aliases::of(alloc, pairs.as_slice())?;
-    Ok(Found { pairs, aliases })
+    let mains = Mains::of(alloc, pairs.as_slice())?;
+    Ok(Found { pairs, mains })
 }
 
 // The entries of a map in the order of their keys.
@@ -85,54 +86,74 @@ fn pairs_of(
     Ok(pairs)
 }
 
-// Names with what they stand for, dependencies by main names, by so many workers.
+// Names with what they stand for, dependencies by main names and by numbers, by so many workers.
 fn settle_by_workers<R: Threads + Sync>(
     rt: &R,
     alloc: Global,
-    aliases: &Aliases,
+    mains: &Mains,
     pairs: Vec<(UnitName, Kept)>,
     workers: usize,
-) -> Result<Vec<(UnitName, NameLoad)>, AllocError>
+) -> Result<Vec<Settled>, AllocError>
     requires some { 0 < workers }
-    ensures names { IfOk result (λ names. names.items ≡ settled_by aliases.now pairs.items) }
+    ensures names { IfOk result (λ names. names.items ≡ map (settled_name mains.now) pairs.items) }
 {
     if workers == 1 {
-        return aliases.settle_all(alloc, pairs);
+        return mains.settle_all(alloc, pairs);
     }
-    let pieces = cut(alloc, pairs, workers)?;
-    let parts = settle_pieces(rt, alloc, aliases, pieces)?;
+    let shares = cut(alloc, pairs, workers)?;
+    let parts = settle_shares(rt, alloc, mains, shares)?;
     put_together(alloc, parts)
 }
 
-// The names of each piece with what they stand for, dependencies by main names, each piece by a worker of its own.
-fn settle_pieces<R: Threads + Sync>(
+// The names of each share with what they stand for, dependencies by main names and by numbers, each share by a worker of its
+// own.
+fn settle_shares<R: Threads + Sync>(
     rt: &R,
     alloc: Global,
-    aliases: &Aliases,
-    pieces: Vec<Piece<(UnitName, Kept)>>,
-) -> Result<Vec<Result<Vec<(UnitName, NameLoad)>, AllocError>>, AllocError>
-    ensures len { IfOk result (λ parts. length parts.items ≡ length pieces.items) }
-    ensures each { IfOk result (λ parts. (i : ℕ) (piece : _) (part : _) → i < length pieces.items
+    mains: &Mains,
+    shares: Vec<Share<(UnitName, Kept)>>,
+) -> Result<Vec<Result<Vec<Settled>, AllocError>>, AllocError>
+    ensures len { IfOk result (λ parts. length parts.items ≡ length shares.items) }
+    ensures each { IfOk result (λ parts. (i : ℕ) (share : _) (part : _) → i < length shares.items
         → IfOk (slice_index_or parts.items i part)
-        (λ names. names.items ≡ settled_by aliases.now (slice_index_or pieces.items i piece).nodes.items)) }
+        (λ names. names.items ≡ map (settled_name mains.now) (slice_index_or shares.items i share).nodes.items)) }
 {
-    let settle = |piece: Piece<(UnitName, Kept)>| -> Result<Vec<(UnitName, NameLoad)>, AllocError>
-        ensures { IfOk result (λ names. names.items ≡ settled_by aliases.entry.now piece.nodes.items) }
-    { aliases.settle_all(alloc, piece.nodes) };
-    thread::map_vec(rt, pieces, &settle)
+    let settle = |share: Share<(UnitName, Kept)>| -> Result<Vec<Settled>, AllocError>
+        ensures { IfOk result (λ names. names.items ≡ map (settled_name mains.entry.now) share.nodes.items) }
+    { mains.settle_all(alloc, share.nodes) };
+    thread::map_vec(rt, shares, &settle)
 }
 
 // The load of these names, which are in byte order.
-fn load_of(
-    alloc: Global,
-    extra: &[UnitName],
-    names: Vec<(UnitName, NameLoad)>,
-) -> Result<Loaded, AllocError>
-    requires sorted { IsTrue (is_sorted name_cmp names.items) }
+fn load_of(alloc: Global, extra: &[UnitName], settled: Vec<Settled>) -> Result<Loaded, AllocError>
+    requires sorted { IsTrue (is_sorted name_cmp (name_loads settled.items)) }
+    requires rows { AreDependencyRows (name_loads settled.items) (name_numbers settled.items) }
     ensures extra { IfOk result (λ load. load.extra ≡ extra.now) }
-    ensures names { IfOk result (λ load. load.names ≡ names.items) }
+    ensures names { IfOk result (λ load. load.names ≡ name_loads settled.items) }
 {
     let mut asked = Vec::new(alloc);
     add_names(&mut asked, extra)?;
-    Ok(Loaded::new(Items::from_vec(asked), names))
+    let Parts { names, deps } = parts_of(alloc, settled)?;
+    Ok(Loaded::new(Items::from_vec(asked), names, deps))
+}
+
+// Names with what they stand for, and beside them their dependencies by numbers.
+#[derive(Drop)]
+struct Parts {
+    names: Vec<(UnitName, NameLoad)>,
+    deps: Vec<Items<Dependency>>,
+}
+
+// The parts of names.
+fn parts_of(alloc: Global, settled: Vec<Settled>) -> Result<Parts, AllocError>
+    ensures names { IfOk result (λ parts. parts.names.items ≡ name_loads settled.items) }
+    ensures deps { IfOk result (λ parts. parts.deps.items ≡ name_numbers settled.items) }
+{
+    let mut names = Vec::with_capacity(alloc, settled.len())?;
+    let mut deps = Vec::with_capacity(alloc, settled.len())?;
+    for one in settled {
+        names.push((one.name, one.load))?;
+        deps.push(one.deps)?;
+    }
+    Ok(Parts { names, deps })
 }

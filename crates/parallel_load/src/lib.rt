@@ -20,7 +20,7 @@ mod sources;
 
 pub use faults::LoadFault;
 pub use laws::{load_laws, one_load};
-pub use loaded::{Loaded, NameLoad};
+pub use loaded::{Dependency, Loaded, NameLoad};
 pub use loads::{MOST_NAMES, load_fleet, load_here};
 pub use unit_loads::{Status, Unit, UnitNote, load_one};
 pub use worker_rounds::{Gate, MOST_WORKERS, TURNS, is_crew};

@@ -4,8 +4,10 @@ ghost use Rattle.std.specs.FinMap.{is_sorted};
 ghost use Rattle.std.specs.Option.{option_copied};
 ghost use Rattle.unit_name.specs.Names.{name_cmp};
 ghost use Rattle.parallel_load.specs.Loads.{load_at, main_in, unit_in, units_in};
+ghost use Rattle.parallel_load.specs.Numbers.{AreDependencyRows};
 
 use plain_values::Items;
+use setting_rules::DepKind;
 use sorted_pairs::seek;
 use std::alloc::{AllocError, Global};
 use std::marker::Model;
@@ -21,18 +23,27 @@ pub enum NameLoad {
     Alias(UnitName),
 }
 
+/// A dependency on a unit by its number: the place of its name among all names of a load, from 0.
+#[derive(Clone, Copy, Debug, PartialEq, Eq)]
+pub struct Dependency {
+    /// The way.
+    pub kind: DepKind,
+    /// The number.
+    pub number: usize,
+}
+
 /// What is loaded from one store: the names that were asked for, and what each name of the universe stands for.
 #[derive(Debug, Drop)]
 pub struct Loaded {
     extra: Items<UnitName>,
     names: Vec<(UnitName, NameLoad)>,
+    // For each name the dependencies of what it stands for.
+    deps: Vec<Items<Dependency>>,
 }
 
 impl Model for Loaded {
-    ghost use Rattle.std.specs.Prelude.{IsTrue};
-    ghost use Rattle.std.specs.FinMap.{is_sorted};
-    ghost use Rattle.unit_name.specs.Names.{name_cmp};
     ghost use Rattle.parallel_load.specs.Loads.{LoadMap, coded_load};
+    ghost use Rattle.parallel_load.specs.Numbers.{IsKept};
 
     ghost Value = { LoadMap };
 
@@ -40,16 +51,21 @@ impl Model for Loaded {
 
     ghost view = { λ l. record { extra = l.extra; names = l.names.items } };
 
-    ghost invariant = { λ l. IsTrue (is_sorted name_cmp l.names.items) };
+    ghost invariant = { λ l. IsKept l.names.items l.deps.items };
 }
 
 impl Loaded {
-    // The load of these names, which are in byte order.
-    pub(crate) fn new(extra: Items<UnitName>, names: Vec<(UnitName, NameLoad)>) -> Loaded
+    // The load of these names, which are in byte order, each with its dependencies by numbers.
+    pub(crate) fn new(
+        extra: Items<UnitName>,
+        names: Vec<(UnitName, NameLoad)>,
+        deps: Vec<Items<Dependency>>,
+    ) -> Loaded
         requires sorted { IsTrue (is_sorted name_cmp names.items) }
+        requires rows { AreDependencyRows names.items deps.items }
         ensures load { result ≡ record { extra = extra; names = names.items } }
     {
-        Loaded { extra, names }
+        Loaded { extra, names, deps }
     }
 
     /// The names that were asked for, as they were given. It takes no memory.
@@ -65,6 +81,14 @@ impl Loaded {
         ensures sorted { IsTrue (is_sorted name_cmp result.now) }
     {
         self.names.as_slice()
+    }
+
+    /// For each name, in the same order, the dependencies of what it stands for, by numbers: none for an alias. It takes no
+    /// memory.
+    pub fn dependencies(&self) -> &[Items<Dependency>]
+        ensures rows { AreDependencyRows self.now.names result.now }
+    {
+        self.deps.as_slice()
     }
 
     /// The unit of a main name. None for an alias, and for a name that isn't in the universe. O(log n), without memory.

@@ -40,7 +40,7 @@ pub fn load_here(alloc: Global, store: &Store, extra: &[UnitName]) -> Result<Loa
 /// The same load by 1 to 64 workers, whatever their number and whatever the gate answers; refusals too.
 ///
 /// `Workers` exactly where they aren't 1 to 64, before anything else. The new names of a round are cut in byte order into
-/// pieces, none empty, as many as the lesser of the workers and the names, numbered from 0 in that round. Each piece has a
+/// shares, none empty, as many as the lesser of the workers and the names, numbered from 0 in that round. Each share has a
 /// worker of its own, which asks the gate before it loads, at most 1,000,000 times. Workers also gather what a round names,
 /// and put main names in at the end, and ask no gate for it. It may wait for threads.
 pub fn load_fleet<R: Threads + Sync, G: Gate + Sync>(

@@ -1,16 +1,15 @@
-//! Dependencies by main names.
-ghost use Rattle.std.specs.Prelude.{◌≡◌, IfOk, IsTrue, OnOk, map};
-ghost use Rattle.std.specs.List.{filter_map};
+//! Dependencies by main names and by their numbers.
+ghost use Rattle.std.specs.Prelude.{◌≡◌, ◌<◌, ◌++◌, ℕ, IfOk, IfSome, IsTrue, OnOk, length, map};
 ghost use Rattle.std.specs.FinMap.{is_sorted};
+ghost use Rattle.std.specs.List.{flat_map};
 ghost use Rattle.unit_name.specs.Names.{name_cmp};
-ghost use Rattle.parallel_load.specs.Alone.{with_mains};
-ghost use Rattle.parallel_load.specs.Loads.{by_mains, list_by_mains};
-ghost use Rattle.parallel_load.specs.Mains.{alias_pair, main_by, other_mains};
+ghost use Rattle.parallel_load.specs.Numbers.{name_of};
+ghost use Rattle.parallel_load.specs.Settled.{AreNumbered, IsMainNumber, dependency_of, list_numbers, list_settled, other_mains, other_number, other_numbers, settled_name};
 
 use crate::kept::Kept;
-use crate::loaded::NameLoad;
+use crate::loaded::{Dependency, NameLoad};
 use plain_values::Items;
-use setting_rules::{DependencyList, in_byte_order};
+use setting_rules::{DepKind, DependencyList, in_byte_order};
 use sorted_pairs::seek;
 use std::alloc::{AllocError, Global};
 use std::marker::Model;
@@ -18,112 +17,140 @@ use std::mem;
 use unit_loads::Unit;
 use unit_name::UnitName;
 
-/// The aliases among the names of a load, in byte order, each with its main name.
+/// The names of a load in byte order, each with the number of its main name: that name's place among them.
 #[derive(Drop)]
-pub(crate) struct Aliases {
-    pairs: Vec<(UnitName, UnitName)>,
+pub(crate) struct Mains {
+    names: Vec<(UnitName, usize)>,
 }
 
-impl Model for Aliases {
-    ghost use Rattle.std.specs.Prelude.{List, IsTrue};
-    ghost use Rattle.std.specs.FinMap.{is_sorted};
-    ghost use Rattle.unit_name.specs.Names.{Name, name_cmp};
+impl Model for Mains {
+    ghost use Rattle.std.specs.Prelude.{List, ℕ};
+    ghost use Rattle.unit_name.specs.Names.{Name};
+    ghost use Rattle.parallel_load.specs.Indexes.{IsIndex};
 
-    ghost Value = { List (Name × Name) };
+    ghost Value = { List (Name × ℕ) };
 
-    ghost view = { λ a. a.pairs.items };
+    ghost view = { λ m. m.names.items };
 
-    ghost invariant = { λ a. IsTrue (is_sorted name_cmp a.pairs.items) };
+    ghost invariant = { λ m. IsIndex m.names.items };
 }
 
-impl Aliases {
-    /// Those among names in byte order. It fails for want of memory alone.
-    pub fn of(alloc: Global, names: &[(UnitName, Kept)]) -> Result<Aliases, AllocError>
+/// A name with what it stands for, its dependencies by main names, and the same by numbers.
+#[derive(Drop)]
+pub(crate) struct Settled {
+    pub name: UnitName,
+    pub load: NameLoad,
+    pub deps: Items<Dependency>,
+}
+
+impl Mains {
+    /// Those of names in byte order. It fails for want of memory alone. One search for each alias.
+    pub fn of(alloc: Global, names: &[(UnitName, Kept)]) -> Result<Mains, AllocError>
         requires sorted { IsTrue (is_sorted name_cmp names.now) }
-        ensures aliases { IfOk result (λ aliases. aliases ≡ filter_map alias_pair names.now) }
+        ensures mains { IfOk result (AreNumbered names.now names.now) }
     {
-        let pairs = alias_pairs(alloc, names)?;
-        Ok(Aliases { pairs })
+        let names = main_numbers(alloc, names)?;
+        Ok(Mains { names })
     }
 
-    // The main name of a name: what it is an alias of, or the name itself.
-    fn main_of(&self, name: UnitName) -> Result<UnitName, AllocError>
-        ensures main { IfOk result (λ main. main ≡ main_by self.now name) }
+    // The number of a name's main name, unless that is the unit. None too for a name that isn't in the load.
+    fn other(&self, unit: &UnitName, name: &UnitName) -> Option<usize>
+        ensures number { result ≡ other_number self.now unit.now name.now }
+        ensures within { IfSome result (λ i. i < length self.now) }
     {
-        match seek(&self.pairs, &name) {
-            Ok(at) => self.pairs[at].1.try_clone(),
-            Err(_) => Ok(name),
+        match seek(&self.names, name) {
+            Ok(at) => {
+                let number = self.names[at].1;
+                if self.names[number].0 == *unit {
+                    None
+                } else {
+                    Some(number)
+                }
+            }
+            Err(_) => None,
         }
     }
 
-    /// Names with what they stand for, dependencies by main names. It fails for want of memory alone.
+    /// Names with what they stand for, dependencies by main names and by numbers. It fails for want of memory alone.
     pub fn settle_all(
         &self,
         alloc: Global,
         names: Vec<(UnitName, Kept)>,
-    ) -> Result<Vec<(UnitName, NameLoad)>, AllocError>
-        ensures names { IfOk result (λ all. all.items
-            ≡ map (λ p. (p.0, with_mains (main_by self.now) p.1)) names.items) }
+    ) -> Result<Vec<Settled>, AllocError>
+        ensures names { IfOk result (λ all. all.items ≡ map (settled_name self.now) names.items) }
     {
         let mut all = Vec::with_capacity(alloc, names.len())?;
         for (name, kept) in names {
-            all.push((name, self.settle(alloc, kept.into_load())?))?;
+            all.push(self.settle(alloc, name, kept.into_load())?)?;
         }
         Ok(all)
     }
 
-    // What a name stands for, with dependencies by main names.
-    fn settle(&self, alloc: Global, load: NameLoad) -> Result<NameLoad, AllocError>
-        ensures load { IfOk result (λ one. one ≡ with_mains (main_by self.now) load) }
+    // A name with what it stands for, dependencies by main names and by numbers.
+    fn settle(&self, alloc: Global, name: UnitName, load: NameLoad) -> Result<Settled, AllocError>
+        ensures one { IfOk result (λ one. one ≡ settled_name self.now (name, load)) }
     {
         match load {
-            NameLoad::Unit(unit) => Ok(NameLoad::Unit(self.settle_unit(alloc, unit)?)),
-            NameLoad::Alias(main) => Ok(NameLoad::Alias(main)),
+            NameLoad::Unit(unit) => self.settle_unit(alloc, name, unit),
+            NameLoad::Alias(main) => Ok(Settled {
+                name,
+                load: NameLoad::Alias(main),
+                deps: Items::new(alloc),
+            }),
         }
     }
 
-    // A unit with its dependencies by main names.
-    fn settle_unit(&self, alloc: Global, unit: Unit) -> Result<Unit, AllocError>
-        ensures unit { IfOk result (λ settled. settled ≡ by_mains (main_by self.now) unit) }
+    // The same for a unit.
+    fn settle_unit(&self, alloc: Global, name: UnitName, unit: Unit) -> Result<Settled, AllocError>
+        ensures one { IfOk result (λ one. one ≡ settled_name self.now (name, NameLoad.Unit unit)) }
     {
         let mut unit = unit;
-        self.settle_lists(alloc, &unit.name, &mut unit.deps)?;
-        Ok(unit)
+        let deps = self.settle_lists(alloc, &unit.name, &mut unit.deps)?;
+        Ok(Settled {
+            name,
+            load: NameLoad::Unit(unit),
+            deps,
+        })
     }
 
-    // Puts main names into the lists of a unit's dependencies.
+    // Puts main names into the lists of a unit's dependencies, and gives them by numbers.
     fn settle_lists(
         &self,
         alloc: Global,
         unit: &UnitName,
         lists: &mut Items<DependencyList>,
-    ) -> Result<(), AllocError>
-        ensures lists { OnOk result (lists.new ≡ map (list_by_mains (main_by self.now) unit.now) lists.old) }
+    ) -> Result<Items<Dependency>, AllocError>
+        ensures lists { OnOk result (lists.new ≡ map (list_settled self.now unit.now) lists.old) }
+        ensures deps { IfOk result (λ deps. deps ≡ flat_map (list_numbers self.now unit.now) lists.old) }
     {
         let found = mem::replace(lists, Items::new(alloc)).into_vec();
         let mut settled = Vec::with_capacity(alloc, found.len())?;
+        let mut deps = Items::new(alloc);
         for list in found {
-            settled.push(self.settle_list(alloc, unit, list)?)?;
+            settled.push(self.settle_list(alloc, unit, list, &mut deps)?)?;
         }
         *lists = Items::from_vec(settled);
-        Ok(())
+        Ok(deps)
     }
 
-    // A list of a unit's dependencies by main names. It takes memory only where an alias or the unit is among them.
+    // A list of a unit's dependencies by main names, which are added by numbers. A copy is made only where an alias or the
+    // unit is among them.
     fn settle_list(
         &self,
         alloc: Global,
         unit: &UnitName,
         list: DependencyList,
+        deps: &mut Items<Dependency>,
     ) -> Result<DependencyList, AllocError>
-        ensures list { IfOk result (λ settled. settled ≡ list_by_mains (main_by self.now) unit.now list) }
+        ensures list { IfOk result (λ settled. settled ≡ list_settled self.now unit.now list) }
+        ensures deps { OnOk result (deps.new ≡ deps.old ++ list_numbers self.now unit.now list) }
     {
         let DependencyList { kind, names } = list;
         let names = names.into_vec();
-        let mains = if self.are_mains(unit, &names) {
+        let mains = if self.add_numbers(unit, kind, &names, deps)? {
             names
         } else {
-            self.mains_of(alloc, unit, names)?
+            self.mains_of(alloc, unit, &names)?
         };
         Ok(DependencyList {
             kind,
@@ -131,26 +158,28 @@ impl Aliases {
         })
     }
 
-    // Whether names are main names, and none is the unit's.
-    fn are_mains(&self, unit: &UnitName, names: &[UnitName]) -> bool
-        ensures same { IsTrue result → other_mains (main_by self.now) unit.now names.now ≡ names.now }
+    // Adds the numbers of the main names of names, but for the unit's. Gives whether these are the names themselves.
+    fn add_numbers(
+        &self,
+        unit: &UnitName,
+        kind: DepKind,
+        names: &[UnitName],
+        deps: &mut Items<Dependency>,
+    ) -> Result<bool, AllocError>
+        ensures deps { OnOk result (deps.new ≡ deps.old ++ map (dependency_of kind) (other_numbers self.now unit.now names.now)) }
+        ensures same { IfOk result (λ same. IsTrue same → other_mains self.now unit.now names.now ≡ names.now) }
     {
+        let mut same = true;
         for name in names {
-            if *name == *unit || !self.is_main(name) {
-                return false;
+            match self.other(unit, name) {
+                Some(number) => {
+                    same = same && self.names[number].0 == *name;
+                    deps.push(Dependency { kind, number })?;
+                }
+                None => same = false,
             }
         }
-        true
-    }
-
-    // Whether a name is no alias.
-    fn is_main(&self, name: &UnitName) -> bool
-        ensures main { IsTrue result → main_by self.now name.now ≡ name.now }
-    {
-        match seek(&self.pairs, name) {
-            Ok(_) => false,
-            Err(_) => true,
-        }
+        Ok(same)
     }
 
     // The main names of names, but for the unit's.
@@ -158,33 +187,47 @@ impl Aliases {
         &self,
         alloc: Global,
         unit: &UnitName,
-        names: Vec<UnitName>,
+        names: &[UnitName],
     ) -> Result<Vec<UnitName>, AllocError>
-        ensures mains { IfOk result (λ mains. mains.items ≡ other_mains (main_by self.now) unit.now names.items) }
+        ensures mains { IfOk result (λ mains. mains.items ≡ other_mains self.now unit.now names.now) }
     {
         let mut mains = Vec::new(alloc);
         for name in names {
-            let main = self.main_of(name)?;
-            if main != *unit {
-                mains.push(main)?;
+            if let Some(number) = self.other(unit, name) {
+                mains.push(self.names[number].0.try_clone()?)?;
             }
         }
         Ok(mains)
     }
 }
 
-// The aliases among names, each with its main name.
-fn alias_pairs(
+// Names in byte order, each with the number of its main name.
+fn main_numbers(
     alloc: Global,
     names: &[(UnitName, Kept)],
-) -> Result<Vec<(UnitName, UnitName)>, AllocError>
-    ensures pairs { IfOk result (λ pairs. pairs.items ≡ filter_map alias_pair names.now) }
+) -> Result<Vec<(UnitName, usize)>, AllocError>
+    requires sorted { IsTrue (is_sorted name_cmp names.now) }
+    ensures numbered { IfOk result (λ numbers. AreNumbered names.now names.now numbers.items) }
 {
-    let mut pairs = Vec::new(alloc);
-    for (name, kept) in names {
-        if let NameLoad::Alias(main) = kept.load() {
-            pairs.push((name.try_clone()?, main.try_clone()?))?;
-        }
+    let mut numbers = Vec::with_capacity(alloc, names.len())?;
+    for (number, (name, kept)) in names.iter().enumerate() {
+        let main = main_number(names, number, kept.load());
+        numbers.push((name.try_clone()?, main))?;
     }
-    Ok(pairs)
+    Ok(numbers)
+}
+
+// The number of the main name of the name that has a number, by what that stands for.
+fn main_number(names: &[(UnitName, Kept)], number: usize, load: &NameLoad) -> usize
+    requires sorted { IsTrue (is_sorted name_cmp names.now) }
+    requires number { number < length names.now }
+    ensures main { IsMainNumber names.now (name_of names.now number, load.now) result }
+{
+    match load {
+        NameLoad::Unit(_) => number,
+        NameLoad::Alias(main) => match seek(names, main) {
+            Ok(at) => at,
+            Err(_) => number,
+        },
+    }
 }

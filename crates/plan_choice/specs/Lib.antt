@@ -8,5 +8,6 @@ pub mod RowRefusals
 pub mod Marking
 pub mod Soundness
 pub mod Losing
+pub mod MarkedCases
 pub mod NamedCases
 pub mod NamedPlans

@@ -4,15 +4,12 @@ ghost use Rattle.std.specs.Ordering.{nat_cmp};
 ghost use Rattle.list_laws.specs.Members.{IsAmong};
 ghost use Rattle.index_rows.specs.Rows.{Marked};
 ghost use Rattle.index_rows.specs.Steps.{AreStepsOf, steps_from};
-ghost use Rattle.plan_choice.specs.RowCases.{case_of, count_of};
+ghost use Rattle.plan_choice.specs.RowCases.{case_of};
 ghost use Rattle.plan_choice.specs.RowRefusals.{refusal_of};
-ghost use Rattle.plan_choice.specs.Sets.{IsNeeded, AreInConflict};
 ghost use Rattle.plan_choice.specs.Answers.{IsFirstPair, IsRefusal, IsClearBelow};
-ghost use Rattle.plan_choice.specs.Marking.{AreMarksOf, ArePairsOf};
-ghost use Rattle.plan_choice.specs.Soundness.{IsIdle};
 
 use crate::answers::RowRefusal;
-use crate::cases::PlanRows;
+use crate::marked_cases::MarkedCase;
 use index_rows::{Steps, first_marked, without};
 use std::alloc::{AllocError, Global};
 
@@ -25,8 +22,8 @@ fn first_pair(sources: &[bool], steps: &Steps, marks: &[bool]) -> Option<(usize,
         (λ pair. IsFirstPair nat_cmp (λ u v. Marked sources.now u × IsAmong v (steps_from steps.now u) × Marked marks.now v)
         pair.0 pair.1) }
 {
-    'sources: for unit in 0..sources.len() {
-        if sources[unit] {
+    for (unit, is_source) in sources.iter().enumerate() {
+        if *is_source {
             if let Some(other) = steps.least_marked(unit, marks) {
                 return Some((unit, other));
             }
@@ -35,35 +32,29 @@ fn first_pair(sources: &[bool], steps: &Steps, marks: &[bool]) -> Option<(usize,
     None
 }
 
-// The first cause that stands of those that are looked at before what starts.
-pub fn refused(
-    alloc: Global,
-    case: &PlanRows,
-    idle: &[bool],
-    needed: &[bool],
-    rivals: &Steps,
-) -> Result<Option<RowRefusal>, AllocError>
-    requires idle { AreMarksOf (count_of case.now) (IsIdle (count_of case.now) (case_of case.now)) idle.now }
-    requires needed { AreMarksOf (count_of case.now) (IsNeeded (case_of case.now)) needed.now }
-    requires rivals { ArePairsOf (count_of case.now) (AreInConflict (case_of case.now)) rivals.now }
-    ensures { IfOk result (λ answer. MatchOption answer (IsClearBelow nat_cmp (case_of case.now) 6)
-        (λ refusal. IsRefusal nat_cmp (case_of case.now) (refusal_of refusal))) }
-{
-    if !case.loaded[case.target] {
-        return Ok(Some(RowRefusal::Target(case.target)));
-    }
-    let unloaded = without(alloc, needed, &case.loaded)?;
-    if let Some(unit) = first_marked(&unloaded) {
-        return Ok(Some(RowRefusal::Need(unit)));
-    }
-    if case.refuses_manual_start[case.target] {
-        return Ok(Some(RowRefusal::ManualStart));
-    }
-    if let Some((unit, requisite)) = first_pair(needed, &case.requisites, idle) {
-        return Ok(Some(RowRefusal::Requisite(unit, requisite)));
-    }
-    match first_pair(needed, rivals, needed) {
-        None => Ok(None),
-        Some((unit, rival)) => Ok(Some(RowRefusal::Conflict(unit, rival))),
+impl<'c, 'a> MarkedCase<'c, 'a> {
+    // The first cause that stands of those that are looked at before what starts.
+    pub fn refusal(&self, alloc: Global) -> Result<Option<RowRefusal>, AllocError>
+        ensures { IfOk result (λ answer. MatchOption answer (IsClearBelow nat_cmp (case_of self.now) 6)
+            (λ refusal. IsRefusal nat_cmp (case_of self.now) (refusal_of refusal))) }
+    {
+        let case = self.case;
+        if !case.loaded[case.target] {
+            return Ok(Some(RowRefusal::Target(case.target)));
+        }
+        let unloaded = without(alloc, &self.needed, &case.loaded)?;
+        if let Some(unit) = first_marked(&unloaded) {
+            return Ok(Some(RowRefusal::Need(unit)));
+        }
+        if case.refuses_manual_start[case.target] {
+            return Ok(Some(RowRefusal::ManualStart));
+        }
+        if let Some((unit, requisite)) = first_pair(&self.needed, &case.requisites, &self.idle) {
+            return Ok(Some(RowRefusal::Requisite(unit, requisite)));
+        }
+        match first_pair(&self.needed, &self.rivals, &self.needed) {
+            None => Ok(None),
+            Some((unit, rival)) => Ok(Some(RowRefusal::Conflict(unit, rival))),
+        }
     }
 }

@@ -13,6 +13,7 @@ mod cases;
 mod causes;
 mod choices;
 mod laws;
+mod marked_cases;
 mod plans;
 mod wishes;
 

@@ -6,18 +6,15 @@ ghost use Rattle.index_rows.specs.Rows.{Marked};
 ghost use Rattle.index_rows.specs.Steps.{AreStepsOf, steps_from};
 ghost use Rattle.name_closure.specs.Chains.{IsClosure};
 ghost use Rattle.plan_choice.specs.RowCases.{case_of, count_of};
-ghost use Rattle.plan_choice.specs.RowRefusals.{refusal_of};
-ghost use Rattle.plan_choice.specs.Sets.{IsNeeded, AreInConflict, IsChosen, Starts, IsOusted, TakesAlong};
+ghost use Rattle.plan_choice.specs.RowRefusals.{IsAnswer, refusal_of};
+ghost use Rattle.plan_choice.specs.Sets.{IsChosen, Starts, IsOusted, TakesAlong};
 ghost use Rattle.plan_choice.specs.Answers.{IsClearBelow, IsRefusal, IsPlan};
-ghost use Rattle.plan_choice.specs.Marking.{AreMarksOf, ArePairsOf, IsListOf};
-ghost use Rattle.plan_choice.specs.Soundness.{IsIdle};
+ghost use Rattle.plan_choice.specs.Marking.{AreMarksOf, IsListOf};
 
 use crate::answers::{RowPlan, RowRefusal};
 use crate::cases::PlanRows;
-use crate::causes::refused;
-use crate::choices::chosen;
-use crate::wishes::rivals;
-use index_rows::{Steps, marked_nodes, reached, reached_inside, unmarked, without};
+use crate::marked_cases::MarkedCase;
+use index_rows::{Steps, marked_nodes, reached_inside, without};
 use start_order::start_order;
 use std::alloc::{AllocError, Global};
 
@@ -34,58 +31,41 @@ fn ousted(
         × ((v : ℕ) × (IsAmong v (steps_from rivals.now u) × Marked chosen.now v))) units.items) }
 {
     let mut units = Vec::new(alloc);
-    'units: for unit in 0..outside.len() {
-        if outside[unit] && rivals.least_marked(unit, chosen).is_some() {
+    for (unit, is_outside) in outside.iter().enumerate() {
+        if *is_outside && rivals.least_marked(unit, chosen).is_some() {
             units.push(unit)?;
         }
     }
     Ok(units)
 }
 
-// What stops, rising: what is ousted, and what stops with it.
-fn stops(
-    alloc: Global,
-    case: &PlanRows,
-    rivals: &Steps,
-    chosen: &[bool],
-) -> Result<Vec<usize>, AllocError>
-    requires rivals { ArePairsOf (count_of case.now) (AreInConflict (case_of case.now)) rivals.now }
-    requires chosen { AreMarksOf (count_of case.now) (IsChosen nat_cmp (case_of case.now)) chosen.now }
-    ensures { IfOk result (λ units. IsClosure (IsOusted nat_cmp (case_of case.now))
-        (TakesAlong nat_cmp (case_of case.now)) nat_cmp units.items) }
-{
-    let outside = without(alloc, &case.running, chosen)?;
-    let ousted = ousted(alloc, &outside, rivals, chosen)?;
-    let stopped = reached_inside(alloc, &case.takes_along, &outside, &ousted)?;
-    Ok(marked_nodes(alloc, &stopped)?)
-}
+impl<'c, 'a> MarkedCase<'c, 'a> {
+    // What stops, rising: what is ousted, and what stops with it.
+    fn stops(&self, alloc: Global, chosen: &[bool]) -> Result<Vec<usize>, AllocError>
+        requires { AreMarksOf (count_of self.now) (IsChosen nat_cmp (case_of self.now)) chosen.now }
+        ensures { IfOk result (λ units. IsClosure (IsOusted nat_cmp (case_of self.now))
+            (TakesAlong nat_cmp (case_of self.now)) nat_cmp units.items) }
+    {
+        let outside = without(alloc, &self.case.running, chosen)?;
+        let ousted = ousted(alloc, &outside, &self.rivals, chosen)?;
+        let stopped = reached_inside(alloc, &self.case.takes_along, &outside, &ousted)?;
+        Ok(marked_nodes(alloc, &stopped)?)
+    }
 
-// The plan where nothing is wrong with what the target needs, or the cycle of what is to start.
-fn plan_of(
-    alloc: Global,
-    case: &PlanRows,
-    idle: &[bool],
-    needed: &[bool],
-    rivals: &Steps,
-) -> Result<Result<RowPlan, RowRefusal>, AllocError>
-    requires idle { AreMarksOf (count_of case.now) (IsIdle (count_of case.now) (case_of case.now)) idle.now }
-    requires needed { AreMarksOf (count_of case.now) (IsNeeded (case_of case.now)) needed.now }
-    requires rivals { ArePairsOf (count_of case.now) (AreInConflict (case_of case.now)) rivals.now }
-    requires clear { IsClearBelow nat_cmp (case_of case.now) 6 }
-    ensures plan { IfOk result (λ answer. IfOk answer (λ plan. IsPlan nat_cmp (case_of case.now) plan.stops.items
-        plan.starts.items)) }
-    ensures all { IfOk result (λ answer. IfOk answer (λ plan. (u : ℕ) → Starts nat_cmp (case_of case.now) u
-        → IsAmong u plan.starts.items)) }
-    ensures refusal { IfOk result (λ answer. IfErr answer (λ refusal. IsRefusal nat_cmp (case_of case.now)
-        (refusal_of refusal))) }
-{
-    let chosen = chosen(alloc, case, idle, needed, rivals)?;
-    let starting = without(alloc, &chosen, &case.running)?;
-    match start_order(alloc, &starting, case.predecessors, case.successors)? {
-        Err(cycle) => Ok(Err(RowRefusal::Cycle(cycle))),
-        Ok(starts) => {
-            let stops = stops(alloc, case, rivals, &chosen)?;
-            Ok(Ok(RowPlan { stops, starts }))
+    // The plan where nothing is wrong with what the target needs, or the cycle of what is to start.
+    fn plan(&self, alloc: Global) -> Result<Result<RowPlan, RowRefusal>, AllocError>
+        requires { IsClearBelow nat_cmp (case_of self.now) 6 }
+        ensures { IfOk result (IsAnswer (case_of self.now)) }
+    {
+        let case = self.case;
+        let chosen = self.chosen(alloc)?;
+        let starting = without(alloc, &chosen, &case.running)?;
+        match start_order(alloc, &starting, case.predecessors, case.successors)? {
+            Err(cycle) => Ok(Err(RowRefusal::Cycle(cycle))),
+            Ok(starts) => {
+                let stops = self.stops(alloc, &chosen)?;
+                Ok(Ok(RowPlan { stops, starts }))
+            }
         }
     }
 }
@@ -101,11 +81,9 @@ pub fn plan_rows(alloc: Global, case: &PlanRows) -> Result<Result<RowPlan, RowRe
     ensures refusal { IfOk result (λ answer. IfErr answer (λ refusal. IsRefusal nat_cmp (case_of case.now)
         (refusal_of refusal))) }
 {
-    let needed = reached(alloc, case.loaded.len(), &case.needs, &[case.target])?;
-    let rivals = rivals(alloc, case)?;
-    let idle = unmarked(alloc, &case.running)?;
-    match refused(alloc, case, &idle, &needed, &rivals)? {
+    let marked = MarkedCase::of(alloc, case)?;
+    match marked.refusal(alloc)? {
         Some(refusal) => Ok(Err(refusal)),
-        None => Ok(plan_of(alloc, case, &idle, &needed, &rivals)?),
+        None => marked.plan(alloc),
     }
 }

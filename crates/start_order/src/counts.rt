@@ -15,7 +15,7 @@ fn waiting(chosen: &[bool], standing: &[bool], nodes: &[usize]) -> usize
     ensures { result ≡ waiting_of chosen.now standing.now nodes.now }
 {
     let mut count = 0;
-    'nodes: for other in nodes {
+    for other in nodes {
         if chosen[*other] && !standing[*other] {
             count += 1;
         }
@@ -24,7 +24,7 @@ fn waiting(chosen: &[bool], standing: &[bool], nodes: &[usize]) -> usize
 }
 
 // For each node, how many chosen nodes before it don't stand.
-pub fn counts_of(
+pub(crate) fn counts_of(
     alloc: Global,
     chosen: &[bool],
     standing: &[bool],
@@ -38,14 +38,14 @@ pub fn counts_of(
         → slice_index counts.items v ≡ waiting_of chosen.now standing.now (row_of before.now v)) }
 {
     let mut counts = Vec::new(alloc);
-    'rows: for node in 0..before.len() {
+    for node in 0..before.len() {
         counts.push(waiting(chosen, standing, row(before, node)))?;
     }
     Ok(counts)
 }
 
 // Lowers the counts at the nodes of `nodes`, and adds the chosen ones whose counts fall to 0.
-pub fn lower(
+pub(crate) fn lower(
     chosen: &[bool],
     counts: &mut Vec<usize>,
     free: &mut Free,
@@ -57,7 +57,7 @@ pub fn lower(
     ensures { OnOk result (IsLowered chosen.now nodes.now counts.old.items counts.new.items free.old
         free.new) }
 {
-    'nodes: for other in nodes {
+    for other in nodes {
         let count = counts[*other] - 1;
         counts[*other] = count;
         if chosen[*other] && count == 0 {

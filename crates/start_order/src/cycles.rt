@@ -1,6 +1,5 @@
 //! The cycle to which one comes from the least stuck node.
 ghost use Rattle.std.specs.Prelude.{◌≡◌, ◌<◌, ◌≤◌, ℕ, slice_index, length, IfOk};
-ghost use Rattle.std.specs.List.{All};
 ghost use Rattle.std.specs.Ordering.{nat_cmp};
 ghost use Rattle.list_laws.specs.Members.{IsAmong};
 ghost use Rattle.index_rows.specs.Rows.{Marked, AllBelow};
@@ -9,23 +8,8 @@ ghost use Rattle.start_order.specs.StartOrder.{IsBlocker, IsCycle};
 ghost use Rattle.start_order.specs.Precedes.{Precedes};
 ghost use Rattle.start_order.specs.Walks.{IsWalk};
 
-use index_rows::{no_marks, row};
+use index_rows::{least_marked, no_marks, row};
 use std::alloc::{AllocError, Global};
-
-// The least stuck node of `nodes`, which has one.
-fn least_stuck(stuck: &[bool], nodes: &[usize]) -> usize
-    requires nodes { All (λ v. v < length stuck.now) nodes.now }
-    requires some { (v : ℕ) × (Marked stuck.now v × IsAmong v nodes.now) }
-    ensures { IsLeast nat_cmp (λ w. Marked stuck.now w × IsAmong w nodes.now) result }
-{
-    let mut least = stuck.len();
-    'nodes: for other in nodes {
-        if stuck[*other] && *other < least {
-            least = *other;
-        }
-    }
-    least
-}
 
 // The least stuck node before a stuck one.
 fn blocker(stuck: &[bool], before: &[Vec<usize>], node: usize) -> usize
@@ -35,7 +19,7 @@ fn blocker(stuck: &[bool], before: &[Vec<usize>], node: usize) -> usize
     requires blocked { (v : ℕ) × (Marked stuck.now v × Precedes before.now v node) }
     ensures { IsBlocker nat_cmp (Marked stuck.now) (Precedes before.now) result node }
 {
-    least_stuck(stuck, row(before, node))
+    least_marked(row(before, node), stuck).unwrap()
 }
 
 // The walk from the least stuck node up to a node that it met already: what it met, and that node.
@@ -55,7 +39,7 @@ fn walk(
     let mut seen = no_marks(alloc, stuck.len())?;
     let mut met = Vec::new(alloc);
     let mut next = start;
-    'walk: while !seen[next] {
+    while !seen[next] {
         met.push(next)?;
         seen[next] = true;
         next = blocker(stuck, before, next);
@@ -84,8 +68,8 @@ fn least_at(list: &[usize]) -> usize
     ensures least { (k : ℕ) → k < length list.now → slice_index list.now result ≤ slice_index list.now k }
 {
     let mut at = 0;
-    for i in 0..list.len() {
-        if list[i] < list[at] {
+    for (i, node) in list.iter().enumerate() {
+        if *node < list[at] {
             at = i;
         }
     }
@@ -93,7 +77,7 @@ fn least_at(list: &[usize]) -> usize
 }
 
 // The cycle to which one comes from `start`, the least stuck node.
-pub fn cycle_from(
+pub(crate) fn cycle_from(
     alloc: Global,
     stuck: &[bool],
     before: &[Vec<usize>],

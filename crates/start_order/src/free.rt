@@ -122,14 +122,18 @@ fn drop_first(nodes: &mut BTreeSet<usize>, node: usize)
 }
 
 // Marks at the chosen nodes whose counts are 0.
-pub fn ready(alloc: Global, chosen: &[bool], counts: &[usize]) -> Result<Vec<bool>, AllocError>
+pub(crate) fn ready(
+    alloc: Global,
+    chosen: &[bool],
+    counts: &[usize],
+) -> Result<Vec<bool>, AllocError>
     requires { length counts.now ≡ length chosen.now }
     ensures { IfOk result (λ marks. (v : ℕ) → Marked marks.items v
         ↔ (Marked chosen.now v × (slice_index counts.now v ≡ 0))) }
 {
     let mut marks = Vec::new(alloc);
-    for node in 0..chosen.len() {
-        marks.push(chosen[node] && counts[node] == 0)?;
+    for (node, is_chosen) in chosen.iter().enumerate() {
+        marks.push(*is_chosen && counts[node] == 0)?;
     }
     Ok(marks)
 }

@@ -30,7 +30,7 @@ fn listed(
     let mut counts = counts_of(alloc, chosen, &standing, before)?;
     let mut free = Free::of(alloc, &ready(alloc, chosen, &counts)?)?;
     let mut list = Vec::new(alloc);
-    'starts: while let Some(node) = free.take_least() {
+    while let Some(node) = free.take_least() {
         list.push(node)?;
         standing[node] = true;
         lower(chosen, &mut counts, &mut free, row(after, node))?;

@@ -1,9 +1,10 @@
 //! The case of a plan, by numbers.
-ghost use Rattle.std.specs.Prelude.{IfOk};
+ghost use Rattle.std.specs.Prelude.{IfOk, [], ◌∷◌};
 ghost use Rattle.name_closure.specs.ListedLaws.{Named};
 ghost use Rattle.index_rows.specs.Numbering.{AreNamedSteps, IsNumbering};
 ghost use Rattle.index_rows.specs.Steps.{AreStepsOf, steps_from};
 ghost use Rattle.unit_name.specs.Names.{name_cmp};
+ghost use Rattle.setting_rules.specs.declared.kinds.DepKind.TheVariants.{Requisite, Wants};
 ghost use Rattle.plan_choice.specs.NamedCases.{IsNamedCase};
 ghost use Rattle.plan_choice.specs.RowCases.{case_of as case_of_rows};
 ghost use Rattle.inverse_deps.specs.Numbers.{count_of, name_at};
@@ -42,8 +43,29 @@ const TAKING: [DepKind; 4] = [
     DepKind::ConsistsOf,
 ];
 
+// Marks at the units that are loaded, and at those that refuse that a person starts them.
+#[derive(Drop)]
+struct StatusMarks {
+    loaded: Vec<bool>,
+    manual: Vec<bool>,
+}
+
+// Steps of some kinds, and of the inverses of these.
+#[derive(Drop)]
+struct BothWays<'b> {
+    steps: Steps<'b>,
+    inverses: Steps<'b>,
+}
+
+// Steps to what units want, and to what is to run where they start.
+#[derive(Drop)]
+struct Asked<'b> {
+    wants: Steps<'b>,
+    requisites: Steps<'b>,
+}
+
 // The case of a request, by numbers. The graph's own rows are lent.
-pub fn case_of<'b>(
+pub(crate) fn case_of<'b>(
     alloc: Global,
     graph: &'b Graph,
     request: &Request,
@@ -57,52 +79,66 @@ pub fn case_of<'b>(
     let target = graph.number(&request.target).unwrap();
     let status = status_marks(alloc, graph.loaded())?;
     let running = named_marks(alloc, graph, request.running.as_slice())?;
-    let needing = two_steps(alloc, graph, &NEEDING, &NEEDED)?;
-    let wishing = two_steps(alloc, graph, &[DepKind::Wants], &[DepKind::Requisite])?;
-    let tying = two_steps(alloc, graph, &TYING, &TAKING)?;
+    let needing = both_ways(alloc, graph, &NEEDING, &NEEDED)?;
+    let asked = asked_of(alloc, graph)?;
+    let tying = both_ways(alloc, graph, &TYING, &TAKING)?;
     Ok(PlanRows {
         target,
-        loaded: status.0,
-        refuses_manual_start: status.1,
+        loaded: status.loaded,
+        refuses_manual_start: status.manual,
         running,
-        needs: needing.0,
-        needed_by: needing.1,
-        wants: wishing.0,
-        requisites: wishing.1,
+        needs: needing.steps,
+        needed_by: needing.inverses,
+        wants: asked.wants,
+        requisites: asked.requisites,
         conflicts: graph.rows(DepKind::Conflicts),
         conflicted_by: graph.rows(DepKind::ConflictedBy),
         predecessors: graph.rows(DepKind::After),
         successors: graph.rows(DepKind::Before),
-        stops_with: tying.0,
-        takes_along: tying.1,
+        stops_with: tying.steps,
+        takes_along: tying.inverses,
     })
 }
 
-// Marks at the units that are loaded, and at those that refuse that a person starts them.
-fn status_marks(alloc: Global, loaded: &Loaded) -> Result<(Vec<bool>, Vec<bool>), AllocError>
-    ensures loaded { IfOk result (λ marks. AreMarksBy loaded.now is_loaded marks.0.items) }
-    ensures manual { IfOk result (λ marks. AreMarksBy loaded.now is_manual marks.1.items) }
+// The marks of the statuses of units.
+fn status_marks(alloc: Global, load: &Loaded) -> Result<StatusMarks, AllocError>
+    ensures loaded { IfOk result (λ marks. AreMarksBy load.now is_loaded marks.loaded.items) }
+    ensures manual { IfOk result (λ marks. AreMarksBy load.now is_manual marks.manual.items) }
 {
-    let at_loaded = loaded_marks(alloc, loaded)?;
-    let at_manual = manual_marks(alloc, loaded)?;
-    Ok((at_loaded, at_manual))
+    let loaded = loaded_marks(alloc, load)?;
+    let manual = manual_marks(alloc, load)?;
+    Ok(StatusMarks { loaded, manual })
 }
 
-// The steps of some kinds, and those of others.
-fn two_steps<'b>(
+// The steps of kinds, and those of their inverses.
+fn both_ways<'b>(
     alloc: Global,
     graph: &'b Graph,
     kinds: &[DepKind],
     others: &[DepKind],
-) -> Result<(Steps<'b>, Steps<'b>), AllocError>
+) -> Result<BothWays<'b>, AllocError>
     ensures steps { IfOk result (λ both. AreNamedSteps (count_of graph.now.load) (name_at graph.now.load)
-        (Named (steps_from both.0)) (LeadsBy graph.now.edges kinds.now)) }
-    ensures within { IfOk result (λ both. AreStepsOf (count_of graph.now.load) both.0) }
-    ensures other_steps { IfOk result (λ both. AreNamedSteps (count_of graph.now.load) (name_at graph.now.load)
-        (Named (steps_from both.1)) (LeadsBy graph.now.edges others.now)) }
-    ensures other_within { IfOk result (λ both. AreStepsOf (count_of graph.now.load) both.1) }
+        (Named (steps_from both.steps)) (LeadsBy graph.now.edges kinds.now)) }
+    ensures within { IfOk result (λ both. AreStepsOf (count_of graph.now.load) both.steps) }
+    ensures inverses { IfOk result (λ both. AreNamedSteps (count_of graph.now.load) (name_at graph.now.load)
+        (Named (steps_from both.inverses)) (LeadsBy graph.now.edges others.now)) }
+    ensures inverses_within { IfOk result (λ both. AreStepsOf (count_of graph.now.load) both.inverses) }
 {
     let steps = graph.steps(alloc, kinds)?;
-    let other_steps = graph.steps(alloc, others)?;
-    Ok((steps, other_steps))
+    let inverses = graph.steps(alloc, others)?;
+    Ok(BothWays { steps, inverses })
+}
+
+// The steps to what units want, and to their requisites.
+fn asked_of<'b>(alloc: Global, graph: &'b Graph) -> Result<Asked<'b>, AllocError>
+    ensures wants { IfOk result (λ asked. AreNamedSteps (count_of graph.now.load) (name_at graph.now.load)
+        (Named (steps_from asked.wants)) (LeadsBy graph.now.edges (Wants ∷ []))) }
+    ensures wants_within { IfOk result (λ asked. AreStepsOf (count_of graph.now.load) asked.wants) }
+    ensures requisites { IfOk result (λ asked. AreNamedSteps (count_of graph.now.load) (name_at graph.now.load)
+        (Named (steps_from asked.requisites)) (LeadsBy graph.now.edges (Requisite ∷ []))) }
+    ensures requisites_within { IfOk result (λ asked. AreStepsOf (count_of graph.now.load) asked.requisites) }
+{
+    let wants = graph.steps(alloc, &[DepKind::Wants])?;
+    let requisites = graph.steps(alloc, &[DepKind::Requisite])?;
+    Ok(Asked { wants, requisites })
 }

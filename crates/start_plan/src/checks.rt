@@ -16,7 +16,7 @@ pub(crate) fn asks_template(request: &Request) -> bool
 pub fn has_template(names: &[UnitName]) -> bool
     ensures template { IsTrue result ↔ HasTemplate names.now }
 {
-    'names: for name in names {
+    for name in names {
         if name.is_template() {
             return true;
         }

@@ -16,12 +16,12 @@ use unit_graph::Graph;
 use unit_name::UnitName;
 
 // Marks at the units that are loaded.
-pub fn loaded_marks(alloc: Global, loaded: &Loaded) -> Result<Vec<bool>, AllocError>
+pub(crate) fn loaded_marks(alloc: Global, loaded: &Loaded) -> Result<Vec<bool>, AllocError>
     ensures marks { IfOk result (λ marks. AreMarksBy loaded.now is_loaded marks.items) }
 {
     let names = loaded.names();
     let mut marks = Vec::new(alloc);
-    'names: for number in 0..names.len() {
+    for number in 0..names.len() {
         marks.push(is_loaded(&names[number].1))?;
     }
     Ok(marks)
@@ -47,12 +47,12 @@ fn has_fragment(status: &Status) -> bool
 }
 
 // Marks at the units that refuse that a person starts them.
-pub fn manual_marks(alloc: Global, loaded: &Loaded) -> Result<Vec<bool>, AllocError>
+pub(crate) fn manual_marks(alloc: Global, loaded: &Loaded) -> Result<Vec<bool>, AllocError>
     ensures marks { IfOk result (λ marks. AreMarksBy loaded.now is_manual marks.items) }
 {
     let names = loaded.names();
     let mut marks = Vec::new(alloc);
-    'names: for number in 0..names.len() {
+    for number in 0..names.len() {
         marks.push(is_manual(&names[number].1))?;
     }
     Ok(marks)
@@ -69,7 +69,7 @@ fn is_manual(load: &NameLoad) -> bool
 }
 
 // Marks at the units for which names stand.
-pub fn named_marks(
+pub(crate) fn named_marks(
     alloc: Global,
     graph: &Graph,
     names: &[UnitName],
@@ -79,7 +79,7 @@ pub fn named_marks(
         ↔ ((n : _) × IsAmong n names.now × IsNumberFor graph.now.load n i)) }
 {
     let mut marks = no_marks(alloc, graph.loaded().names().len())?;
-    'names: for name in names {
+    for name in names {
         if let Some(number) = graph.number(name) {
             marks[number] = true;
         }

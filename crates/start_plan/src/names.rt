@@ -17,7 +17,7 @@ use std::alloc::{AllocError, Global};
 use unit_name::UnitName;
 
 // A plan by names.
-pub fn named_plan(alloc: Global, loaded: &Loaded, plan: &RowPlan) -> Result<Plan, AllocError>
+pub(crate) fn named_plan(alloc: Global, loaded: &Loaded, plan: &RowPlan) -> Result<Plan, AllocError>
     requires stops { All (λ i. i < count_of loaded.now) plan.now.stops.items }
     requires starts { All (λ i. i < count_of loaded.now) plan.now.starts.items }
     ensures stop { IfOk result (λ named. named.stop ≡ map (name_at loaded.now) plan.now.stops.items) }
@@ -29,7 +29,7 @@ pub fn named_plan(alloc: Global, loaded: &Loaded, plan: &RowPlan) -> Result<Plan
 }
 
 // A refusal by names.
-pub fn named_refusal(
+pub(crate) fn named_refusal(
     alloc: Global,
     loaded: &Loaded,
     refusal: &RowRefusal,

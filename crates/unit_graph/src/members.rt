@@ -13,7 +13,7 @@ impl<'a> Graph<'a> {
     {
         let mut names = Vec::new(alloc);
         let units = self.loaded.units(alloc)?;
-        'units: for unit in &units {
+        for unit in &units {
             names.push(unit.name.try_clone()?)?;
         }
         Ok(names)

@@ -63,7 +63,7 @@ fn named_distances(
 {
     let names = loaded.names();
     let mut named = Vec::new(alloc);
-    'pairs: for pair in pairs {
+    for pair in pairs {
         let name = names[pair.1].0.try_clone()?;
         named.push((pair.0 as u64, name))?;
     }

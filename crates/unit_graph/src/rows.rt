@@ -24,7 +24,7 @@ impl<'a> Graph<'a> {
         ensures within { IfOk result (λ steps. AreStepsOf (count_of self.now.load) steps) }
     {
         let mut steps = Steps::new(alloc);
-        'kinds: for kind in kinds {
+        for kind in kinds {
             steps.push(self.table(*kind))?;
         }
         Ok(steps)

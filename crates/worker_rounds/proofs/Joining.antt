@@ -1,4 +1,4 @@
--- Parts put together, and what was loaded of pieces.
+-- Parts put together, and what was loaded of shares.
 use Rattle.std.specs.Prelude.{◌≡◌, ◌<◌, ℕ, suc, List, [], ◌∷◌, ◌++◌, length, map, Result, Ok, IfOk}
 use Rattle.std.specs.List.{All, flat_map}
 use Rattle.std.specs.Global.{Vec}
@@ -30,31 +30,31 @@ module _ {N : Type 0} (Q : N → Type 0) where
   all_back [] ys a = a
   all_back (x ∷ xs) ys a = all_back xs ys (All-tail Q x (xs ++ ys) a)
 
-  -- what holds of all nodes holds of those of each piece
-  all_in_pieces : {P : Type 0} (nodes_of : P → List N) (pieces : List P) → All Q (flat_map nodes_of pieces) → All (λ piece. All Q (nodes_of piece)) pieces
-  all_in_pieces {P} nodes_of [] a = All-nil (λ (piece : P). All Q (nodes_of piece))
-  all_in_pieces {P} nodes_of (p ∷ ps) a =
-      All-cons (λ (piece : P). All Q (nodes_of piece)) p ps (all_front (nodes_of p) (flat_map nodes_of ps) a)
-      (all_in_pieces nodes_of ps (all_back (nodes_of p) (flat_map nodes_of ps) a))
+  -- what holds of all nodes holds of those of each share
+  all_in_shares : {P : Type 0} (nodes_of : P → List N) (shares : List P) → All Q (flat_map nodes_of shares) → All (λ share. All Q (nodes_of share)) shares
+  all_in_shares {P} nodes_of [] a = All-nil (λ (share : P). All Q (nodes_of share))
+  all_in_shares {P} nodes_of (p ∷ ps) a =
+      All-cons (λ (share : P). All Q (nodes_of share)) p ps (all_front (nodes_of p) (flat_map nodes_of ps) a)
+      (all_in_shares nodes_of ps (all_back (nodes_of p) (flat_map nodes_of ps) a))
 
-  pub pieces_hold : {P : Type 0} (nodes_of : P → List N) (pieces : List P) (nodes : List N) → flat_map nodes_of pieces ≡ nodes → All Q nodes → All (λ piece. All Q (nodes_of piece)) pieces
-  pieces_hold nodes_of pieces nodes whole a = all_in_pieces nodes_of pieces (subst (All Q) (sym whole) a)
+  pub shares_hold : {P : Type 0} (nodes_of : P → List N) (shares : List P) (nodes : List N) → flat_map nodes_of shares ≡ nodes → All Q nodes → All (λ share. All Q (nodes_of share)) shares
+  shares_hold nodes_of shares nodes whole a = all_in_shares nodes_of shares (subst (All Q) (sym whole) a)
 
 module _ {N U P E : Type 0} (is_loaded : N → U → Type 0) (nodes_of : P → List N) where
-  loads_are : (pieces : List P) (loads : List (Vec (N × U))) → length loads ≡ length pieces
-      → ((i : ℕ) (piece : P) (part : Result (Vec (N × U)) E) → i < length pieces → IfOk (get_or (map Ok loads) i part) (λ pairs. AreLoads is_loaded (nodes_of (get_or pieces i piece)) pairs.items))
-      → AreLoads is_loaded (flat_map nodes_of pieces) (flat_map (λ v. v.items) loads)
+  loads_are : (shares : List P) (loads : List (Vec (N × U))) → length loads ≡ length shares
+      → ((i : ℕ) (share : P) (part : Result (Vec (N × U)) E) → i < length shares → IfOk (get_or (map Ok loads) i part) (λ pairs. AreLoads is_loaded (nodes_of (get_or shares i share)) pairs.items))
+      → AreLoads is_loaded (flat_map nodes_of shares) (flat_map (λ v. v.items) loads)
   loads_are [] [] e each = loads_none is_loaded
   loads_are [] (v ∷ vs) e each = absurd (omega arith)
   loads_are (p ∷ ps) [] e each = absurd (omega arith)
   loads_are (p ∷ ps) (v ∷ vs) e each =
       loads_append is_loaded (nodes_of p) (flat_map nodes_of ps) v.items (flat_map (λ (w : Vec (N × U)). w.items) vs) (each 0 p (Ok v) (omega arith))
-      (loads_are ps vs (omega arith) (λ i piece part l. each (suc i) piece part (omega arith)))
+      (loads_are ps vs (omega arith) (λ i share part l. each (suc i) share part (omega arith)))
 
-  -- what was loaded of all pieces, put together, is what is loaded of all nodes
-  pub joined_loads : (pieces : List P) (parts : List (Result (Vec (N × U)) E)) (nodes : List N) (all : List (N × U)) → flat_map nodes_of pieces ≡ nodes → length parts ≡ length pieces
-      → ((i : ℕ) (piece : P) (part : Result (Vec (N × U)) E) → i < length pieces → IfOk (get_or parts i part) (λ pairs. AreLoads is_loaded (nodes_of (get_or pieces i piece)) pairs.items))
+  -- what was loaded of all shares, put together, is what is loaded of all nodes
+  pub joined_loads : (shares : List P) (parts : List (Result (Vec (N × U)) E)) (nodes : List N) (all : List (N × U)) → flat_map nodes_of shares ≡ nodes → length parts ≡ length shares
+      → ((i : ℕ) (share : P) (part : Result (Vec (N × U)) E) → i < length shares → IfOk (get_or parts i part) (λ pairs. AreLoads is_loaded (nodes_of (get_or shares i share)) pairs.items))
       → IsJoined parts all → AreLoads is_loaded nodes all
-  joined_loads pieces parts nodes all whole long each j =
-      let loads = loads_are pieces j.loads (sym (length-map j.loads Ok) ∙ ap length (sym j.each) ∙ long) (rw j.each at each) in
-      subst (λ v. AreLoads is_loaded v all) whole (subst (AreLoads is_loaded (flat_map nodes_of pieces)) (sym j.whole) loads)
+  joined_loads shares parts nodes all whole long each j =
+      let loads = loads_are shares j.loads (sym (length-map j.loads Ok) ∙ ap length (sym j.each) ∙ long) (rw j.each at each) in
+      subst (λ v. AreLoads is_loaded v all) whole (subst (AreLoads is_loaded (flat_map nodes_of shares)) (sym j.whole) loads)

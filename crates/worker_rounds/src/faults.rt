@@ -1,10 +1,10 @@
 //! Why there is no load by workers.
-use name_closure::CloseFault;
+use name_closure::ClosureFault;
 use thiserror::Error;
 
 /// Why there is no load by workers.
 #[derive(Clone, Copy, Debug, PartialEq, Eq, Error)]
-pub enum LoadFault {
+pub enum RoundFault {
     /// The workers aren't 1 to 64.
     #[error("the workers aren't 1 to 64")]
     Workers,
@@ -15,16 +15,16 @@ pub enum LoadFault {
     Memory,
 }
 
-impl From<CloseFault> for LoadFault {
+impl From<ClosureFault> for RoundFault {
     ghost use Rattle.std.specs.Prelude.{◌≡◌};
     ghost use Rattle.worker_rounds.specs.Refusals.{refusal_of};
 
     ghost from_gives = { λ fault refusal. refusal ≡ refusal_of fault };
 
-    fn from(fault: CloseFault) -> LoadFault {
+    fn from(fault: ClosureFault) -> RoundFault {
         match fault {
-            CloseFault::TooMany => LoadFault::TooMany,
-            CloseFault::Memory => LoadFault::Memory,
+            ClosureFault::TooMany => RoundFault::TooMany,
+            ClosureFault::Memory => RoundFault::Memory,
         }
     }
 }

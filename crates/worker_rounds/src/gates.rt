@@ -1,19 +1,19 @@
 //! Gates, at which workers wait before they load.
 
-/// Asked by each worker before it loads its piece, until it answers true. It can wait for other
-/// pieces of the round, and see that they were all begun. Its answers never change a load.
+/// Asked by each worker before it loads its share, until it answers true. It can wait for other
+/// shares of the round, and see that they were all begun. Its answers never change a load.
 pub trait Gate {
-    /// Whether the worker of this piece may go on. Pieces are numbered from 0 in their round.
-    fn arrive(&self, piece: usize) -> bool;
+    /// Whether the worker of this share may go on. Shares are numbered from 0 in their round.
+    fn arrive(&self, share: usize) -> bool;
 }
 
-/// So many times a gate is asked for one piece at most; then its worker goes on.
+/// So many times a gate is asked for one share at most; then its worker goes on.
 pub const TURNS: u32 = 1_000_000;
 
-/// Asks the gate until it lets the piece's worker go on, or was asked `TURNS` times.
-pub fn pass_gate<G: Gate>(gate: &G, piece: usize) {
+/// Asks the gate until it lets the share's worker go on, or was asked `TURNS` times.
+pub fn pass_gate<G: Gate>(gate: &G, share: usize) {
     for _ in 0..TURNS {
-        if gate.arrive(piece) {
+        if gate.arrive(share) {
             return;
         }
     }
@@ -24,7 +24,7 @@ pub fn pass_gate<G: Gate>(gate: &G, piece: usize) {
 pub struct OpenGate;
 
 impl Gate for OpenGate {
-    fn arrive(&self, _piece: usize) -> bool {
+    fn arrive(&self, _share: usize) -> bool {
         true
     }
 }

@@ -7,12 +7,12 @@
 mod crews;
 mod faults;
 mod gates;
-mod pieces;
 mod rounds;
+mod shares;
 mod workers;
 
 pub use crews::{MOST_WORKERS, is_crew};
-pub use faults::LoadFault;
+pub use faults::RoundFault;
 pub use gates::{Gate, OpenGate, TURNS, pass_gate};
-pub use pieces::{Piece, cut, put_together};
 pub use rounds::close_loaded_by_workers;
+pub use shares::{Share, cut, put_together};

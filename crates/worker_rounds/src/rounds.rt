@@ -6,10 +6,10 @@ ghost use Rattle.name_closure.specs.Chains.{IsClosure, HasOver};
 ghost use Rattle.name_closure.specs.ListedLaws.{Listed};
 ghost use Rattle.name_closure.specs.Loading.{LeadsByLoad, AreLoaded, IsRound};
 ghost use Rattle.worker_rounds.specs.Refusals.{OnTooMany};
-ghost use Rattle.worker_rounds.specs.declared.faults.LoadFault.TheVariants.{Workers};
+ghost use Rattle.worker_rounds.specs.declared.faults.RoundFault.TheVariants.{Workers};
 
 use crate::crews::is_crew;
-use crate::faults::LoadFault;
+use crate::faults::RoundFault;
 use crate::gates::Gate;
 use crate::workers::load_by_workers;
 use name_closure::{Loads, Round, close_by_rounds};
@@ -25,8 +25,8 @@ use std::thread::Threads;
 /// thread: `TooMany` where more is reached than the limit, and only there, `Memory` for want of
 /// memory alone.
 ///
-/// The new nodes of a round are cut in their order into pieces, none empty, as many as the lesser of
-/// the workers and the nodes, numbered from 0 in that round. Each piece has a worker of its own, which
+/// The new nodes of a round are cut in their order into shares, none empty, as many as the lesser of
+/// the workers and the nodes, numbered from 0 in that round. Each share has a worker of its own, which
 /// asks the gate first. One for which no thread can be made works in its caller's. What the round names is
 /// then gathered by so many workers at most, who ask no gate.
 pub fn close_loaded_by_workers<
@@ -42,7 +42,7 @@ pub fn close_loaded_by_workers<
     limit: usize,
     workers: usize,
     gate: &G,
-) -> Result<BTreeMap<K, L::Loaded>, LoadFault>
+) -> Result<BTreeMap<K, L::Loaded>, RoundFault>
 where
     L::Loaded: Send + Sync,
     requires sources { All (L.is_node loader.now) sources.now }
@@ -58,7 +58,7 @@ where
         (LeadsByLoad (L.is_loaded loader.now) (L.named loader.now)) K.cmp limit) }
 {
     if !is_crew(workers) {
-        return Err(LoadFault::Workers);
+        return Err(RoundFault::Workers);
     }
     let load_round = |fresh: Vec<K>| -> Result<Round<K, L::Loaded>, AllocError>
         requires some { 0 < workers }

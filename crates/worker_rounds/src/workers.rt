@@ -1,4 +1,4 @@
-//! Workers: each loads a piece of a round.
+//! Workers: each loads a share of a round.
 ghost use Rattle.std.specs.Prelude.{◌≡◌, ℕ, ◌<◌, ◌≤◌, ◌*◌, length, take, drop, slice_index_or, All, IfOk};
 ghost use Rattle.std.specs.List.{flat_map};
 ghost use Rattle.std.specs.List.Sorted.{IsStrictlySortedBy};
@@ -6,48 +6,48 @@ ghost use Rattle.std.specs.Map.{keys_of};
 ghost use Rattle.name_closure.specs.Loading.{AreLoaded, AreLoads, AreOthers, IsRound};
 
 use crate::gates::{Gate, pass_gate};
-use crate::pieces::{Piece, cut, put_together};
+use crate::shares::{Share, cut, put_together};
 use name_closure::{Loads, Round, load_each, names_of};
 use plain_values::Key;
 use std::alloc::{AllocError, Global};
 use std::thread;
 use std::thread::Threads;
 
-// What a worker does: it passes the gate, and loads the nodes of its piece.
-fn load_piece<K: Key, L: Loads<K>, G: Gate>(
+// What a worker does: it passes the gate, and loads the nodes of its share.
+fn load_share<K: Key, L: Loads<K>, G: Gate>(
     alloc: Global,
     loader: &L,
     gate: &G,
-    piece: Piece<K>,
+    share: Share<K>,
 ) -> Result<Vec<(K, L::Loaded)>, AllocError>
-    requires nodes { All (L.is_node loader.now) piece.nodes.items }
-    ensures pairs { IfOk result (λ pairs. AreLoads (L.is_loaded loader.now) piece.nodes.items pairs.items) }
+    requires nodes { All (L.is_node loader.now) share.nodes.items }
+    ensures pairs { IfOk result (λ pairs. AreLoads (L.is_loaded loader.now) share.nodes.items pairs.items) }
 {
-    pass_gate(gate, piece.number);
-    load_each(alloc, loader, piece.nodes)
+    pass_gate(gate, share.number);
+    load_each(alloc, loader, share.nodes)
 }
 
-// What was loaded of each piece, each by a worker of its own, in the order of their numbers.
-fn load_pieces<R: Threads + Sync, K: Key + Send, L: Loads<K> + Sync, G: Gate + Sync>(
+// What was loaded of each share, each by a worker of its own, in the order of their numbers.
+fn load_shares<R: Threads + Sync, K: Key + Send, L: Loads<K> + Sync, G: Gate + Sync>(
     rt: &R,
     alloc: Global,
     loader: &L,
     gate: &G,
-    pieces: Vec<Piece<K>>,
+    shares: Vec<Share<K>>,
 ) -> Result<Vec<Result<Vec<(K, L::Loaded)>, AllocError>>, AllocError>
 where
     L::Loaded: Send,
-    requires nodes { All (λ piece. All (L.is_node loader.now) piece.nodes.items) pieces.items }
-    ensures len { IfOk result (λ parts. length parts.items ≡ length pieces.items) }
-    ensures each { IfOk result (λ parts. (i : ℕ) (piece : _) (part : _) → i < length pieces.items
+    requires nodes { All (λ share. All (L.is_node loader.now) share.nodes.items) shares.items }
+    ensures len { IfOk result (λ parts. length parts.items ≡ length shares.items) }
+    ensures each { IfOk result (λ parts. (i : ℕ) (share : _) (part : _) → i < length shares.items
         → IfOk (slice_index_or parts.items i part)
-        (λ pairs. AreLoads (L.is_loaded loader.now) (slice_index_or pieces.items i piece).nodes.items pairs.items)) }
+        (λ pairs. AreLoads (L.is_loaded loader.now) (slice_index_or shares.items i share).nodes.items pairs.items)) }
 {
-    let load = |piece: Piece<K>| -> Result<Vec<(K, L::Loaded)>, AllocError>
-        requires { All (L.is_node loader.now) piece.nodes.items }
-        ensures { IfOk result (λ pairs. AreLoads (L.is_loaded loader.entry.now) piece.nodes.items pairs.items) }
-    { load_piece(alloc, loader, gate, piece) };
-    thread::map_vec(rt, pieces, &load)
+    let load = |share: Share<K>| -> Result<Vec<(K, L::Loaded)>, AllocError>
+        requires { All (L.is_node loader.now) share.nodes.items }
+        ensures { IfOk result (λ pairs. AreLoads (L.is_loaded loader.entry.now) share.nodes.items pairs.items) }
+    { load_share(alloc, loader, gate, share) };
+    thread::map_vec(rt, shares, &load)
 }
 
 // What is named in each part of what a round loaded and isn't the round's own. So many workers take parts of the same size, but
@@ -105,7 +105,12 @@ where
 
 // What a round of new nodes loads, by so many workers: each of them with what is loaded for it, and the other nodes that are
 // named there.
-pub fn load_by_workers<R: Threads + Sync, K: Key + Send + Sync, L: Loads<K> + Sync, G: Gate + Sync>(
+pub(crate) fn load_by_workers<
+    R: Threads + Sync,
+    K: Key + Send + Sync,
+    L: Loads<K> + Sync,
+    G: Gate + Sync,
+>(
     rt: &R,
     alloc: Global,
     loader: &L,
@@ -141,7 +146,7 @@ where
     requires nodes { All (L.is_node loader.now) fresh.items }
     ensures pairs { IfOk result (λ pairs. AreLoads (L.is_loaded loader.now) fresh.items pairs.items) }
 {
-    let pieces = cut(alloc, fresh, workers)?;
-    let parts = load_pieces(rt, alloc, loader, gate, pieces)?;
+    let shares = cut(alloc, fresh, workers)?;
+    let parts = load_shares(rt, alloc, loader, gate, shares)?;
     put_together(alloc, parts)
 }

@@ -6,27 +6,27 @@ use Rattle.index_rows.specs.Steps.{AreStepsOf, LeadsInside}
 use Rattle.index_rows.proofs.Works.{IsWork, IsWork-init, IsWork-step, IsWork-done}
 use Rattle.index_rows.proofs.closures.reached_inside.Goals as goal
 
-pub todo-init : goal.todo-init
-todo-init c = IsWork-init (length c.args.inside.now) (LeadsInside c.args.inside.now c.args.steps.now) c.args.sources.now _ _ _ _ c.in_ok-seen.ensures.none c.new-todo.ensures.items c.in_ok-spread.ensures
+pub loop-node-init : goal.loop-node-init
+loop-node-init c = IsWork-init (length c.args.inside.now) (LeadsInside c.args.inside.now c.args.steps.now) c.args.sources.now _ _ _ _ c.in_ok-seen.ensures.none c.new-todo.ensures.items c.in_ok-spread.ensures
 
-work : (c : goal.After-todo-in-Some-1) → IsWork (length c.args.inside.now) (LeadsInside c.args.inside.now c.args.steps.now) c.args.sources.now c.todo.seen.items (c.pop.new.self.items ++ c.in-Some.node ∷ [])
+work : (c : goal.After-todo-in-Some-1) → IsWork (length c.args.inside.now) (LeadsInside c.args.inside.now c.args.steps.now) c.args.sources.now c.loop-node.seen.items (c.pop.new.self.items ++ c.in-Some.node ∷ [])
 work c =
-    let P : List ℕ → Type 0 = λ t. IsWork (length c.args.inside.now) (LeadsInside c.args.inside.now c.args.steps.now) c.args.sources.now c.todo.seen.items t in
-    subst P c.in-Some.ensures.items c.todo.invariant
+    let P : List ℕ → Type 0 = λ t. IsWork (length c.args.inside.now) (LeadsInside c.args.inside.now c.args.steps.now) c.args.sources.now c.loop-node.seen.items t in
+    subst P c.in-Some.ensures.items c.loop-node.invariant
 
 pub spread-requires-in-Some : goal.spread-requires-in-Some
 spread-requires-in-Some c =
     let w = work c in
-    let lt : c.in-Some.node < length c.todo.seen.items = Marked-within _ _ (w.noted c.in-Some.node (IsAmong-push c.in-Some.node c.pop.new.self.items)) in
+    let lt : c.in-Some.node < length c.loop-node.seen.items = Marked-within _ _ (w.noted c.in-Some.node (IsAmong-push c.in-Some.node c.pop.new.self.items)) in
     let P : ℕ → Type 0 = λ n. AreStepsOf n c.args.steps.now in
     record { steps = subst P (sym w.units) c.requires.steps; inside = sym w.units; node = lt }
 
-pub todo-preserved : goal.todo-preserved
-todo-preserved c =
+pub loop-node-preserved : goal.loop-node-preserved
+loop-node-preserved c =
     IsWork-step _ _ _ c.in-Some.node _ _ _ _ _ (inside_is c.args.inside.now c.args.steps.now c.in-Some.node)
-    (subst (λ t. IsWork (length c.args.inside.now) (LeadsInside c.args.inside.now c.args.steps.now) c.args.sources.now c.todo.seen.items t) c.in-Some.ensures.items c.todo.invariant) c.in_ok-spread-2.ensures.spread
+    (subst (λ t. IsWork (length c.args.inside.now) (LeadsInside c.args.inside.now c.args.steps.now) c.args.sources.now c.loop-node.seen.items t) c.in-Some.ensures.items c.loop-node.invariant) c.in_ok-spread-2.ensures.spread
 
 pub returns-clause-reached : goal.returns-clause-reached
 returns-clause-reached c =
-    let out : ¬ (0 < vec_len c.todo.todo) = λ l. cc (c.in_default.ensures.variant.1 l) in
-    IsWork-done (length c.args.inside.now) (LeadsInside c.args.inside.now c.args.steps.now) c.args.sources.now c.todo.seen.items c.todo.todo.items (empty_list _ (omega (arith, c.todo.todo.ok))) c.todo.invariant
+    let out : ¬ (0 < vec_len c.loop-node.todo) = λ l. cc (c.in_default.ensures.variant.1 l) in
+    IsWork-done (length c.args.inside.now) (LeadsInside c.args.inside.now c.args.steps.now) c.args.sources.now c.loop-node.seen.items c.loop-node.todo.items (empty_list _ (omega (arith, c.loop-node.todo.ok))) c.loop-node.invariant

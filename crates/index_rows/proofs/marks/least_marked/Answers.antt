@@ -15,16 +15,16 @@ below_all marks nodes least h w m a =
 
 pub returns-then-least-marks : goal.returns-then-least-marks
 returns-then-least-marks c =
-    let found = c.nodes.invariant.found c.if-least-marks.true in
-    let low = below_all c.args.marks.now c.args.nodes.now c.nodes.least (λ k l. c.nodes.invariant.least k (omega (arith, l))) in
+    let found = c.loop-node.invariant.found c.if-least-marks.true in
+    let low = below_all c.args.marks.now c.args.nodes.now c.loop-node.least (λ k l. c.loop-node.invariant.least k (omega (arith, l))) in
     record {
-      member = (among_from_contains c.nodes.least c.args.nodes.now found.1, found.0);
-      least = λ v m h. (let a = low v m.1 m.0 in let b = cmp_below v c.nodes.least h in omega (arith, a, b));
+      member = (among_from_contains c.loop-node.least c.args.nodes.now found.1, found.0);
+      least = λ v m h. (let a = low v m.1 m.0 in let b = cmp_below v c.loop-node.least h in omega (arith, a, b));
     }
 
 pub returns-else-least-marks : goal.returns-else-least-marks
 returns-else-least-marks c = λ v h m.
-    (let low = below_all c.args.marks.now c.args.nodes.now c.nodes.least (λ k l. c.nodes.invariant.least k (omega (arith, l))) in
+    (let low = below_all c.args.marks.now c.args.nodes.now c.loop-node.least (λ k l. c.loop-node.invariant.least k (omega (arith, l))) in
     let a = low v m h in
     let b = Marked-within c.args.marks.now v m in
     let d = c.if-least-marks.false in

@@ -4,7 +4,7 @@ use Rattle.std.specs.declared.alloc.Global.{Global}
 use Rattle.index_rows.specs.Rows.{Marked}
 use Rattle.index_rows.proofs.Listing.{IsListedBelow, IsListedBelow-none, IsListedBelow-more, IsListedBelow-skip}
 use Rattle.index_rows.proofs.marks.marked_nodes.Goals as goal
-use Rattle.index_rows.proofs.marks.marked_nodes.Goals.{then-marks-node+in_ok-push, else-marks-node}
+use Rattle.index_rows.proofs.marks.marked_nodes.Goals.{then-is_marked+in_ok-push, else-is_marked}
 
 pub loop-node-init : goal.loop-node-init
 loop-node-init c =
@@ -16,9 +16,9 @@ unset_here b e f = cc
 
 pub loop-node-preserved : goal.loop-node-preserved
 loop-node-preserved c =
-    elim c.if-marks-node.branch [
-      | then-marks-node+in_ok-push w ↦
-          IsListedBelow-more _ _ _ _ c.loop-node.invariant w.if-marks-node.true (ap (λ (v : Vec ℕ Global). v.items) w.nodes-is ∙ w.in_ok-push.ensures.items)
-      | else-marks-node w ↦
-          IsListedBelow-skip _ _ _ _ c.loop-node.invariant (unset_here _ w.if-marks-node.false) (ap (λ (v : Vec ℕ Global). v.items) w.nodes-is)
+    elim c.if-is_marked.branch [
+      | then-is_marked+in_ok-push w ↦
+          IsListedBelow-more _ _ _ _ c.loop-node.invariant w.if-is_marked.true (ap (λ (v : Vec ℕ Global). v.items) w.nodes-is ∙ w.in_ok-push.ensures.items)
+      | else-is_marked w ↦
+          IsListedBelow-skip _ _ _ _ c.loop-node.invariant (unset_here _ w.if-is_marked.false) (ap (λ (v : Vec ℕ Global). v.items) w.nodes-is)
     ]

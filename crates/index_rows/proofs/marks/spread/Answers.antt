@@ -7,17 +7,17 @@ use Rattle.index_rows.proofs.Spreading.{IsSpread-more, IsSpread-skip, IsSpread-a
 use Rattle.index_rows.proofs.marks.spread.Goals as goal
 use Rattle.index_rows.proofs.marks.spread.Goals.{then-not-index+in_ok-push, else-not-index}
 
-within : (c : goal.Joined-not-index) → get_or c.args.nodes.now c.nodes.node-index 0 < length c.nodes.seen.items
-within c = omega (arith, c.requires c.nodes.node-index 0 c.nodes-test.true, c.nodes.invariant.units)
+within : (c : goal.Joined-not-index) → get_or c.args.nodes.now c.loop-node.node-index 0 < length c.loop-node.seen.items
+within c = omega (arith, c.requires c.loop-node.node-index 0 c.loop-node-test.true, c.loop-node.invariant.units)
 
-pub nodes-preserved : goal.nodes-preserved
-nodes-preserved c =
-    let nodes = take_more c.args.nodes.now c.nodes.node-index 0 c.nodes-test.true in
+pub loop-node-preserved : goal.loop-node-preserved
+loop-node-preserved c =
+    let nodes = take_more c.args.nodes.now c.loop-node.node-index 0 c.loop-node-test.true in
     elim c.if-not-index.branch [
       | then-not-index+in_ok-push w ↦
           IsSpread-at _ _ _ _ _ _ _ _ (ap (λ (v : Vec Bool Global). v.items) w.seen-is) (ap (λ (v : Vec ℕ Global). v.items) w.noted-is ∙ w.in_ok-push.ensures.items) nodes
-          (IsSpread-more _ _ _ _ _ _ (within c) (unmarked_read _ _ _ c.index.ensures (within c) w.if-not-index.true) c.nodes.invariant)
+          (IsSpread-more _ _ _ _ _ _ (within c) (unmarked_read _ _ _ c.index.ensures (within c) w.if-not-index.true) c.loop-node.invariant)
       | else-not-index w ↦
           IsSpread-at _ _ _ _ _ _ _ _ (ap (λ (v : Vec Bool Global). v.items) w.seen-is) (ap (λ (v : Vec ℕ Global). v.items) w.noted-is) nodes
-          (IsSpread-skip _ _ _ _ _ _ (marked_read _ _ _ c.index.ensures (within c) w.if-not-index.false) c.nodes.invariant)
+          (IsSpread-skip _ _ _ _ _ _ (marked_read _ _ _ c.index.ensures (within c) w.if-not-index.false) c.loop-node.invariant)
     ]

@@ -4,5 +4,5 @@ use Rattle.index_rows.specs.Spreads.{IsSpread}
 use Rattle.index_rows.specs.Steps.{steps_from}
 use Rattle.index_rows.proofs.shortest.next_level.Given as goal
 
-abbrev pub invariant-level : goal.invariant-level
-invariant-level l = IsSpread l.fn.seen.items l.seen.items [] l.next.items (flat_map (steps_from l.steps) (take l.node-index l.level))
+abbrev pub invariant-loop-node : goal.invariant-loop-node
+invariant-loop-node l = IsSpread l.fn.seen.items l.seen.items [] l.next.items (flat_map (steps_from l.steps) (take l.node-index l.level))

@@ -1,5 +1,5 @@
 use Rattle.std.proofs.Common.{◌≡◌, ◌++◌, map, take}
 use Rattle.index_rows.proofs.shortest.push_level.Given as goal
 
-abbrev pub invariant-level : goal.invariant-level
-invariant-level l = l.pairs.items ≡ l.fn.pairs.items ++ map (λ v. (l.distance, v)) (take l.node-index l.level)
+abbrev pub invariant-loop-node : goal.invariant-loop-node
+invariant-loop-node l = l.pairs.items ≡ l.fn.pairs.items ++ map (λ v. (l.distance, v)) (take l.node-index l.level)

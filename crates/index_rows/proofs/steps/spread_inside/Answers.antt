@@ -10,14 +10,14 @@ use Rattle.index_rows.proofs.steps.spread_inside.Goals.{then-inside-node+in_ok-m
 abbrev items : {A : Type 0} → Vec A Global → List A
 items v = v.items
 
-pub nodes-preserved : goal.nodes-preserved
-nodes-preserved c =
-    let more = take_more c.args.nodes.now c.nodes.node-index 0 c.nodes-test.true in
+pub loop-node-preserved : goal.loop-node-preserved
+loop-node-preserved c =
+    let more = take_more c.args.nodes.now c.loop-node.node-index 0 c.loop-node-test.true in
     elim c.if-inside-node.branch [
       | then-inside-node+in_ok-mark w ↦
           IsSpread-at _ _ _ _ _ _ _ _ (ap items w.seen-is) (ap items w.noted-is) refl
-          (spread_marked _ _ _ _ c.args.inside.now _ _ (get_or c.args.nodes.now c.nodes.node-index 0) more c.nodes.invariant _ _ w.if-inside-node.true w.in_ok-mark.ensures)
+          (spread_marked _ _ _ _ c.args.inside.now _ _ (get_or c.args.nodes.now c.loop-node.node-index 0) more c.loop-node.invariant _ _ w.if-inside-node.true w.in_ok-mark.ensures)
       | else-inside-node w ↦
           IsSpread-at _ _ _ _ _ _ _ _ (ap items w.seen-is) (ap items w.noted-is) refl
-          (spread_unmarked _ _ _ _ c.args.inside.now _ _ (get_or c.args.nodes.now c.nodes.node-index 0) more c.nodes.invariant w.if-inside-node.false)
+          (spread_unmarked _ _ _ _ c.args.inside.now _ _ (get_or c.args.nodes.now c.loop-node.node-index 0) more c.loop-node.invariant w.if-inside-node.false)
     ]

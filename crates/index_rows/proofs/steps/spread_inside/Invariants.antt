@@ -3,5 +3,5 @@ use Rattle.index_rows.specs.Spreads.{IsSpread}
 use Rattle.index_rows.specs.Steps.{is_marked}
 use Rattle.index_rows.proofs.steps.spread_inside.Given as goal
 
-abbrev pub invariant-nodes : goal.invariant-nodes
-invariant-nodes l = IsSpread l.fn.seen.items l.seen.items l.fn.noted.items l.noted.items (filter (is_marked l.inside) (take l.node-index l.nodes))
+abbrev pub invariant-loop-node : goal.invariant-loop-node
+invariant-loop-node l = IsSpread l.fn.seen.items l.seen.items l.fn.noted.items l.noted.items (filter (is_marked l.inside) (take l.node-index l.nodes))

@@ -1,10 +1,8 @@
-use Rattle.name_closure.specs.ListedLaws.{Listed}
-use Rattle.index_rows.specs.Numbering.{AreNames}
-use Rattle.inverse_deps.specs.Edges.{DependsOn}
-use Rattle.inverse_deps.specs.Numbers.{count_of, name_at}
+use Rattle.std.specs.List.{slice_index_or}
+use Rattle.setting_rules.specs.declared.kinds.DepKind.TheVariants.{Before}
+use Rattle.inverse_deps.specs.Tables.{AreNamingRows}
 use Rattle.inverse_deps.specs.MakingLaws.{AreMade}
 use Rattle.inverse_deps.proofs.steps.dependency_rows.Given as goal
 
-abbrev pub invariant-names : goal.invariant-names
-invariant-names l =
-    AreMade (λ k r. AreNames (count_of l.loaded) (name_at l.loaded) (Listed r.items) (DependsOn l.loaded l.kind (name_at l.loaded k))) l.number l.rows.items
+abbrev pub invariant-loop-kind : goal.invariant-loop-kind
+invariant-loop-kind l = AreMade (λ k rows. AreNamingRows l.loaded (slice_index_or l.kind-items k Before) rows) l.kind-index l.rows

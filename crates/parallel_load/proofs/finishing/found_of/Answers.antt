@@ -1,9 +1,8 @@
-use Rattle.std.proofs.Common.{◌∙◌, List, IsTrue, ap, subst, sym}
+use Rattle.std.proofs.Common.{◌∙◌, List, IsTrue, subst, sym}
 use Rattle.std.specs.FinMap.{is_sorted}
-use Rattle.std.specs.List.{filter_map}
 use Rattle.unit_name.specs.Names.{Name, name_cmp}
 use Rattle.parallel_load.specs.declared.loaded.NameLoad.{NameLoad}
-use Rattle.parallel_load.specs.Mains.{alias_pair}
+use Rattle.parallel_load.specs.Settled.{AreNumbered}
 use Rattle.parallel_load.specs.UniverseLaws.{sorted_from}
 use Rattle.parallel_load.proofs.finishing.found_of.Goals as goal
 
@@ -14,5 +13,6 @@ of-requires c = record {
       (sorted_from c.args.found.entries c.requires.rising);
 }
 
-pub returns-clause-aliases : goal.returns-clause-aliases
-returns-clause-aliases c = c.in_ok-aliases.ensures.aliases ∙ ap (filter_map alias_pair) (c.as_slice.ensures.value ∙ c.in_ok-pairs.ensures.pairs)
+pub returns-clause-mains : goal.returns-clause-mains
+returns-clause-mains c =
+    subst (λ (ps : List (Name × NameLoad)). AreNumbered ps ps c.in_ok-mains.mains) (c.as_slice.ensures.value ∙ c.in_ok-pairs.ensures.pairs) c.in_ok-mains.ensures.mains

@@ -12,7 +12,7 @@ use Rattle.parallel_load.specs.declared.loaded.NameLoad.{NameLoad}
 use Rattle.parallel_load.specs.Alone.{IsLoadAlone, named_in}
 use Rattle.parallel_load.specs.Universe.{IsTooLarge}
 use Rattle.parallel_load.proofs.Closing.{not_too_large, too_large}
-use Rattle.parallel_load.proofs.Settling.{both, load_is, over_here, refused_over}
+use Rattle.parallel_load.proofs.Settling.{both, load_is, over_here, refused_over, whole_found}
 use Rattle.parallel_load.proofs.loads.load_here.Goals as goal
 
 pub returns-in_err-found-clause-over : goal.returns-in_err-found-clause-over
@@ -40,3 +40,10 @@ returns-clause-not_over c =
     c.as_slice.result.now c.in_ok-sources.sources.items c.in_ok-loader.loader.index c.args.store.now c.as_slice.ensures.value c.in_ok-loader.ensures.store c.in_ok-found.ensures.closure)
     (subst (λ (t : EntryMap). AreLoaded (IsLoadAlone t) c.in_ok-found.found.entries) c.in_ok-loader.ensures.store c.in_ok-found.ensures.loaded)
     (subst (λ (k : ℕ). k ≤ 4096) (sym (length-map c.in_ok-found.found.entries (λ (p : Name × NameLoad). p.0))) c.in_ok-found.ensures.room)
+
+pub settled-requires-clause-whole : goal.settled-requires-clause-whole
+settled-requires-clause-whole c =
+    whole_found c.args.store.now c.args.extra.now c.in_ok-sources.sources.items c.in_ok-sources.ensures.sources c.in_ok-found.found.entries
+    (both (λ ns t. IsClosure (Listed ns) (LeadsByLoad (IsLoadAlone t) named_in) name_cmp (keys_of c.in_ok-found.found.entries))
+    c.as_slice.result.now c.in_ok-sources.sources.items c.in_ok-loader.loader.index c.args.store.now c.as_slice.ensures.value c.in_ok-loader.ensures.store c.in_ok-found.ensures.closure)
+    (subst (λ (t : EntryMap). AreLoaded (IsLoadAlone t) c.in_ok-found.found.entries) c.in_ok-loader.ensures.store c.in_ok-found.ensures.loaded)

@@ -4,13 +4,13 @@ use Rattle.plan_choice.specs.Losing.{SetsMarks}
 use Rattle.plan_choice.proofs.ChoiceLemmas.{SetsMarks-none, SetsMarks-more}
 use Rattle.plan_choice.proofs.choices.set_marks.Goals as goal
 
-pub nodes-init : goal.nodes-init
-nodes-init c = SetsMarks-none c.args.marks.now.items c.args.value
+pub loop-node-init : goal.loop-node-init
+loop-node-init c = SetsMarks-none c.args.marks.now.items c.args.value
 
-pub nodes-preserved : goal.nodes-preserved
-nodes-preserved c =
-    let within : get_or c.args.nodes.now c.nodes.node-index 0 < length c.nodes.marks.items = omega (arith, c.requires c.nodes.node-index 0 c.nodes-test.true, c.nodes.invariant.units) in
-    SetsMarks-more _ _ _ _ _ _ within (take_more c.args.nodes.now c.nodes.node-index 0 c.nodes-test.true) c.nodes.invariant
+pub loop-node-preserved : goal.loop-node-preserved
+loop-node-preserved c =
+    let within : get_or c.args.nodes.now c.loop-node.node-index 0 < length c.loop-node.marks.items = omega (arith, c.requires c.loop-node.node-index 0 c.loop-node-test.true, c.loop-node.invariant.units) in
+    SetsMarks-more _ _ _ _ _ _ within (take_more c.args.nodes.now c.loop-node.node-index 0 c.loop-node-test.true) c.loop-node.invariant
 
 pub returns : goal.returns
-returns c = subst (λ l. SetsMarks c.args.marks.now.items c.nodes.marks.items l c.args.value) (take_all c.nodes.node-index c.args.nodes.now (omega arith)) c.nodes.invariant
+returns c = subst (λ l. SetsMarks c.args.marks.now.items c.loop-node.marks.items l c.args.value) (take_all c.loop-node.node-index c.args.nodes.now (omega arith)) c.loop-node.invariant

@@ -10,34 +10,34 @@ use Rattle.index_rows.specs.Steps.{steps_from}
 use Rattle.plan_choice.proofs.Fitting.{tested_none, tested_some, untrue}
 use Rattle.plan_choice.proofs.WishLemmas.{listed_more, listed_still}
 use Rattle.plan_choice.proofs.plans.ousted.Goals as goal
-use Rattle.plan_choice.proofs.plans.ousted.Goals.{then-outside-unit+then-is_some+in_ok-push, else-outside-unit, else-outside-unit-via-then-outside-unit+else-is_some, else-outside-unit-via-else-outside-unit}
+use Rattle.plan_choice.proofs.plans.ousted.Goals.{then-is_outside+then-is_some+in_ok-push, else-is_outside, else-is_outside-via-then-is_outside+else-is_some, else-is_outside-via-else-is_outside}
 
 pub least_marked-requires : goal.least_marked-requires
-least_marked-requires c = record { steps = c.requires.rivals; node = (let l = c.units-test.true in omega (arith, l, c.requires.units)) }
+least_marked-requires c = record { steps = c.requires.rivals; node = (let l = c.loop-unit-test.true in omega (arith, l, c.requires.units)) }
 
-pub units-preserved : goal.units-preserved
-units-preserved c =
-    let there : ℕ → Type 0 = λ v. IsAmong v (steps_from c.args.rivals.now c.units.unit) in
+pub loop-unit-preserved : goal.loop-unit-preserved
+loop-unit-preserved c =
+    let there : ℕ → Type 0 = λ v. IsAmong v (steps_from c.args.rivals.now c.loop-unit.unit) in
     let P : ℕ → Type 0 = λ u. Marked c.args.outside.now u × ((v : ℕ) × (IsAmong v (steps_from c.args.rivals.now u) × Marked c.args.chosen.now v)) in
-    elim c.if-outside-unit.branch [
-      | then-outside-unit+then-is_some+in_ok-push w ↦
+    elim c.if-is_outside.branch [
+      | then-is_outside+then-is_some+in_ok-push w ↦
           (let found = tested_some ((v : ℕ) → there v → ¬ Marked c.args.chosen.now v) (IsLeast nat_cmp (λ v. there v × Marked c.args.chosen.now v)) w.least_marked.result w.least_marked.ensures.least (sym w.is_some.ensures ∙ w.if-is_some.true) in
-          listed_more P _ _ _ c.units.invariant (w.if-outside-unit.true, (found.0, (found.1.member.0, found.1.member.1)))
+          listed_more P _ _ _ c.loop-unit.invariant (w.if-is_outside.true, (found.0, (found.1.member.0, found.1.member.1)))
           (ap (λ (v : Vec ℕ Global). v.items) w.units-is ∙ w.in_ok-push.ensures.items))
-      | else-outside-unit w ↦ elim w.else-outside-unit.branch [
-        | else-outside-unit-via-then-outside-unit+else-is_some v ↦
+      | else-is_outside w ↦ elim w.else-is_outside.branch [
+        | else-is_outside-via-then-is_outside+else-is_some v ↦
             (let none = tested_none ((x : ℕ) → there x → ¬ Marked c.args.chosen.now x) (IsLeast nat_cmp (λ x. there x × Marked c.args.chosen.now x)) v.least_marked.result v.least_marked.ensures.least (sym v.is_some.ensures ∙ v.if-is_some.false) in
-            listed_still P _ _ _ c.units.invariant (λ h. none h.1.0 h.1.1.0 h.1.1.1) (ap (λ (x : Vec ℕ Global). x.items) w.units-is))
-        | else-outside-unit-via-else-outside-unit v ↦
-            listed_still P _ _ _ c.units.invariant (λ h. untrue _ v.if-outside-unit.false h.0) (ap (λ (x : Vec ℕ Global). x.items) w.units-is)
+            listed_still P _ _ _ c.loop-unit.invariant (λ h. none h.1.0 h.1.1.0 h.1.1.1) (ap (λ (x : Vec ℕ Global). x.items) w.units-is))
+        | else-is_outside-via-else-is_outside v ↦
+            listed_still P _ _ _ c.loop-unit.invariant (λ h. untrue _ v.if-is_outside.false h.0) (ap (λ (x : Vec ℕ Global). x.items) w.units-is)
       ]
     ]
 
 pub returns : goal.returns
 returns c = record {
-  below = λ u h. (let l : u < c.units.unit = ((c.units.invariant u).0 h).0 in omega (arith, l, c.requires.units));
+  below = λ u h. (let l : u < c.loop-unit.unit = ((c.loop-unit.invariant u).0 h).0 in omega (arith, l, c.requires.units));
   members = λ u. (
-    λ h. ((c.units.invariant u).0 h).1,
-    λ h. (let l = Marked-within c.args.outside.now u h.0 in (c.units.invariant u).1 (omega (arith, l), h)),
+    λ h. ((c.loop-unit.invariant u).0 h).1,
+    λ h. (let l = Marked-within c.args.outside.now u h.0 in (c.loop-unit.invariant u).1 (omega (arith, l), h)),
   );
 }

@@ -2,5 +2,5 @@ use Rattle.std.proofs.Common.{take}
 use Rattle.start_order.specs.Counts.{IsLowered}
 use Rattle.start_order.proofs.counts.lower.Given as goal
 
-abbrev pub invariant-nodes : goal.invariant-nodes
-invariant-nodes l = IsLowered l.chosen (take l.other-index l.nodes) l.fn.counts.items l.counts.items l.fn.free l.free
+abbrev pub invariant-loop-other : goal.invariant-loop-other
+invariant-loop-other l = IsLowered l.chosen (take l.other-index l.nodes) l.fn.counts.items l.counts.items l.fn.free l.free

@@ -2,8 +2,8 @@ use Rattle.std.proofs.Common.{◌≡◌, ◌≤◌, take}
 use Rattle.start_order.specs.Counts.{waiting as waiting_of}
 use Rattle.start_order.proofs.counts.waiting.Given as goal
 
-abbrev pub invariant-nodes : goal.invariant-nodes
-invariant-nodes l = record {
+abbrev pub invariant-loop-other : goal.invariant-loop-other
+invariant-loop-other l = record {
   counted : l.count ≡ waiting_of l.chosen l.standing (take l.other-index l.nodes);
   short : l.count ≤ l.other-index;
 }

@@ -7,29 +7,29 @@ use Rattle.start_order.specs.Walks.{IsWalk}
 use Rattle.start_order.proofs.Rings.{agree_push, IsWalk-more}
 use Rattle.start_order.proofs.cycles.walk.Goals as goal
 
-within : (c : goal.After-blocker-next) → c.walk.next < length c.walk.seen.items
-within c = (let l = Marked-within c.args.stuck.now c.walk.next c.walk.invariant.stuck in omega (arith, l, c.walk.invariant.units))
+within : (c : goal.After-blocker-next) → c.loop-met.next < length c.loop-met.seen.items
+within c = (let l = Marked-within c.args.stuck.now c.loop-met.next c.loop-met.invariant.stuck in omega (arith, l, c.loop-met.invariant.units))
 
-fresh : (c : goal.After-blocker-next) → ¬ Marked c.walk.seen.items c.walk.next
-fresh c = unmarked_read c.walk.seen.items c.walk.next c.index.result.now c.index.ensures (within c) c.walk-test.true
+fresh : (c : goal.After-blocker-next) → ¬ Marked c.loop-met.seen.items c.loop-met.next
+fresh c = unmarked_read c.loop-met.seen.items c.loop-met.next c.index.result.now c.index.ensures (within c) c.loop-met-test.true
 
-pub walk-smaller : goal.walk-smaller
-walk-smaller c = let e = unset-set c.walk.seen.items c.walk.next (within c) (fresh c) in omega (arith, e)
+pub loop-met-smaller : goal.loop-met-smaller
+loop-met-smaller c = let e = unset-set c.loop-met.seen.items c.loop-met.next (within c) (fresh c) in omega (arith, e)
 
-pub walk-preserved : goal.walk-preserved
-walk-preserved c =
-    let items : c.push.new.self.items ≡ c.walk.met.items ++ c.walk.next ∷ [] = c.in_ok-push.ensures.items in
-    let agree = agree_push c.walk.seen.items c.walk.met.items c.walk.next (within c) c.walk.invariant.agree in
-    let P : List ℕ → Type 0 = λ t. (v : ℕ) → Marked (set c.walk.seen.items c.walk.next true) v ↔ IsAmong v t in
+pub loop-met-preserved : goal.loop-met-preserved
+loop-met-preserved c =
+    let items : c.push.new.self.items ≡ c.loop-met.met.items ++ c.loop-met.next ∷ [] = c.in_ok-push.ensures.items in
+    let agree = agree_push c.loop-met.seen.items c.loop-met.met.items c.loop-met.next (within c) c.loop-met.invariant.agree in
+    let P : List ℕ → Type 0 = λ t. (v : ℕ) → Marked (set c.loop-met.seen.items c.loop-met.next true) v ↔ IsAmong v t in
     let Q : List ℕ → Type 0 = λ t. IsWalk (Marked c.args.stuck.now) (Precedes c.args.before.now) t c.blocker-next.result in
     record {
-      units = length-set c.walk.seen.items c.walk.next true ∙ c.walk.invariant.units;
+      units = length-set c.loop-met.seen.items c.loop-met.next true ∙ c.loop-met.invariant.units;
       agree = subst P (sym items) agree;
-      walk = subst Q (sym items) (IsWalk-more _ _ _ _ _ c.walk.invariant.walk (λ h. fresh c ((c.walk.invariant.agree _).1 h)) c.blocker-next.ensures);
+      walk = subst Q (sym items) (IsWalk-more _ _ _ _ _ c.loop-met.invariant.walk (λ h. fresh c ((c.loop-met.invariant.agree _).1 h)) c.blocker-next.ensures);
       stuck = c.blocker-next.ensures.member.0;
     }
 
 pub returns-clause-met : goal.returns-clause-met
 returns-clause-met c =
-    let l = Marked-within c.args.stuck.now c.walk.next c.walk.invariant.stuck in
-    (c.walk.invariant.agree c.walk.next).0 (marked_read c.walk.seen.items c.walk.next c.index.result.now c.index.ensures (omega (arith, l, c.walk.invariant.units)) c.walk-test.false)
+    let l = Marked-within c.args.stuck.now c.loop-met.next c.loop-met.invariant.stuck in
+    (c.loop-met.invariant.agree c.loop-met.next).0 (marked_read c.loop-met.seen.items c.loop-met.next c.index.result.now c.index.ensures (omega (arith, l, c.loop-met.invariant.units)) c.loop-met-test.false)

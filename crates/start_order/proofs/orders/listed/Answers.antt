@@ -15,17 +15,17 @@ free_at_first chosen counts ready read free e f r v =
     let g = subst P e (f v) in
     (λ h. (r v).0 (g.0 h), λ h. g.1 ((r v).1 h))
 
-pub starts-init : goal.starts-init
-starts-init c =
+pub loop-node-init : goal.loop-node-init
+loop-node-init c =
     IsState-begin _ _ _ _ _ _ _ _ c.in_ok-standing.ensures.none c.deref.ensures.value c.deref-2.ensures.value c.new-list.ensures.items c.requires.before.one_each
     c.in_ok-counts.ensures.units c.in_ok-counts.ensures.counts
     (free_at_first c.args.chosen.now c.deref-2.result.now c.in_ok-ready.field-0.items c.deref-3.result.now c.in_ok-free.free c.deref-3.ensures.value c.in_ok-free.ensures.free c.in_ok-ready.ensures)
 
 pub index_mut-requires : goal.index_mut-requires
-index_mut-requires c = let a = within_of _ _ _ _ _ _ c.starts.invariant c.in-Some.node c.in-Some.ensures.least.0 in omega (arith, a, c.starts.invariant.units, c.starts.standing.ok)
+index_mut-requires c = let a = within_of _ _ _ _ _ _ c.loop-node.invariant c.in-Some.node c.in-Some.ensures.least.0 in omega (arith, a, c.loop-node.invariant.units, c.loop-node.standing.ok)
 
 pub row-requires : goal.row-requires
-row-requires c = let a = within_of _ _ _ _ _ _ c.starts.invariant c.in-Some.node c.in-Some.ensures.least.0 in omega (arith, a, c.requires.after.one_each)
+row-requires c = let a = within_of _ _ _ _ _ _ c.loop-node.invariant c.in-Some.node c.in-Some.ensures.least.0 in omega (arith, a, c.requires.after.one_each)
 
 pub lower-requires-clause-nodes : goal.lower-requires-clause-nodes
 lower-requires-clause-nodes c =
@@ -34,24 +34,24 @@ lower-requires-clause-nodes c =
 
 pub lower-requires-clause-enough : goal.lower-requires-clause-enough
 lower-requires-clause-enough c v =
-    let P : List ℕ → Type 0 = λ r. times v r ≤ get_or c.starts.counts.items v 0 in
+    let P : List ℕ → Type 0 = λ r. times v r ≤ get_or c.loop-node.counts.items v 0 in
     let e = c.requires.turned c.in-Some.node v in
-    subst P (sym c.row.ensures) (enough_of _ _ _ _ _ _ c.starts.invariant c.in-Some.node c.in-Some.ensures.least.0 v _ e)
+    subst P (sym c.row.ensures) (enough_of _ _ _ _ _ _ c.loop-node.invariant c.in-Some.node c.in-Some.ensures.least.0 v _ e)
 
-pub starts-smaller : goal.starts-smaller
-starts-smaller c =
-    let a = within_of _ _ _ _ _ _ c.starts.invariant c.in-Some.node c.in-Some.ensures.least.0 in
-    let e = unset-set c.starts.standing.items c.in-Some.node (omega (arith, a, c.starts.invariant.units)) (unmarked_of _ _ _ _ _ _ c.starts.invariant c.in-Some.node c.in-Some.ensures.least.0) in
+pub loop-node-smaller : goal.loop-node-smaller
+loop-node-smaller c =
+    let a = within_of _ _ _ _ _ _ c.loop-node.invariant c.in-Some.node c.in-Some.ensures.least.0 in
+    let e = unset-set c.loop-node.standing.items c.in-Some.node (omega (arith, a, c.loop-node.invariant.units)) (unmarked_of _ _ _ _ _ _ c.loop-node.invariant c.in-Some.node c.in-Some.ensures.least.0) in
     omega (arith, e)
 
-pub starts-preserved : goal.starts-preserved
-starts-preserved c =
-    let items : c.push.new.self.items ≡ c.starts.list.items ++ c.in-Some.node ∷ [] = c.in_ok-push.ensures.items in
-    let P : List ℕ → Type 0 = λ l. IsState c.args.chosen.now c.args.before.now (set c.starts.standing.items c.in-Some.node true) c.lower.new.counts.items l c.lower.new.free in
+pub loop-node-preserved : goal.loop-node-preserved
+loop-node-preserved c =
+    let items : c.push.new.self.items ≡ c.loop-node.list.items ++ c.in-Some.node ∷ [] = c.in_ok-push.ensures.items in
+    let P : List ℕ → Type 0 = λ l. IsState c.args.chosen.now c.args.before.now (set c.loop-node.standing.items c.in-Some.node true) c.lower.new.counts.items l c.lower.new.free in
     let Q : List ℕ → Type 0 = λ r. (v : ℕ) → times v r ≡ times c.in-Some.node (row_of c.args.before.now v) in
     let turned = subst Q (sym c.row.ensures) (c.requires.turned c.in-Some.node) in
     subst P (sym items)
-    (step _ _ _ _ _ _ c.starts.invariant c.in-Some.node c.in-Some.ensures.least.0 c.in-Some.ensures.least.1 _ _ _ _ c.in-Some.ensures.rest c.in_ok-lower.ensures turned)
+    (step _ _ _ _ _ _ c.loop-node.invariant c.in-Some.node c.in-Some.ensures.least.0 c.in-Some.ensures.least.1 _ _ _ _ c.in-Some.ensures.rest c.in_ok-lower.ensures turned)
 
 pub returns-clause-list : goal.returns-clause-list
-returns-clause-list c = done _ _ _ _ _ _ c.starts.invariant c.in_default.ensures.least
+returns-clause-list c = done _ _ _ _ _ _ c.loop-node.invariant c.in_default.ensures.least

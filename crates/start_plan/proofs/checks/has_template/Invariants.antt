@@ -2,5 +2,5 @@ use Rattle.std.proofs.Common.{take}
 use Rattle.start_plan.specs.Requests.{HasTemplate}
 use Rattle.start_plan.proofs.checks.has_template.Given as goal
 
-abbrev pub invariant-names : goal.invariant-names
-invariant-names l = ¬ HasTemplate (take l.name-index l.names)
+abbrev pub invariant-loop-name : goal.invariant-loop-name
+invariant-loop-name l = ¬ HasTemplate (take l.name-index l.names)

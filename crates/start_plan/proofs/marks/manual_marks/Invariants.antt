@@ -5,5 +5,5 @@ use Rattle.inverse_deps.specs.Numbers.{name_at}
 use Rattle.start_plan.specs.Requests.{is_manual}
 use Rattle.start_plan.proofs.marks.manual_marks.Given as goal
 
-abbrev pub invariant-names : goal.invariant-names
-invariant-names l = AreMade (λ k b. b ≡ is_manual (unit_in l.loaded (name_at l.loaded k))) l.number l.marks.items
+abbrev pub invariant-loop-number : goal.invariant-loop-number
+invariant-loop-number l = AreMade (λ k b. b ≡ is_manual (unit_in l.loaded (name_at l.loaded k))) l.number l.marks.items

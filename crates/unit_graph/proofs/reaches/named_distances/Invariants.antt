@@ -2,5 +2,5 @@ use Rattle.std.proofs.Common.{◌≡◌, map, take}
 use Rattle.inverse_deps.specs.Numbers.{name_at}
 use Rattle.unit_graph.proofs.reaches.named_distances.Given as goal
 
-abbrev pub invariant-pairs : goal.invariant-pairs
-invariant-pairs l = l.named.items ≡ map (λ p. (p.0, name_at l.loaded p.1)) (take l.pair-index l.pairs)
+abbrev pub invariant-loop-pair : goal.invariant-loop-pair
+invariant-loop-pair l = l.named.items ≡ map (λ p. (p.0, name_at l.loaded p.1)) (take l.pair-index l.pairs)

@@ -24,25 +24,25 @@ module _ (old : List (List (Vec ℕ Global))) (rows : List (Vec ℕ Global)) (no
 
 pub row-requires : goal.row-requires
 row-requires c =
-    let rows = kind_rows now c.args.self.now c.self.inside.kinds.items c.deref-rows-items.result.now c.deref-rows-items.ensures.value c.self.view_is c.kinds.rows-index c.rows-item.result c.kinds-test.true c.rows-item.is (length c.args.marks.now) c.requires.steps in
+    let rows = kind_rows now c.args.self.now c.self.inside.kinds.items c.deref-rows-items.result.now c.deref-rows-items.ensures.value c.self.view_is c.loop-rows.rows-index c.rows-item.result c.loop-rows-test.true c.rows-item.is (length c.args.marks.now) c.requires.steps in
     row_there _ _ c.rows-item.result.now c.args.node rows refl c.requires.node
 
 pub least_marked-requires : goal.least_marked-requires
 least_marked-requires c =
-    let rows = kind_rows now c.args.self.now c.self.inside.kinds.items c.deref-rows-items.result.now c.deref-rows-items.ensures.value c.self.view_is c.kinds.rows-index c.rows-item.result c.kinds-test.true c.rows-item.is (length c.args.marks.now) c.requires.steps in
+    let rows = kind_rows now c.args.self.now c.self.inside.kinds.items c.deref-rows-items.result.now c.deref-rows-items.ensures.value c.self.view_is c.loop-rows.rows-index c.rows-item.result c.loop-rows-test.true c.rows-item.is (length c.args.marks.now) c.requires.steps in
     row_inside _ _ c.rows-item.result.now c.args.node c.row.result.now rows refl c.row.ensures
 
-pub kinds-preserved : goal.kinds-preserved
-kinds-preserved c =
+pub loop-rows-preserved : goal.loop-rows-preserved
+loop-rows-preserved c =
     let node = c.args.node in
     let marks = c.args.marks.now in
-    let i = c.kinds.rows-index in
-    let more = kind_more now c.args.self.now c.self.inside.kinds.items c.deref-rows-items.result.now c.deref-rows-items.ensures.value c.self.view_is c.kinds.rows-index c.rows-item.result c.kinds-test.true c.rows-item.is in
+    let i = c.loop-rows.rows-index in
+    let more = kind_more now c.args.self.now c.self.inside.kinds.items c.deref-rows-items.result.now c.deref-rows-items.ensures.value c.self.view_is c.loop-rows.rows-index c.rows-item.result c.loop-rows-test.true c.rows-item.is in
     let old = take i c.args.self.now in
     let rows = c.rows-item.result.now in
     let P : List ℕ → ℕ → Type 0 = λ l v. IsAmong v l × Marked marks v in
     let Q : List ℕ → Type 0 = λ l. IsLeastOrNone (P l) c.least_marked.result in
     let K : List (List (Vec ℕ Global)) → Type 0 = λ ks. IsLeastOrNone (P (steps_from ks node)) c.lesser-least.result in
-    let two = lesser_is (P (steps_from old node)) (P (row_of rows node)) c.kinds.least c.least_marked.result c.kinds.invariant (subst Q c.row.ensures (least_of_both (λ v. IsAmong v c.row.result.now) (Marked marks) c.least_marked.result c.least_marked.ensures)) in
+    let two = lesser_is (P (steps_from old node)) (P (row_of rows node)) c.loop-rows.least c.least_marked.result c.loop-rows.invariant (subst Q c.row.ensures (least_of_both (λ v. IsAmong v c.row.result.now) (Marked marks) c.least_marked.result c.least_marked.ensures)) in
     let both = subst (λ o. IsLeastOrNone (λ v. P (steps_from old node) v ⊎ P (row_of rows node) v) o) (sym c.lesser-least.ensures) two in
     subst K (sym more) (least_same (λ v. P (steps_from old node) v ⊎ P (row_of rows node) v) (P (steps_from (old ++ rows ∷ []) node)) (either_there old rows node marks) (either_back old rows node marks) c.lesser-least.result both)

@@ -6,8 +6,8 @@ use Rattle.inverse_deps.specs.Numbers.{count_of, name_at}
 use Rattle.unit_graph.specs.Graphs.{LeadsBy}
 use Rattle.unit_graph.proofs.graph.Graph.steps.Given as goal
 
-abbrev pub invariant-kinds : goal.invariant-kinds
-invariant-kinds l = record {
+abbrev pub invariant-loop-kind : goal.invariant-loop-kind
+invariant-loop-kind l = record {
   steps : AreNamedSteps (count_of l.self.load) (name_at l.self.load) (Named (steps_from l.steps)) (LeadsBy l.self.edges (take l.kind-index l.kinds));
   within : AreStepsOf (count_of l.self.load) l.steps;
 }
