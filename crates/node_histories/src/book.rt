@@ -3,7 +3,7 @@ ghost use Rattle.std.specs.Prelude.{◌≡◌, ◌∷◌, []};
 ghost use Rattle.node_histories.specs.declared.events.Event.TheVariants.{Opening};
 ghost use Rattle.node_histories.specs.Books.{head_of};
 
-use crate::events::{AskedEdit, AskedPiece, Event};
+use crate::events::{Asked, Event};
 use logbook::{Gain, Offer, Opening as Opens, Plain, Play, Rule, Seen, Start, Word};
 use replica_store::Replica;
 use std::marker::Brand;
@@ -47,20 +47,10 @@ impl Play<Event, u64> for Add {
     ghost then = { Adds };
 }
 
-impl Plain<AskedEdit, Event, u64> for Add {
+impl<A: Asked> Plain<A, Event, u64> for Add {
     ghost use Rattle.std.specs.Prelude.{None};
-    ghost use Rattle.node_histories.specs.declared.events.Event.TheVariants.{Edited};
 
-    ghost ask = { λ a. Edited a.seat a.edit };
-
-    ghost state = { λ a. None };
-}
-
-impl Plain<AskedPiece, Event, u64> for Add {
-    ghost use Rattle.std.specs.Prelude.{None};
-    ghost use Rattle.node_histories.specs.declared.events.Event.TheVariants.{Absorbed};
-
-    ghost ask = { λ a. Absorbed a.seat a.piece };
+    ghost ask = { A.event };
 
     ghost state = { λ a. None };
 }

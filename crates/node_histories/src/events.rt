@@ -14,6 +14,13 @@ pub enum Event {
     Absorbed(u64, Piece),
 }
 
+// What a seat asks to take, and the event that it then is.
+pub(crate) trait Asked {
+    ghost use Rattle.node_histories.specs.declared.events.Event.{Event};
+
+    ghost event: { Self → Event };
+}
+
 // An edit, with the seat that asks for it.
 #[derive(Drop)]
 pub(crate) struct AskedEdit {
@@ -21,9 +28,21 @@ pub(crate) struct AskedEdit {
     pub(crate) edit: Edit,
 }
 
+impl Asked for AskedEdit {
+    ghost use Rattle.node_histories.specs.declared.events.Event.TheVariants.{Edited};
+
+    ghost event = { λ a. Edited a.seat a.edit };
+}
+
 // A piece, with the seat that asks for it.
 #[derive(Drop)]
 pub(crate) struct AskedPiece {
     pub(crate) seat: u64,
     pub(crate) piece: Piece,
+}
+
+impl Asked for AskedPiece {
+    ghost use Rattle.node_histories.specs.declared.events.Event.TheVariants.{Absorbed};
+
+    ghost event = { λ a. Absorbed a.seat a.piece };
 }

@@ -1,12 +1,11 @@
 //! Tokens of a node's history.
 ghost use Rattle.std.specs.Prelude.{◌≡◌, ◌-◌, ◌<◌, ◌≤◌, ◌^◌, ◌++◌, ◌∷◌, ◌⊎◌, [], IfSome, IfNone};
 ghost use mathlib.Core.List.{IsPrefix};
-ghost use Rattle.node_histories.specs.declared.events.Event.TheVariants.{Edited, Absorbed};
 ghost use Rattle.node_histories.specs.Histories.{IsLegal, IsNext, takes_in, opening_of, all_edits};
 ghost use Rattle.node_histories.specs.Books.{head_of};
 
 use crate::book::{Add, Asking, Head, History, NodeName, Nothing};
-use crate::events::{AskedEdit, AskedPiece};
+use crate::events::Asked;
 use std::marker::{Model, PhantomData};
 
 /// A beginning of the history of the node that N names, as far as it was seen. Contracts see it as its events: the
@@ -105,7 +104,7 @@ impl<N: NodeName> Front<N> {
     pub fn legal_history(&self)
         ensures legal { IsLegal N.opening self.now }
     {
-        let _takes = self.takes();
+        self.history();
     }
 
     /// Of two beginnings of one history the shorter begins the longer. It does nothing: its contract is a law.
@@ -149,28 +148,15 @@ impl<N: NodeName> Front<N> {
         }
     }
 
-    // This front, and an edit that is to come next.
-    pub(crate) fn ask_edit(&self, asked: &AskedEdit) -> Turn<N>
+    // This front, and what is asked for, which is to come next.
+    pub(crate) fn ask<A: Asked>(&self, asked: &A) -> Turn<N>
         ensures seen { result.seen ≡ self.now }
-        ensures ask { result.ask ≡ Edited asked.now.seat asked.now.edit }
+        ensures ask { result.ask ≡ A.event asked.now }
     {
         Turn {
             takes: self.takes,
             seen: self.seen.again(),
-            offer: self.seen.plain::<Nothing, AskedEdit, Add>(asked),
-            of: PhantomData,
-        }
-    }
-
-    // This front, and a piece that is to come next.
-    pub(crate) fn ask_piece(&self, asked: &AskedPiece) -> Turn<N>
-        ensures seen { result.seen ≡ self.now }
-        ensures ask { result.ask ≡ Absorbed asked.now.seat asked.now.piece }
-    {
-        Turn {
-            takes: self.takes,
-            seen: self.seen.again(),
-            offer: self.seen.plain::<Nothing, AskedPiece, Add>(asked),
+            offer: self.seen.plain::<Nothing, A, Add>(asked),
             of: PhantomData,
         }
     }

@@ -147,7 +147,7 @@ impl Page {
         ensures content { result.2 ≡ edit.content }
     {
         let asked = AskedEdit { seat, edit };
-        let turn = self.front::<N>().ask_edit(&asked);
+        let turn = self.front::<N>().ask(&asked);
         let Edit {
             path,
             version: _,
@@ -165,7 +165,7 @@ impl Page {
         ensures piece { result.1 ≡ piece }
     {
         let asked = AskedPiece { seat, piece };
-        let turn = self.front::<N>().ask_piece(&asked);
+        let turn = self.front::<N>().ask(&asked);
         (turn, asked.piece)
     }
 

@@ -1,8 +1,9 @@
 -- What the answer of a take says of its seat.
-use Rattle.std.proofs.Common.{◌≡◌, ◌+◌, List, [], ◌∷◌, ◌++◌, Result, Ok, Err, IfOk, IfErr, refl, sym, ap, subst, arith}
+use Rattle.std.proofs.Common.{◌≡◌, ℕ, ◌+◌, List, [], ◌∷◌, ◌++◌, Result, Ok, Err, IfOk, IfErr, refl, sym, ap, subst, arith}
 use mathlib.Core.List.{IsPrefix}
 use Rattle.replica_store.specs.Replicas.{Replicated}
 use Rattle.node_histories.specs.declared.events.Event.{Event}
+use Rattle.node_histories.specs.Histories.{EndsWith, EndsChanging}
 use Rattle.node_histories.specs.PrefixLaws.{prefix_trans, prefix_self}
 use Rattle.shared_node.specs.declared.faults.NodeFault.{NodeFault}
 use Rattle.shared_node.specs.declared.faults.NodeFault.TheVariants.{NoSeat, Pending, TakesSpent, Disagree, VersionsSpent, Memory}
@@ -14,6 +15,13 @@ use Rattle.shared_node.specs.Steps.{calls_of, step_at, step_at_fault}
 pub goes_on : (seen before h : List Event) (x : Event) → IsPrefix seen before → h ≡ before ++ x ∷ [] → IsPrefix seen h
 goes_on seen before h x begun is =
     subst (λ (l : List Event). IsPrefix seen l) (sym is) (prefix_trans seen before (before ++ x ∷ []) begun (x ∷ [], refl))
+
+-- so does one whose seat has seen it
+pub ends_seen : (seen h k : List Event) (x : Event) → EndsWith seen h x → k ≡ h → IsPrefix seen k
+ends_seen seen h k x ends same = subst (λ (l : List Event). IsPrefix seen l) (sym same) (goes_on seen ends.0 h x ends.1 ends.2)
+
+pub changing_seen : (seen h k : List Event) (x : Event) (n : ℕ) → EndsChanging seen h x n → k ≡ h → IsPrefix seen k
+changing_seen seen h k x n ends same = ends_seen seen h k x (ends.0, ends.1, ends.2) same
 
 same_calls : (s t : SeatNow) → t ≡ s → t.calls ≡ s.calls + 0
 same_calls s t e = let calls : t.calls ≡ s.calls = ap (λ (x : SeatNow). x.calls) e in omega arith
@@ -40,6 +48,15 @@ module _ {N : Type 0} where
   refused_seen o VersionsSpent s t e = same_seen s t e
   refused_seen o Memory s t e = same_seen s t e
 
+  -- and leaves the seat its number
+  refused_number : (o : Replicated) (f : NodeFault N) (s t : SeatNow) → AtFault o f s t → t.number ≡ s.number
+  refused_number o NoSeat s t e = absurd e
+  refused_number o (Pending version) s t e = e.2
+  refused_number o (TakesSpent told) s t e = ap (λ (x : SeatNow). x.number) e.0
+  refused_number o (Disagree seen held) s t e = ap (λ (x : SeatNow). x.number) e.0
+  refused_number o VersionsSpent s t e = ap (λ (x : SeatNow). x.number) e
+  refused_number o Memory s t e = ap (λ (x : SeatNow). x.number) e
+
   -- each take counts as its step does
   pub taken_calls : {T : Type 0} (o : Replicated) (r : Result T (NodeFault N)) (s t : SeatNow) → IfOk r (λ _. (t.calls ≡ s.calls + 1) × (t.number ≡ s.number)) → IfErr r (λ f. AtFault o f s t)
       → t.calls ≡ s.calls + calls_of (step_at r)
@@ -51,3 +68,9 @@ module _ {N : Type 0} where
       → IfOk r P → IfOk r Q → IfErr r (λ f. AtFault o f s t) → IsPrefix s.seen t.seen
   taken_seen o (Ok x) s t P Q seen p q fault = seen x p q
   taken_seen o (Err f) s t P Q seen p q fault = refused_seen o f s t fault
+
+  -- and leaves the seat its number
+  pub taken_number : {T : Type 0} (o : Replicated) (r : Result T (NodeFault N)) (s t : SeatNow) → IfOk r (λ _. (t.calls ≡ s.calls + 1) × (t.number ≡ s.number)) → IfErr r (λ f. AtFault o f s t)
+      → t.number ≡ s.number
+  taken_number o (Ok _) s t counted fault = counted.1
+  taken_number o (Err f) s t counted fault = refused_number o f s t fault

@@ -1,7 +1,7 @@
 //! How a keeper compares its counts with those of seats.
 ghost use Rattle.std.specs.Prelude.{◌≡◌, ◌+◌, length, IfOk, IfErr};
 ghost use Rattle.std.specs.List.{sum_by};
-ghost use Rattle.node_histories.specs.Histories.{takes_in};
+ghost use Rattle.node_histories.specs.Histories.{replica_of, takes_in};
 ghost use Rattle.shared_node.specs.Seats.{AllAgree};
 ghost use Rattle.shared_node.specs.Faults.{AtCause, IsDisagreement};
 
@@ -10,6 +10,8 @@ use crate::faults::CloseCause;
 use crate::keeper::Keeper;
 use crate::seat::Seat;
 use node_histories::NodeName;
+use replica_store::Replica;
+use std::sync::Wait;
 
 impl<N: NodeName> Keeper<N> {
     // How many takes there are, where these seats are all that were given, and made them.
@@ -23,15 +25,31 @@ impl<N: NodeName> Keeper<N> {
         if here < self.given {
             return Err(CloseCause::SeatsOut(self.given - here));
         }
-        let others = match takes_of_others(&self.account, seats) {
-            Ok(others) => others,
-            Err(cause) => return Err(cause),
-        };
+        let others = takes_of_others(&self.account, seats)?;
         let takes = self.account.front().takes();
         if others == 0 {
             Ok(takes)
         } else {
             Err(CloseCause::Disagree(takes - others, takes))
+        }
+    }
+
+    // Where these seats are all that were given, and made the takes, publishes a take that is pending, and copies the
+    // replica that is then published.
+    pub(crate) fn settle<R: Wait>(
+        &mut self,
+        rt: &R,
+        seats: &Vec<Seat<N>>,
+    ) -> Result<Replica, CloseCause>
+        ensures agree { IfOk result (λ _. AllAgree self.new.shown seats.now.items) }
+        ensures sum { IfOk result (λ _. takes_in self.new.shown ≡ sum_by (λ s. s.calls) seats.now.items) }
+        ensures replica { IfOk result (λ replica. replica ≡ replica_of self.new.shown) }
+        ensures cause { IfErr result (λ cause. AtCause self.old.given (length seats.now.items) cause) }
+    {
+        self.audit(seats)?;
+        match self.flushed_replica(rt) {
+            Ok(replica) => Ok(replica),
+            Err(_) => Err(CloseCause::Memory),
         }
     }
 }

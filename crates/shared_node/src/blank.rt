@@ -21,7 +21,6 @@ pub const MOST_SEATS: usize = 64;
 /// All that a node needs, under no name yet. Contracts see the book of the node that it will be, the replica that it
 /// was made from, and the number of its seats. It isn't `Drop`: `Node::open` takes it.
 pub struct Blank {
-    pub(crate) alloc: Global,
     pub(crate) head: Head,
     pub(crate) seen: History,
     pub(crate) writer: PageWriter,
@@ -66,23 +65,6 @@ pub enum BlankFault {
     Memory(Replica),
 }
 
-// The two copies that are to be published.
-fn pair(
-    alloc: Global,
-    seen: &History,
-    replica: &Replica,
-    seats: usize,
-) -> Result<PageWriter, AllocError>
-    requires seats { (0 < seats) × (seats ≤ 64) }
-    requires opened { seen.now.log ≡ Opening replica.now ∷ [] }
-    ensures shown { IfOk result (λ w. w.desk.shown.value.seen ≡ seen.now) }
-    ensures due { IfOk result (λ w. drop w.behind w.log.items ≡ []) }
-{
-    let first = Page::opening(replica.try_clone()?, seen)?;
-    let second = first.try_clone()?;
-    Writer::new(alloc, first, second, seats)
-}
-
 // The two copies, the first of them published.
 fn shown_pair<R: Wait>(
     rt: &R,
@@ -99,7 +81,9 @@ fn shown_pair<R: Wait>(
     ensures sight { IfOk result (λ w. view w.desk.place
         ≡ sight_of w.desk.shown.value.seen.book w.desk.shown.value.seen.log) }
 {
-    let writer = pair(alloc, seen, replica, seats)?;
+    let first = Page::opening(replica.try_clone()?, seen)?;
+    let second = first.try_clone()?;
+    let writer = Writer::new(alloc, first, second, seats)?;
     let (writer, done) = publish(writer, rt);
     match done {
         Ok(()) => Ok(writer),
@@ -129,7 +113,6 @@ fn blank_of<R: Wait>(rt: &R, replica: &Replica, seats: usize) -> Result<Blank, A
     let counts = zeros(alloc, seats)?;
     let writer = shown_pair(rt, alloc, &seen, replica, seats)?;
     Ok(Blank {
-        alloc,
         head,
         seen,
         writer,

@@ -1,12 +1,13 @@
 //! The keeper of a node, as it lies under the lock.
-ghost use Rattle.std.specs.Prelude.{◌≡◌, ◌+◌, ◌<◌, IfOk, IfSome, IfNone, MatchResult};
+ghost use Rattle.std.specs.Prelude.{◌≡◌, ◌+◌, ◌<◌, ◌∷◌, [], IfOk, IfSome, IfNone, MatchResult};
+ghost use Rattle.node_histories.specs.declared.events.Event.TheVariants.{Opening};
 ghost use Rattle.node_histories.specs.Histories.{IsLegal, opening_of, replica_of};
-ghost use Rattle.node_histories.specs.Books.{head_of};
 
 use crate::account::Account;
+use crate::blank::Blank;
 use crate::post::Post;
 use crate::seat::Seat;
-use node_histories::{Head, NodeName, Page};
+use node_histories::{Front, Head, NodeName, Page};
 use replica_store::Replica;
 use std::alloc::AllocError;
 use std::marker::Model;
@@ -39,94 +40,64 @@ impl<N: NodeName> Model for Keeper<N> {
 }
 
 impl<N: NodeName> Keeper<N> {
-    // A keeper that has accepted nothing, of what a blank holds.
-    pub(crate) fn open(head: Head, account: Account<N>, post: Post<N>) -> Keeper<N>
-        requires head { head ≡ head_of N.book }
-        requires due { post.due ≡ account.takes }
-        requires shown { post.shown ≡ account.takes }
-        requires seats { account.seats ≡ N.seats }
-        ensures accepted { result.accepted ≡ account.takes }
-        ensures shown { result.shown ≡ post.shown }
+    // The keeper of a node that opens: it has no takes, and gave no seat.
+    pub(crate) fn open(blank: Blank) -> Keeper<N>
+        requires book { blank.book ≡ N.book }
+        requires opening { blank.opening ≡ N.opening }
+        requires seats { blank.seats ≡ N.seats }
+        ensures accepted { result.accepted ≡ Opening N.opening ∷ [] }
+        ensures shown { result.shown ≡ Opening N.opening ∷ [] }
         ensures given { result.given ≡ 0 }
     {
+        let Blank {
+            head,
+            seen,
+            writer,
+            counts,
+        } = blank;
+        let counter = writer.published().counter();
         Keeper {
             head,
-            account,
-            post,
+            account: Account::new(Front::of(0, &seen), counter, counts),
+            post: Post::new(writer),
             given: 0,
         }
     }
 
     // Publishes the pending take, if there is one.
-    pub(crate) fn flush<R: Wait>(self, rt: &R) -> (Keeper<N>, Result<(), AllocError>)
-        ensures accepted { result.0.accepted ≡ self.accepted }
-        ensures given { result.0.given ≡ self.given }
-        ensures shown { MatchResult result.1 (λ _. result.0.shown ≡ self.accepted) (λ _. result.0.shown ≡ self.shown) }
+    pub(crate) fn flush<R: Wait>(&mut self, rt: &R) -> Result<(), AllocError>
+        ensures accepted { self.new.accepted ≡ self.old.accepted }
+        ensures given { self.new.given ≡ self.old.given }
+        ensures shown { MatchResult result
+            (λ _. self.new.shown ≡ self.old.accepted)
+            (λ _. self.new.shown ≡ self.old.shown) }
     {
-        let Keeper {
-            head,
-            account,
-            post,
-            given,
-        } = self;
-        let (post, done) = post.send(rt);
-        let keeper = Keeper {
-            head,
-            account,
-            post,
-            given,
-        };
-        (keeper, done)
+        self.post.send(rt)
     }
 
     // A seat that has made no take, of the next number.
-    pub(crate) fn seat(self) -> (Keeper<N>, Option<Seat<N>>)
-        ensures kept { (result.0.shown ≡ self.shown) × (result.0.accepted ≡ self.accepted) }
-        ensures calls { IfSome result.1 (λ s. s.calls ≡ 0) }
-        ensures seen { IfSome result.1 (λ s. s.seen ≡ self.shown) }
-        ensures number { IfSome result.1 (λ s. s.number ≡ self.given) }
-        ensures within { IfSome result.1 (λ s. s.number < N.seats) }
-        ensures legal { IfSome result.1 (λ s. IsLegal N.opening s.seen) }
-        ensures given { IfSome result.1 (λ _. result.0.given ≡ self.given + 1) }
-        ensures none { IfNone result.1 (result.0.given ≡ self.given) }
+    pub(crate) fn seat(&mut self) -> Option<Seat<N>>
+        ensures kept { (self.new.shown ≡ self.old.shown) × (self.new.accepted ≡ self.old.accepted) }
+        ensures calls { IfSome result (λ s. s.calls ≡ 0) }
+        ensures seen { IfSome result (λ s. s.seen ≡ self.old.shown) }
+        ensures number { IfSome result (λ s. s.number ≡ self.old.given) }
+        ensures within { IfSome result (λ s. s.number < N.seats) }
+        ensures legal { IfSome result (λ s. IsLegal N.opening s.seen) }
+        ensures given { IfSome result (λ _. self.new.given ≡ self.old.given + 1) }
+        ensures none { IfNone result (self.new.given ≡ self.old.given) }
     {
-        let Keeper {
-            head,
-            account,
-            mut post,
-            given,
-        } = self;
-        let reader = if given < account.seats() {
-            post.reader().ok()
-        } else {
-            None
-        };
-        match reader {
-            Some(reader) => {
-                let seat = Seat {
-                    reader,
-                    front: post.shown(),
-                    calls: 0,
-                    number: given,
-                };
-                let keeper = Keeper {
-                    head,
-                    account,
-                    post,
-                    given: given + 1,
-                };
-                (keeper, Some(seat))
-            }
-            None => {
-                let keeper = Keeper {
-                    head,
-                    account,
-                    post,
-                    given,
-                };
-                (keeper, None)
-            }
+        let number = self.given;
+        if number >= self.account.seats() {
+            return None;
         }
+        let reader = self.post.reader().ok()?;
+        self.given += 1;
+        Some(Seat {
+            reader,
+            front: self.post.shown(),
+            calls: 0,
+            number,
+        })
     }
 
     // A copy of the replica that is published.
@@ -137,20 +108,14 @@ impl<N: NodeName> Keeper<N> {
     }
 
     // Publishes a take that is pending, and copies the replica that is then published.
-    pub(crate) fn flushed_replica<R: Wait>(self, rt: &R) -> (Keeper<N>, Result<Replica, AllocError>)
-        ensures accepted { result.0.accepted ≡ self.accepted }
-        ensures given { result.0.given ≡ self.given }
-        ensures shown { IfOk result.1 (λ _. result.0.shown ≡ self.accepted) }
-        ensures replica { IfOk result.1 (λ replica. replica ≡ replica_of self.accepted) }
+    pub(crate) fn flushed_replica<R: Wait>(&mut self, rt: &R) -> Result<Replica, AllocError>
+        ensures accepted { self.new.accepted ≡ self.old.accepted }
+        ensures given { self.new.given ≡ self.old.given }
+        ensures shown { IfOk result (λ _. self.new.shown ≡ self.old.accepted) }
+        ensures replica { IfOk result (λ replica. replica ≡ replica_of self.old.accepted) }
     {
-        let (keeper, sent) = self.flush(rt);
-        match sent {
-            Ok(()) => {
-                let copied = keeper.replica();
-                (keeper, copied)
-            }
-            Err(fault) => (keeper, Err(fault)),
-        }
+        self.flush(rt)?;
+        self.replica()
     }
 
     // Ends the node, and gives what was published last.

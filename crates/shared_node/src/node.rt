@@ -1,5 +1,5 @@
 //! A node that threads share.
-ghost use Rattle.std.specs.Prelude.{◌≡◌, ◌+◌, ◌<◌, true, length, is_some, None, Some, IfOk, IfErr, IfSome};
+ghost use Rattle.std.specs.Prelude.{◌≡◌, ◌+◌, ◌<◌, IfOk, IfErr};
 ghost use Rattle.std.specs.List.{sum_by};
 ghost use Rattle.node_histories.specs.declared.events.Event.TheVariants.{Edited, Absorbed};
 ghost use Rattle.node_histories.specs.Histories.{IsLegal, EndsWith, EndsChanging, opening_of, replica_of, takes_in};
@@ -7,94 +7,22 @@ ghost use Rattle.node_histories.specs.Codes.{replica-prop, IsLegal-prop};
 ghost use Rattle.shared_node.specs.Seats.{AllAgree};
 ghost use Rattle.shared_node.specs.Faults.{AtFault, IsEditFault, IsPieceFault, IsSeatFault, AcceptsEdit, AcceptsPiece};
 
-use crate::account::Account;
 use crate::blank::Blank;
 use crate::faults::{CloseCause, NodeFault};
 use crate::keeper::Keeper;
-use crate::post::{Post, Told};
+use crate::post::Told;
 use crate::seat::Seat;
 use delta_pieces::Piece;
 use edit_sums::Content;
 use join_law::Version;
 use load_path::Path;
-use node_histories::{Front, History, NodeName};
+use node_histories::{History, NodeName};
 use replica_store::Replica;
 use std::sync::{Mutex, MutexGuard, Wait};
 
-// What lies under the lock. It is without a keeper only while the lock's holder changes it.
-struct Desk<N: NodeName> {
-    keeper: Option<Keeper<N>>,
-    ghost there: { is_some keeper ≡ true },
-}
-
-// Puts the keeper back.
-fn put<N: NodeName, R: Wait>(slot: &mut Option<Keeper<N>>, rt: &R, keeper: Keeper<N>)
-    requires empty { slot.old ≡ None }
-    ensures there { slot.new ≡ Some keeper }
-{
-    match slot.replace(keeper) {
-        Some(old) => drop(old.close(rt)),
-        None => {}
-    }
-}
-
-impl<N: NodeName> Desk<N> {
-    fn edit<R: Wait>(
-        &mut self,
-        rt: &R,
-        seat: &mut Seat<N>,
-        path: Path,
-        content: Content,
-    ) -> Result<(Version, Told<N>), NodeFault<N>>
-        ensures taken { IfOk result (λ r.
-            EndsWith seat.old.seen r.1 (Edited seat.old.number
-            (record { path = path; version = r.0; content = content }))) }
-        ensures told { IfOk result (λ r. IsLegal N.opening r.1 × (seat.new.seen ≡ r.1)) }
-        ensures counted { IfOk result (λ _. (seat.new.calls ≡ seat.old.calls + 1)
-            × (seat.new.number ≡ seat.old.number)) }
-        ensures fault { IfErr result (λ f. AtFault N.opening f seat.old seat.new) }
-        ensures kind { IfErr result (λ f. IsEditFault f) }
-    {
-        let keeper = self.keeper.take().unwrap();
-        let (keeper, result) = keeper.edit(rt, seat, path, content);
-        put(&mut self.keeper, rt, keeper);
-        result
-    }
-
-    fn absorb<R: Wait>(
-        &mut self,
-        rt: &R,
-        seat: &mut Seat<N>,
-        piece: Piece,
-    ) -> Result<(u64, Told<N>), NodeFault<N>>
-        ensures taken { IfOk result (λ r. EndsChanging seat.old.seen r.1 (Absorbed seat.old.number piece) r.0) }
-        ensures told { IfOk result (λ r. IsLegal N.opening r.1 × (seat.new.seen ≡ r.1)) }
-        ensures counted { IfOk result (λ _. (seat.new.calls ≡ seat.old.calls + 1)
-            × (seat.new.number ≡ seat.old.number)) }
-        ensures fault { IfErr result (λ f. AtFault N.opening f seat.old seat.new) }
-        ensures kind { IfErr result (λ f. IsPieceFault f) }
-    {
-        let keeper = self.keeper.take().unwrap();
-        let (keeper, result) = keeper.absorb(rt, seat, piece);
-        put(&mut self.keeper, rt, keeper);
-        result
-    }
-
-    fn seat<R: Wait>(&mut self, rt: &R) -> Option<Seat<N>>
-        ensures calls { IfSome result (λ s. s.calls ≡ 0) }
-        ensures within { IfSome result (λ s. s.number < N.seats) }
-        ensures legal { IfSome result (λ s. IsLegal N.opening s.seen) }
-    {
-        let keeper = self.keeper.take().unwrap();
-        let (keeper, seat) = keeper.seat();
-        put(&mut self.keeper, rt, keeper);
-        seat
-    }
-}
-
 /// A node: a replica that threads share by its seats. It isn't `Drop`: `close` ends it, or `end` where seats are lost.
 pub struct Node<N: NodeName> {
-    desk: Mutex<Desk<N>>,
+    keeper: Mutex<Keeper<N>>,
 }
 
 /// What is left of a node: its replica, how many takes it had, and a token of its history.
@@ -115,9 +43,7 @@ pub struct CloseFault<N: NodeName> {
 // The node of a keeper.
 fn node_of<N: NodeName>(keeper: Keeper<N>) -> Node<N> {
     Node {
-        desk: Mutex::new(Desk {
-            keeper: Some(keeper),
-        }),
+        keeper: Mutex::new(keeper),
     }
 }
 
@@ -144,16 +70,7 @@ impl<N: NodeName> Node<N> {
         requires opening { blank.opening ≡ N.opening }
         requires seats { blank.seats ≡ N.seats }
     {
-        let Blank {
-            alloc,
-            head,
-            seen,
-            writer,
-            counts,
-        } = blank;
-        let counter = writer.published().counter();
-        let account = Account::new(alloc, Front::of(0, &seen), counter, counts);
-        node_of(Keeper::open(head, account, Post::new(writer)))
+        node_of(Keeper::open(blank))
     }
 
     /// A seat that has made no take, and has seen at least what the node opened over. It may wait.
@@ -165,9 +82,9 @@ impl<N: NodeName> Node<N> {
         ensures legal { IfOk result (λ s. IsLegal N.opening s.seen) }
         ensures kind { IfErr result (λ f. IsSeatFault f) }
     {
-        let mut desk = self.desk.lock(rt);
-        let seat = desk.seat(rt);
-        MutexGuard::unlock(desk);
+        let mut keeper = self.keeper.lock(rt);
+        let seat = keeper.seat();
+        MutexGuard::unlock(keeper);
         match seat {
             Some(seat) => Ok(seat),
             None => Err(NodeFault::NoSeat),
@@ -197,9 +114,9 @@ impl<N: NodeName> Node<N> {
         ensures fault { IfErr result (λ f. AtFault N.opening f seat.old seat.new) }
         ensures kind { IfErr result (λ f. IsEditFault f) }
     {
-        let mut desk = self.desk.lock(rt);
-        let result = desk.edit(rt, seat, path, content);
-        MutexGuard::unlock(desk);
+        let mut keeper = self.keeper.lock(rt);
+        let result = keeper.edit(rt, seat, path, content);
+        MutexGuard::unlock(keeper);
         result
     }
 
@@ -221,9 +138,9 @@ impl<N: NodeName> Node<N> {
         ensures fault { IfErr result (λ f. AtFault N.opening f seat.old seat.new) }
         ensures kind { IfErr result (λ f. IsPieceFault f) }
     {
-        let mut desk = self.desk.lock(rt);
-        let result = desk.absorb(rt, seat, piece);
-        MutexGuard::unlock(desk);
+        let mut keeper = self.keeper.lock(rt);
+        let result = keeper.absorb(rt, seat, piece);
+        MutexGuard::unlock(keeper);
         result
     }
 
@@ -243,28 +160,22 @@ impl<N: NodeName> Node<N> {
         ensures replica { IfOk result (λ d. d.replica ≡ replica_of d.seen.log) }
         ensures seats { IfErr result (λ f. f.seats ≡ seats) }
     {
-        let Node { desk } = self;
-        let Desk { keeper } = desk.into_inner();
-        let keeper = keeper.unwrap();
-        if let Err(cause) = keeper.audit(&seats) {
-            let node = node_of(keeper);
-            return Err(CloseFault { node, seats, cause });
+        let Node { keeper } = self;
+        let mut keeper = keeper.into_inner();
+        match keeper.settle(rt, &seats) {
+            Ok(replica) => Ok(wind_up(keeper, rt, replica)),
+            Err(cause) => {
+                let node = node_of(keeper);
+                Err(CloseFault { node, seats, cause })
+            }
         }
-        let (keeper, copied) = keeper.flushed_replica(rt);
-        let Ok(replica) = copied else {
-            let node = node_of(keeper);
-            let cause = CloseCause::Memory;
-            return Err(CloseFault { node, seats, cause });
-        };
-        Ok(wind_up(keeper, rt, replica))
     }
 
     /// Ends the node, whatever seats it gave: the way out where a seat is lost, so that `close` can't be answered. A
     /// take
     /// that is pending is lost. It may wait.
     pub fn end<R: Wait>(self, rt: &R) {
-        let Node { desk } = self;
-        let Desk { keeper } = desk.into_inner();
-        drop(keeper.unwrap().close(rt));
+        let Node { keeper } = self;
+        drop(keeper.into_inner().close(rt));
     }
 }

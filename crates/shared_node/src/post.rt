@@ -1,11 +1,12 @@
 //! The publishing side of a node.
-ghost use Rattle.std.specs.Prelude.{◌≡◌, drop, MatchResult, IfOk, Some};
+ghost use Rattle.std.specs.Prelude.{◌≡◌, drop, MatchResult, IfOk, OnOk, None};
 ghost use mathlib.Core.List.{IsPrefix};
 ghost use Rattle.left_right.specs.Sides.{view};
 ghost use Rattle.node_histories.specs.Histories.{IsLegal, opening_of, takes_in};
 ghost use Rattle.shared_node.specs.Sights.{latest, newest, sight_of};
 
 use crate::sight::{PageReader, PageWriter, Same, Sees, Takes};
+use core::mem::replace_with;
 use node_histories::{Front, NodeName, Page};
 use std::alloc::AllocError;
 use std::marker::{Model, PhantomData};
@@ -106,19 +107,24 @@ pub(crate) fn publish<R: Wait>(writer: PageWriter, rt: &R) -> (PageWriter, Resul
     writer.publish_as::<Sees, R>(rt)
 }
 
-// Appends the page to the writer's log. It comes back where there is no memory.
-fn hand(writer: &mut PageWriter, pending: Option<Page>) -> Result<(), Page>
+// Appends the page that is pending, if there is one, to the writer's log. It stays where there is no memory.
+fn hand(writer: &mut PageWriter, pending: &mut Option<Page>) -> Result<(), AllocError>
     ensures desk { writer.new.desk ≡ writer.old.desk }
-    ensures due { MatchResult result
-        (λ _. latest (λ p. p.seen) writer.new.desk.shown.value.seen (drop writer.new.behind writer.new.log.items)
+    ensures due { newest (λ p. p.seen) writer.new.desk.shown.value.seen
+        (drop writer.new.behind writer.new.log.items) pending.new
         ≡ newest (λ p. p.seen) writer.old.desk.shown.value.seen
-        (drop writer.old.behind writer.old.log.items) pending)
-        (λ p. (pending ≡ Some p) × (drop writer.new.behind writer.new.log.items
-        ≡ drop writer.old.behind writer.old.log.items)) }
+        (drop writer.old.behind writer.old.log.items) pending.old }
+    ensures handed { OnOk result (pending.new ≡ None) }
 {
-    match pending {
-        Some(page) => writer.append(page),
-        None => Ok(()),
+    let Some(page) = pending.take() else {
+        return Ok(());
+    };
+    match writer.append(page) {
+        Ok(()) => Ok(()),
+        Err(page) => {
+            *pending = Some(page);
+            Err(AllocError)
+        }
     }
 }
 
@@ -142,50 +148,25 @@ impl<N: NodeName> Post<N> {
     }
 
     // Publishes what is due. At `Err` nothing was published.
-    pub(crate) fn send<R: Wait>(self, rt: &R) -> (Post<N>, Result<(), AllocError>)
-        ensures due { result.0.due ≡ self.due }
-        ensures shown { MatchResult result.1 (λ _. result.0.shown ≡ self.due) (λ _. result.0.shown ≡ self.shown) }
+    pub(crate) fn send<R: Wait>(&mut self, rt: &R) -> Result<(), AllocError>
+        ensures due { self.new.due ≡ self.old.due }
+        ensures shown { MatchResult result
+            (λ _. self.new.shown ≡ self.old.due)
+            (λ _. self.new.shown ≡ self.old.shown) }
     {
-        let Post {
-            mut writer,
-            pending,
-            of,
-        } = self;
-        if let Err(page) = hand(&mut writer, pending) {
-            let post = Post {
-                writer,
-                pending: Some(page),
-                of,
-            };
-            return (post, Err(AllocError));
-        }
-        let (writer, done) = publish(writer, rt);
-        let post = Post {
-            writer,
-            pending: None,
-            of,
-        };
-        (post, done)
+        hand(&mut self.writer, &mut self.pending)?;
+        replace_with(&mut self.writer, rt, publish)
     }
 
     // The page comes next.
-    pub(crate) fn put(self, page: Page) -> Post<N>
+    pub(crate) fn put(&mut self, page: Page)
         requires book { page.seen.book ≡ N.book }
         requires opening { opening_of page.seen.log ≡ N.opening }
-        requires goes_on { IsPrefix self.due page.seen.log }
-        ensures due { result.due ≡ page.seen.log }
-        ensures shown { result.shown ≡ self.shown }
+        requires goes_on { IsPrefix self.old.due page.seen.log }
+        ensures due { self.new.due ≡ page.seen.log }
+        ensures shown { self.new.shown ≡ self.old.shown }
     {
-        let Post {
-            writer,
-            pending: _pending,
-            of,
-        } = self;
-        Post {
-            writer,
-            pending: Some(page),
-            of,
-        }
+        self.pending = Some(page);
     }
 
     // The page that is shown.

@@ -1,7 +1,7 @@
 //! A seat that does what an inbox says.
 ghost use Rattle.std.specs.Prelude.{◌≡◌, ◌+◌};
 ghost use mathlib.Core.List.{IsPrefix};
-ghost use Rattle.shared_node.specs.Steps.{calls_of, calls_in, step_at};
+ghost use Rattle.shared_node.specs.Steps.{calls_in, step_at};
 
 use crate::faults::NodeFault;
 use crate::node::Node;
@@ -42,38 +42,14 @@ enum Step {
 }
 
 // How a take went.
-fn step_of<N: NodeName, T>(taken: &Result<T, NodeFault<N>>) -> Step
-    ensures { result ≡ step_at taken.now }
+fn step_of<N: NodeName, T: Drop>(taken: Result<T, NodeFault<N>>) -> Step
+    ensures { result ≡ step_at taken }
 {
     match taken {
         Ok(_) => Step::Answered,
         Err(NodeFault::Pending { version: _ }) => Step::Pending,
         Err(_) => Step::Refused,
     }
-}
-
-// Takes an edit.
-fn do_edit<N: NodeName, R: Wait>(
-    rt: &R,
-    node: &Node<N>,
-    seat: &mut Seat<N>,
-    path: Path,
-    content: Content,
-) -> Step
-    ensures calls { seat.new.calls ≡ seat.old.calls + calls_of result }
-    ensures seen { IsPrefix seat.old.seen seat.new.seen }
-{
-    let taken = node.edit(rt, seat, path, content);
-    step_of(&taken)
-}
-
-// Takes a piece.
-fn do_absorb<N: NodeName, R: Wait>(rt: &R, node: &Node<N>, seat: &mut Seat<N>, piece: Piece) -> Step
-    ensures calls { seat.new.calls ≡ seat.old.calls + calls_of result }
-    ensures seen { IsPrefix seat.old.seen seat.new.seen }
-{
-    let taken = node.absorb(rt, seat, piece);
-    step_of(&taken)
 }
 
 // Does what one message says, once the gate lets it; nothing at the end.
@@ -87,15 +63,16 @@ fn do_message<N: NodeName, R: Wait, G: Gate>(
 ) -> Option<Step>
     ensures calls { seat.new.calls ≡ seat.old.calls + calls_in result }
     ensures seen { IsPrefix seat.old.seen seat.new.seen }
+    ensures number { seat.new.number ≡ seat.old.number }
 {
     match message {
         Message::Edit(path, content) => {
             pass_gate(gate, number);
-            Some(do_edit(rt, node, seat, path, content))
+            Some(step_of(node.edit(rt, seat, path, content)))
         }
         Message::Absorb(piece) => {
             pass_gate(gate, number);
-            Some(do_absorb(rt, node, seat, piece))
+            Some(step_of(node.absorb(rt, seat, piece)))
         }
         Message::End => None,
     }
@@ -115,6 +92,7 @@ pub fn serve<N: NodeName, R: Wait, G: Gate>(
 ) -> Served
     ensures calls { seat.new.calls ≡ seat.old.calls + (result.answered + result.pending) }
     ensures seen { IsPrefix seat.old.seen seat.new.seen }
+    ensures number { seat.new.number ≡ seat.old.number }
 {
     let mut served = Served {
         answered: 0,

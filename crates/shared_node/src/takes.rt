@@ -3,7 +3,8 @@ ghost use Rattle.std.specs.Prelude.{◌≡◌, ◌+◌, ◌-◌, ◌^◌, ◌<�
 ghost use mathlib.Core.List.{IsPrefix};
 ghost use Rattle.edit_sums.specs.Sums.{changed_paths};
 ghost use Rattle.node_histories.specs.declared.events.Event.TheVariants.{Edited, Absorbed};
-ghost use Rattle.node_histories.specs.Histories.{IsLegal, EndsWith, EndsChanging, store_of, counter_of, takes_in};
+ghost use Rattle.node_histories.specs.Histories.{IsLegal, EndsWith, EndsChanging, store_of, counter_of, opening_of, takes_in};
+ghost use Rattle.shared_node.specs.Accounts.{IsTakenAfter};
 ghost use Rattle.shared_node.specs.Faults.{AtFault, AtCheck, IsEarly, IsEditFault, IsPieceFault, AcceptsEdit, AcceptsPiece};
 
 use crate::faults::NodeFault;
@@ -14,7 +15,7 @@ use delta_pieces::Piece;
 use edit_sums::Content;
 use join_law::Version;
 use load_path::Path;
-use node_histories::NodeName;
+use node_histories::{NodeName, Page};
 use std::alloc::AllocError;
 use std::sync::Wait;
 
@@ -24,7 +25,6 @@ impl<N: NodeName> Keeper<N> {
         ensures begun { IfOk result (λ _. IsPrefix seat.now.seen self.now.accepted) }
         ensures room { IfOk result (λ _. takes_in self.now.accepted < 2 ^ 64 - 1) }
         ensures calls { IfOk result (λ _. seat.now.calls < 2 ^ 64 - 1) }
-        ensures number { IfOk result (λ _. seat.now.number < N.seats) }
         ensures fault { IfErr result (λ f. AtCheck N.opening f seat.now) }
     {
         let held = self.account.front().takes();
@@ -36,7 +36,6 @@ impl<N: NodeName> Keeper<N> {
             return Err(NodeFault::Disagree(seen, held));
         }
         seat.front.begins(self.account.front());
-        let _within = seat.number();
         Ok(())
     }
 
@@ -46,7 +45,6 @@ impl<N: NodeName> Keeper<N> {
         ensures room { IfOk result (λ _. takes_in self.now.accepted < 2 ^ 64 - 1) }
         ensures counter { IfOk result (λ _. counter_of self.now.accepted < 2 ^ 64 - 1) }
         ensures calls { IfOk result (λ _. seat.now.calls < 2 ^ 64 - 1) }
-        ensures number { IfOk result (λ _. seat.now.number < N.seats) }
         ensures early { IfErr result (λ f. IsEarly f) }
         ensures fault { IfErr result (λ f. AtFault N.opening f seat.now seat.now) }
     {
@@ -57,227 +55,145 @@ impl<N: NodeName> Keeper<N> {
         Ok(())
     }
 
-    // Accepts an edit, and publishes nothing.
-    fn accept(
-        self,
-        seat: usize,
-        path: Path,
-        content: Content,
-    ) -> (Keeper<N>, Result<Version, AllocError>)
+    // Accepts a page that has one take more, of this seat, and publishes nothing.
+    fn accept(&mut self, seat: usize, page: Page)
         requires seat { seat < N.seats }
-        requires room { takes_in self.accepted < 2 ^ 64 - 1 }
-        requires counter { counter_of self.accepted < 2 ^ 64 - 1 }
-        requires flushed { self.shown ≡ self.accepted }
-        ensures given { result.0.given ≡ self.given }
-        ensures shown { result.0.shown ≡ self.shown }
-        ensures accepted { MatchResult result.1
-            (λ version. result.0.accepted ≡ self.accepted
-            ++ Edited seat (record { path = path; version = version; content = content }) ∷ [])
-            (λ _. result.0.accepted ≡ self.accepted) }
+        requires flushed { self.old.shown ≡ self.old.accepted }
+        requires page { (page.seen.book ≡ N.book) × (opening_of page.seen.log ≡ N.opening) }
+        requires room { takes_in self.old.accepted < 2 ^ 64 - 1 }
+        requires taken { IsTakenAfter self.old.accepted seat page.seen.log }
+        ensures given { self.new.given ≡ self.old.given }
+        ensures accepted { self.new.accepted ≡ page.seen.log }
     {
-        let Keeper {
-            head,
-            account,
-            post,
-            given,
-        } = self;
-        match account.edit(&head, post.page(), seat, path, content) {
-            Ok((version, account, page)) => {
-                let keeper = Keeper {
-                    head,
-                    account,
-                    post: post.put(page),
-                    given,
-                };
-                (keeper, Ok(version))
-            }
-            Err(fault) => {
-                let keeper = Keeper {
-                    head,
-                    account,
-                    post,
-                    given,
-                };
-                (keeper, Err(fault))
-            }
-        }
-    }
-
-    // Accepts a piece, and publishes nothing.
-    fn accept_piece(self, seat: usize, piece: Piece) -> (Keeper<N>, Result<u64, AllocError>)
-        requires seat { seat < N.seats }
-        requires room { takes_in self.accepted < 2 ^ 64 - 1 }
-        requires flushed { self.shown ≡ self.accepted }
-        ensures given { result.0.given ≡ self.given }
-        ensures shown { result.0.shown ≡ self.shown }
-        ensures accepted { MatchResult result.1
-            (λ _. result.0.accepted ≡ self.accepted ++ Absorbed seat piece ∷ [])
-            (λ _. result.0.accepted ≡ self.accepted) }
-        ensures changed { IfOk result.1 (λ changed. changed
-            ≡ changed_paths (store_of self.accepted) (store_of result.0.accepted)) }
-    {
-        let Keeper {
-            head,
-            account,
-            post,
-            given,
-        } = self;
-        match account.absorb(&head, post.page(), seat, piece) {
-            Ok((changed, account, page)) => {
-                let keeper = Keeper {
-                    head,
-                    account,
-                    post: post.put(page),
-                    given,
-                };
-                (keeper, Ok(changed))
-            }
-            Err(fault) => {
-                let keeper = Keeper {
-                    head,
-                    account,
-                    post,
-                    given,
-                };
-                (keeper, Err(fault))
-            }
-        }
+        self.account.add(seat, &page);
+        self.post.put(page);
     }
 
     // Publishes a take that is pending, and accepts an edit after it.
-    fn accept_next<R: Wait>(
-        self,
+    fn accept_edit<R: Wait>(
+        &mut self,
         rt: &R,
         seat: usize,
         path: Path,
         content: Content,
-    ) -> (Keeper<N>, Result<Version, AllocError>)
+    ) -> Result<Version, AllocError>
         requires seat { seat < N.seats }
-        requires room { takes_in self.accepted < 2 ^ 64 - 1 }
-        requires counter { counter_of self.accepted < 2 ^ 64 - 1 }
-        ensures given { result.0.given ≡ self.given }
-        ensures accepted { MatchResult result.1
-            (λ version. result.0.accepted ≡ self.accepted
+        requires room { takes_in self.old.accepted < 2 ^ 64 - 1 }
+        requires counter { counter_of self.old.accepted < 2 ^ 64 - 1 }
+        ensures given { self.new.given ≡ self.old.given }
+        ensures accepted { MatchResult result
+            (λ version. self.new.accepted ≡ self.old.accepted
             ++ Edited seat (record { path = path; version = version; content = content }) ∷ [])
-            (λ _. result.0.accepted ≡ self.accepted) }
+            (λ _. self.new.accepted ≡ self.old.accepted) }
     {
-        let (keeper, sent) = self.flush(rt);
-        match sent {
-            Ok(()) => keeper.accept(seat, path, content),
-            Err(fault) => (keeper, Err(fault)),
-        }
+        self.flush(rt)?;
+        let page = self.post.page();
+        let (version, page) = page.with_edit::<N>(&self.head, seat as u64, path, content)?;
+        self.accept(seat, page);
+        Ok(version)
     }
 
-    // Publishes a take that is pending, and accepts a piece after it.
-    fn accept_next_piece<R: Wait>(
-        self,
+    // Publishes a take that is pending, and accepts a piece after it; answers how many paths changed.
+    fn accept_piece<R: Wait>(
+        &mut self,
         rt: &R,
         seat: usize,
         piece: Piece,
-    ) -> (Keeper<N>, Result<u64, AllocError>)
+    ) -> Result<u64, AllocError>
         requires seat { seat < N.seats }
-        requires room { takes_in self.accepted < 2 ^ 64 - 1 }
-        ensures given { result.0.given ≡ self.given }
-        ensures accepted { MatchResult result.1
-            (λ _. result.0.accepted ≡ self.accepted ++ Absorbed seat piece ∷ [])
-            (λ _. result.0.accepted ≡ self.accepted) }
-        ensures changed { IfOk result.1 (λ changed. changed
-            ≡ changed_paths (store_of self.accepted) (store_of result.0.accepted)) }
+        requires room { takes_in self.old.accepted < 2 ^ 64 - 1 }
+        ensures given { self.new.given ≡ self.old.given }
+        ensures accepted { MatchResult result
+            (λ _. self.new.accepted ≡ self.old.accepted ++ Absorbed seat piece ∷ [])
+            (λ _. self.new.accepted ≡ self.old.accepted) }
+        ensures changed { IfOk result (λ changed. changed
+            ≡ changed_paths (store_of self.old.accepted) (store_of self.new.accepted)) }
     {
-        let (keeper, sent) = self.flush(rt);
-        match sent {
-            Ok(()) => keeper.accept_piece(seat, piece),
-            Err(fault) => (keeper, Err(fault)),
-        }
+        self.flush(rt)?;
+        let (changed, page) = self
+            .post
+            .page()
+            .with_piece::<N>(&self.head, seat as u64, piece)?;
+        self.accept(seat, page);
+        Ok(changed)
     }
 
     // Counts the take that was accepted, and publishes it.
-    fn finish<R: Wait>(self, rt: &R, seat: &mut Seat<N>) -> (Keeper<N>, Option<Told<N>>)
+    fn finish<R: Wait>(&mut self, rt: &R, seat: &mut Seat<N>) -> Option<Told<N>>
         requires calls { seat.old.calls < 2 ^ 64 - 1 }
-        ensures given { result.0.given ≡ self.given }
-        ensures accepted { result.0.accepted ≡ self.accepted }
+        ensures given { self.new.given ≡ self.old.given }
+        ensures accepted { self.new.accepted ≡ self.old.accepted }
         ensures counted { (seat.new.calls ≡ seat.old.calls + 1) × (seat.new.number ≡ seat.old.number) }
-        ensures shown { MatchOption result.1 (seat.new.seen ≡ seat.old.seen) (λ told.
-            (told ≡ self.accepted) × (seat.new.seen ≡ told) × (result.0.shown ≡ told) × IsLegal N.opening told) }
+        ensures shown { MatchOption result (seat.new.seen ≡ seat.old.seen) (λ told.
+            (told ≡ self.old.accepted) × (seat.new.seen ≡ told) × (self.new.shown ≡ told) × IsLegal N.opening told) }
     {
         seat.calls += 1;
-        let (keeper, sent) = self.flush(rt);
-        if sent.is_err() {
-            return (keeper, None);
-        }
-        let told = keeper.post.tell();
+        self.flush(rt).ok()?;
+        let told = self.post.tell();
         seat.front = told.front().again();
-        (keeper, Some(told))
+        Some(told)
     }
 
     // Takes an edit for this seat, and publishes it, after a take that is pending.
     pub(crate) fn edit<R: Wait>(
-        self,
+        &mut self,
         rt: &R,
         seat: &mut Seat<N>,
         path: Path,
         content: Content,
-    ) -> (Keeper<N>, Result<(Version, Told<N>), NodeFault<N>>)
-        ensures given { result.0.given ≡ self.given }
-        ensures taken { IfOk result.1 (λ r.
+    ) -> Result<(Version, Told<N>), NodeFault<N>>
+        ensures given { self.new.given ≡ self.old.given }
+        ensures taken { IfOk result (λ r.
             EndsWith seat.old.seen r.1 (Edited seat.old.number
             (record { path = path; version = r.0; content = content }))) }
-        ensures told { IfOk result.1 (λ r. IsLegal N.opening r.1 × (seat.new.seen ≡ r.1)) }
-        ensures counted { IfOk result.1 (λ _. (seat.new.calls ≡ seat.old.calls + 1)
+        ensures told { IfOk result (λ r. IsLegal N.opening r.1 × (seat.new.seen ≡ r.1)) }
+        ensures counted { IfOk result (λ _. (seat.new.calls ≡ seat.old.calls + 1)
             × (seat.new.number ≡ seat.old.number)) }
-        ensures shown { IfOk result.1 (λ r. (result.0.shown ≡ r.1) × (result.0.accepted ≡ r.1)) }
-        ensures fault { IfErr result.1 (λ f. AtFault N.opening f seat.old seat.new) }
-        ensures kind { IfErr result.1 (λ f. IsEditFault f) }
-        ensures accepted { IfErr result.1
-            (λ f. AcceptsEdit f seat.old.number path content self.accepted result.0.accepted) }
-        ensures early { IfErr result.1 (λ f. IsEarly f → result.0 ≡ self) }
+        ensures shown { IfOk result (λ r. (self.new.shown ≡ r.1) × (self.new.accepted ≡ r.1)) }
+        ensures fault { IfErr result (λ f. AtFault N.opening f seat.old seat.new) }
+        ensures kind { IfErr result (λ f. IsEditFault f) }
+        ensures accepted { IfErr result
+            (λ f. AcceptsEdit f seat.old.number path content self.old.accepted self.new.accepted) }
+        ensures early { IfErr result (λ f. IsEarly f → self.new ≡ self.old) }
     {
-        if let Err(fault) = self.may_edit(seat) {
-            return (self, Err(fault));
-        }
-        let (keeper, accepted) = self.accept_next(rt, seat.number, path, content);
-        let Ok(version) = accepted else {
-            return (keeper, Err(NodeFault::Memory));
+        self.may_edit(seat)?;
+        let Ok(version) = self.accept_edit(rt, seat.number(), path, content) else {
+            return Err(NodeFault::Memory);
         };
-        let (keeper, told) = keeper.finish(rt, seat);
-        match told {
-            Some(told) => (keeper, Ok((version, told))),
+        match self.finish(rt, seat) {
+            Some(told) => Ok((version, told)),
             None => {
                 let version = Some(version);
-                (keeper, Err(NodeFault::Pending { version }))
+                Err(NodeFault::Pending { version })
             }
         }
     }
 
     // Takes a piece for this seat, and publishes it, after a take that is pending; answers how many paths changed.
     pub(crate) fn absorb<R: Wait>(
-        self,
+        &mut self,
         rt: &R,
         seat: &mut Seat<N>,
         piece: Piece,
-    ) -> (Keeper<N>, Result<(u64, Told<N>), NodeFault<N>>)
-        ensures given { result.0.given ≡ self.given }
-        ensures taken { IfOk result.1 (λ r. EndsChanging seat.old.seen r.1 (Absorbed seat.old.number piece) r.0) }
-        ensures told { IfOk result.1 (λ r. IsLegal N.opening r.1 × (seat.new.seen ≡ r.1)) }
-        ensures counted { IfOk result.1 (λ _. (seat.new.calls ≡ seat.old.calls + 1)
+    ) -> Result<(u64, Told<N>), NodeFault<N>>
+        ensures given { self.new.given ≡ self.old.given }
+        ensures taken { IfOk result (λ r. EndsChanging seat.old.seen r.1 (Absorbed seat.old.number piece) r.0) }
+        ensures told { IfOk result (λ r. IsLegal N.opening r.1 × (seat.new.seen ≡ r.1)) }
+        ensures counted { IfOk result (λ _. (seat.new.calls ≡ seat.old.calls + 1)
             × (seat.new.number ≡ seat.old.number)) }
-        ensures shown { IfOk result.1 (λ r. (result.0.shown ≡ r.1) × (result.0.accepted ≡ r.1)) }
-        ensures fault { IfErr result.1 (λ f. AtFault N.opening f seat.old seat.new) }
-        ensures kind { IfErr result.1 (λ f. IsPieceFault f) }
-        ensures accepted { IfErr result.1 (λ f. AcceptsPiece f seat.old.number piece self.accepted result.0.accepted) }
-        ensures early { IfErr result.1 (λ f. IsEarly f → result.0 ≡ self) }
+        ensures shown { IfOk result (λ r. (self.new.shown ≡ r.1) × (self.new.accepted ≡ r.1)) }
+        ensures fault { IfErr result (λ f. AtFault N.opening f seat.old seat.new) }
+        ensures kind { IfErr result (λ f. IsPieceFault f) }
+        ensures accepted { IfErr result (λ f. AcceptsPiece f seat.old.number piece self.old.accepted self.new.accepted) }
+        ensures early { IfErr result (λ f. IsEarly f → self.new ≡ self.old) }
     {
-        if let Err(fault) = self.may_take(seat) {
-            return (self, Err(fault));
-        }
-        let (keeper, accepted) = self.accept_next_piece(rt, seat.number, piece);
-        let Ok(changed) = accepted else {
-            return (keeper, Err(NodeFault::Memory));
+        self.may_take(seat)?;
+        let Ok(changed) = self.accept_piece(rt, seat.number(), piece) else {
+            return Err(NodeFault::Memory);
         };
-        let (keeper, told) = keeper.finish(rt, seat);
-        match told {
-            Some(told) => (keeper, Ok((changed, told))),
-            None => (keeper, Err(NodeFault::Pending { version: None })),
+        match self.finish(rt, seat) {
+            Some(told) => Ok((changed, told)),
+            None => Err(NodeFault::Pending { version: None }),
         }
     }
 }

@@ -7,3 +7,4 @@ invariant-loop-number g l =
     (l.seat.calls ≡ l.fn.seat.calls + (l.served.answered + l.served.pending))
     × ((l.served.answered + l.served.pending) + l.served.refused ≤ l.number)
     × IsPrefix l.fn.seat.seen l.seat.seen
+    × (l.seat.number ≡ l.fn.seat.number)

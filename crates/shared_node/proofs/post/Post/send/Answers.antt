@@ -1,27 +1,37 @@
-use Rattle.std.proofs.Common.{◌≡◌, List, drop, subst, sym, ap, ◌∙◌}
-use mathlib.Core.List.{IsPrefix}
+use Rattle.std.proofs.Common.{◌≡◌, Option, None, drop, subst, sym}
 use Rattle.left_right.specs.Sides.{view}
-use Rattle.node_histories.specs.declared.events.Event.{Event}
-use Rattle.node_histories.specs.Histories.{opening_of}
-use Rattle.shared_node.specs.Sights.{latest, sight_of}
-use Rattle.shared_node.proofs.Latest.{sent, History}
+use Rattle.node_histories.specs.declared.page.Page.{Page}
+use Rattle.shared_node.specs.Sights.{latest, newest}
+use Rattle.shared_node.proofs.Latest.{sent, IsPosted, History}
 use Rattle.shared_node.proofs.post.Post.send.Goals as goal
 
-pub invariant_of-post-2 : goal.invariant_of-post-2
-invariant_of-post-2 g c =
+pub invariant_of-self : goal.invariant_of-self
+invariant_of-self g c =
     let b = g.N.NodeName.book in
+    let o = g.N.NodeName.opening in
     let w = c.self.inside.writer in
     let h = c.hand.new.writer in
-    let inv = c.self.invariant in
-    let desk = c.hand.ensures.desk in
-    let due = c.in_default.ensures.due in
+    let l : History = newest (λ q. q.seen) h.desk.shown.value.seen (drop h.behind h.log.items) c.hand.new.pending in
+    subst (λ d. IsPosted b o (view d.place) d.shown.value.seen l) (sym c.hand.ensures.desk)
+    (subst (λ (k : History). IsPosted b o (view w.desk.place) w.desk.shown.value.seen k) (sym c.hand.ensures.due) c.self.invariant)
+
+pub invariant_of-self-2 : goal.invariant_of-self-2
+invariant_of-self-2 g c =
+    let b = g.N.NodeName.book in
+    let o = g.N.NodeName.opening in
+    let w = c.self.inside.writer in
+    let h = c.hand.new.writer in
+    let n = c.replace_with.new.dest in
+    let r = c.replace_with.result in
+    let handed : c.hand.new.pending ≡ None = c.in_ok-hand.ensures.handed in
     let s : History = h.desk.shown.value.seen in
+    let t : History = n.desk.shown.value.seen in
     let l : History = latest (λ q. q.seen) s (drop h.behind h.log.items) in
-    let same : s ≡ w.desk.shown.value.seen = ap (λ d. d.shown.value.seen) desk in
-    let sight : view h.desk.place ≡ sight_of b s.log = cc (ap (λ d. view d.place) desk, same, inv.0) in
-    let here : s.book ≡ b = cc (same, inv.1) in
-    let there : l.book ≡ b = cc (due, inv.2) in
-    let over : opening_of s.log ≡ g.N.NodeName.opening = ap (λ (x : History). opening_of x.log) same ∙ inv.3 in
-    let under : opening_of l.log ≡ g.N.NodeName.opening = ap (λ (x : History). opening_of x.log) due ∙ inv.4 in
-    let pre : IsPrefix s.log l.log = subst (λ (k : List Event). IsPrefix k l.log) (sym (ap (λ (x : History). x.log) same)) (subst (λ (k : List Event). IsPrefix w.desk.shown.value.seen.log k) (sym (ap (λ (x : History). x.log) due)) inv.5) in
-    sent b g.N.NodeName.opening c.publish-writer.result.1 s _ l _ _ _ sight here there over under pre c.publish-writer.ensures.values c.publish-writer.ensures.sight
+    let k : History = latest (λ q. q.seen) t (drop n.behind n.log.items) in
+    let due : l ≡ newest (λ q. q.seen) w.desk.shown.value.seen (drop w.behind w.log.items) c.self.inside.pending =
+    subst (λ (p : Option Page). newest (λ q. q.seen) s (drop h.behind h.log.items) p ≡ newest (λ q. q.seen) w.desk.shown.value.seen (drop w.behind w.log.items) c.self.inside.pending) handed c.hand.ensures.due in
+    let posted : IsPosted b o (view h.desk.place) s l =
+    subst (λ d. IsPosted b o (view d.place) d.shown.value.seen l) (sym c.hand.ensures.desk)
+    (subst (λ (x : History). IsPosted b o (view w.desk.place) w.desk.shown.value.seen x) (sym due) c.self.invariant) in
+    let after : IsPosted b o (view n.desk.place) t k = sent b o r s t l k (view h.desk.place) (view n.desk.place) posted c.replace_with.ensures.0 c.replace_with.ensures.1 in
+    subst (λ (p : Option Page). IsPosted b o (view n.desk.place) t (newest (λ q. q.seen) t (drop n.behind n.log.items) p)) (sym handed) after

@@ -1,0 +1,44 @@
+use Rattle.std.proofs.Common.{◌+◌, sym, ◌∙◌, ap}
+use Rattle.shared_node.specs.declared.serving.Step.{Step}
+use Rattle.shared_node.specs.Seats.{SeatNow}
+use Rattle.shared_node.specs.Steps.{calls_of}
+use Rattle.shared_node.proofs.Taken.{ends_seen, changing_seen, taken_calls, taken_seen, taken_number}
+use Rattle.shared_node.proofs.serving.do_message.Goals as goal
+
+pub returns-in-Edit-clause-calls : goal.returns-in-Edit-clause-calls
+returns-in-Edit-clause-calls g c =
+    let s : SeatNow = c.args.seat.now in
+    let taken = c.edit in
+    taken_calls g.N.NodeName.opening taken.result s taken.new.seat taken.ensures.counted taken.ensures.fault
+    ∙ ap (λ (x : Step). s.calls + calls_of x) (sym c.step_of.ensures)
+
+pub returns-in-Edit-clause-seen : goal.returns-in-Edit-clause-seen
+returns-in-Edit-clause-seen g c =
+    let s : SeatNow = c.args.seat.now in
+    let taken = c.edit in
+    let t : SeatNow = taken.new.seat in
+    taken_seen g.N.NodeName.opening taken.result s t _ _ (λ x p q. ends_seen s.seen x.1 t.seen _ p q.1) taken.ensures.taken taken.ensures.told taken.ensures.fault
+
+pub returns-in-Edit-clause-number : goal.returns-in-Edit-clause-number
+returns-in-Edit-clause-number g c =
+    let taken = c.edit in
+    taken_number g.N.NodeName.opening taken.result c.args.seat.now taken.new.seat taken.ensures.counted taken.ensures.fault
+
+pub returns-in-Absorb-clause-calls : goal.returns-in-Absorb-clause-calls
+returns-in-Absorb-clause-calls g c =
+    let s : SeatNow = c.args.seat.now in
+    let taken = c.absorb in
+    taken_calls g.N.NodeName.opening taken.result s taken.new.seat taken.ensures.counted taken.ensures.fault
+    ∙ ap (λ (x : Step). s.calls + calls_of x) (sym c.step_of-in-Absorb.ensures)
+
+pub returns-in-Absorb-clause-seen : goal.returns-in-Absorb-clause-seen
+returns-in-Absorb-clause-seen g c =
+    let s : SeatNow = c.args.seat.now in
+    let taken = c.absorb in
+    let t : SeatNow = taken.new.seat in
+    taken_seen g.N.NodeName.opening taken.result s t _ _ (λ x p q. changing_seen s.seen x.1 t.seen _ _ p q.1) taken.ensures.taken taken.ensures.told taken.ensures.fault
+
+pub returns-in-Absorb-clause-number : goal.returns-in-Absorb-clause-number
+returns-in-Absorb-clause-number g c =
+    let taken = c.absorb in
+    taken_number g.N.NodeName.opening taken.result c.args.seat.now taken.new.seat taken.ensures.counted taken.ensures.fault
