@@ -167,16 +167,7 @@ given shell piece name i node new entries changed text kept some lt here joined 
               (subst (λ (o : Option ℕ). MatchOption o (Refuses world UnknownNode (Ok text.items) sent.0) (λ k. SendsTo world (Ok text.items) sent.0 number k)) (sym some ∙ h.numbers name) sent.2),
         )
 
--- ---- sweep
-
-next_number : (first count : ℕ) → numbers_from first (suc count) ≡ numbers_from first count ++ (first + count) ∷ []
-next_number first zero = let same : first ≡ first + 0 = omega arith in ap (λ (k : ℕ). k ∷ []) same
-next_number first (suc count) =
-    let same : suc first + count ≡ first + suc count = omega arith in
-    ap (λ (ks : List ℕ). first ∷ ks) (next_number (suc first) count ∙ ap (λ (k : ℕ). numbers_from (suc first) count ++ k ∷ []) same)
-
-pub numbers-push : (first count : ℕ) → numbers_from first (count + 1) ≡ numbers_from first count ++ (first + count) ∷ []
-numbers-push first count = let more : count + 1 ≡ suc count = omega arith in ap (numbers_from first) more ∙ next_number first count
+-- ---- merges one after another
 
 pub merged_all-append : (world : ScriptWorld) (xs ys : List (ℕ × ℕ)) → merged_all world (xs ++ ys) ≡ merged_all (merged_all world xs) ys
 merged_all-append world [] ys = refl
@@ -186,50 +177,6 @@ pub merged_nodes : (world : ScriptWorld) (xs : List (ℕ × ℕ)) → (merged_al
 merged_nodes world [] = refl
 merged_nodes world (x ∷ xs) = merged_nodes (merged world x.0 x.1) xs
 
--- one merge more
-pub merges_go : (f : ℕ → ℕ × ℕ) (k : ℕ) (first mid last : Keeps) → 1 ≤ k → Continues first mid (λ old new. new ≡ merged_all old (map f (numbers_from 1 (k - 1)))) → Continues mid last (λ old new. new ≡ merged old (f k).0 (f k).1)
-    → Continues first last (λ old new. new ≡ merged_all old (map f (numbers_from 1 (k + 1 - 1))))
-merges_go f k first mid last least before one world h =
-    let half = before world h in
-    let end = one half.0 half.1 in
-    let here : 1 + (k - 1) ≡ k = omega arith in
-    let more : k + 1 - 1 ≡ k - 1 + 1 = omega arith in
-    let numbers : numbers_from 1 (k + 1 - 1) ≡ numbers_from 1 (k - 1) ++ k ∷ [] = ap (numbers_from 1) more ∙ numbers-push 1 (k - 1) ∙ ap (λ (n : ℕ). numbers_from 1 (k - 1) ++ n ∷ []) here in (
-      end.0,
-      end.1,
-      end.2 ∙ ap (λ (w : ScriptWorld). merged w (f k).0 (f k).1) half.2 ∙ sym (merged_all-append world (map f (numbers_from 1 (k - 1))) (f k ∷ []))
-          ∙ ap (merged_all world) (sym (map-append f (numbers_from 1 (k - 1)) (k ∷ [])) ∙ ap (map f) (sym numbers)),
-    )
-
--- all merges
-pub all_merged : (f : ℕ → ℕ × ℕ) (m : ℕ) (shell last : Keeps) → m ≡ length shell.nodes - 1 → Continues shell last (λ old new. new ≡ merged_all old (map f (numbers_from 1 m)))
-    → Continues shell last (λ old new. new ≡ merged_all old (map f (numbers_from 1 (length old.nodes - 1))))
-all_merged f m shell last is merges world h =
-    let next = merges world h in
-    let same : m ≡ length world.nodes - 1 = is ∙ ap (λ n. n - 1) h.count in
-    (next.0, next.1, next.2 ∙ ap (λ n. merged_all world (map f (numbers_from 1 n))) same)
-
 -- some node
 pub any_node : Replicated
 any_node = record { store = finmap.empty; writer = 0 }
-
-pub none_merged : (f : ℕ → ℕ × ℕ) (shell : Keeps) → Continues shell shell (λ old new. new ≡ merged_all old (map f (numbers_from 1 0)))
-none_merged f shell world h = (world, h, refl)
-
-pub sweep_done : (first mid last : Keeps) (text : Vec ℕ Global) → text.items ≡ codes "ok\n"
-    → Continues first mid (λ old new. new ≡ merged_all old (map (λ k. (k, 0)) (numbers_from 1 (length old.nodes - 1))))
-    → Continues mid last (λ old new. new ≡ merged_all old (map (λ k. (0, k)) (numbers_from 1 (length old.nodes - 1))))
-    → Goes first last (λ old outcome new. Sweeps old outcome new) (Ok text)
-sweep_done first mid last text e gathered spread world h =
-    let half = gathered world h in
-    let end = spread half.0 half.1 in
-    let into : List (ℕ × ℕ) = map (λ k. (k, 0)) (numbers_from 1 (length world.nodes - 1)) in
-    let out_of : List (ℕ × ℕ) = map (λ k. (0, k)) (numbers_from 1 (length world.nodes - 1)) in
-    let same : length half.0.nodes ≡ length world.nodes = ap (λ (w : ScriptWorld). length w.nodes) half.2 ∙ ap (λ ms. length ms) (merged_nodes world into) in (
-      end.0,
-      end.1,
-      record {
-        outcome_is = ap Ok e;
-        world_is = end.2 ∙ ap (λ n. merged_all half.0 (map (λ k. (0, k)) (numbers_from 1 (n - 1)))) same ∙ ap (λ (w : ScriptWorld). merged_all w out_of) half.2 ∙ sym (merged_all-append world into out_of);
-      },
-    )

@@ -33,9 +33,8 @@ use Rattle.script_commands.specs.Paths.{IsPathFault, paths_of}
 use Rattle.script_answers.specs.Texts.{ok_line}
 use Rattle.script_worlds.specs.Worlds.{ScriptWorld, happened, has_writer, held, next_edit, node_named}
 use Rattle.script_worlds.specs.Worlds.{with_node as with_new_node}
-use Rattle.script_worlds.specs.NodeLaws.{named_within}
-use Rattle.fleet_script.specs.Does.{AtNode, AtPath, AtPaths, Gives, IsRead, Names, Refuses, RefusesPath, WithFile, WithTarget, WithText, Writes}
-use Rattle.fleet_script.specs.Holds.{Goes, HasNoNode, Holds, Keeps}
+use Rattle.fleet_script.specs.Does.{AtNode, AtPath, AtPaths, Gives, IsRead, Names, Reads, Refuses, RefusesPath, WithFile, WithTarget, WithText, Writes}
+use Rattle.fleet_script.specs.Holds.{Goes, HasNoNode, Holds, IsNodeNamed, Keeps}
 use Rattle.fleet_script.proofs.Nodes.{holds_node, holds_put, set_same}
 
 -- steps, and what they leave open
@@ -97,11 +96,7 @@ module _ (shell after : Keeps) (r : Told) where
 module _ (shell : Keeps) (fault : Fault) where
   pub without_node : (name : List ℕ) (P : ℕ → Step) → HasNoNode shell name fault → Goes shell shell (λ old outcome new. AtNode old outcome new name (λ k. P k old outcome new)) (Err fault)
   without_node name P (inl e) = no_memory shell shell fault _ e
-  without_node name P (inr (e, none)) = refused shell UnknownNode fault _ e (λ old h. by old h (node_named old.nodes name) refl)
-    where
-      by : (old : ScriptWorld) → Holds shell old → (o : Option ℕ) → node_named old.nodes name ≡ o → MatchOption o (Refuses old UnknownNode (Err UnknownNode) old) (λ k. P k old (Err UnknownNode) old)
-      by old h None is = refuses old UnknownNode
-      by old h (Some k) is = let within = named_within old.nodes name k is in absurd (none k (h.numbers name ∙ is) (omega (arith, h.count)))
+  without_node name P (inr (e, none)) = refused shell UnknownNode fault _ e (λ old h. subst (λ (o : Option ℕ). MatchOption o (Refuses old UnknownNode (Err UnknownNode) old) (λ k. P k old (Err UnknownNode) old)) (sym none ∙ h.numbers name) (refuses old UnknownNode))
 
   refuses_path : (f : PathFault) (S : Step) → fault ≡ fault_of_path f → ((old : ScriptWorld) (outcome : Outcome) → RefusesPath old outcome old f → S old outcome old) → Goes shell shell S (Err fault)
   refuses_path path.Directory S e s = refused shell Directory fault S e (λ old h. s old (Err Directory) (refuses old Directory))
@@ -128,15 +123,22 @@ module _ (shell : Keeps) (fault : Fault) where
 
 -- ---- what is read alone
 
-pub read_told : (shell : Keeps) (r : Told) (i : ℕ) (node : Replicated) (Tells : EntryMap → Outcome → Type 0) → slice_get shell.nodes i ≡ Some node
+read_told : (shell : Keeps) (r : Told) (i : ℕ) (node : Replicated) (Tells : EntryMap → Outcome → Type 0) → slice_get shell.nodes i ≡ Some node
     → Goes shell shell (λ old outcome new. Tells node.store outcome × (new ≡ old)) r → Goes shell shell (λ old outcome new. IsRead (Tells (held old i)) old outcome new) r
 read_told shell r i node Tells at = weaker shell shell r _ _ (λ old h outcome new p. record { told = subst (λ (s : EntryMap). Tells s outcome) (h.stores i node at) p.0; world_is = p.1 })
 
 -- nothing happens
-pub stays : (shell : Keeps) (r : Told) (P : Outcome → Type 0) → IsTold r P → Goes shell shell (λ old outcome new. P outcome × (new ≡ old)) r
+stays : (shell : Keeps) (r : Told) (P : Outcome → Type 0) → IsTold r P → Goes shell shell (λ old outcome new. P outcome × (new ≡ old)) r
 stays shell (Ok text) P p = λ world h. (world, h, (p, refl))
 stays shell (Err (Refused refusal)) P p = λ world h. (world, h, (p, refl))
 stays shell (Err Memory) P p = tt
+
+-- a command that only reads tells what it may tell of the store of a node of this name
+pub reads : (shell : Keeps) (r : Told) (name : List ℕ) (replica : Replicated) (s : EntryMap) (Tells : EntryMap → Outcome → Type 0) → IsNodeNamed shell name replica → s ≡ replica.store → IsTold r (Tells s)
+    → Goes shell shell (λ old outcome new. Reads old outcome new name Tells) r
+reads shell r name replica s Tells is same told =
+    with_node shell shell r name is.number (λ k old outcome new. IsRead (Tells (held old k)) old outcome new) is.named
+    (read_told shell r is.number replica Tells is.there (stays shell r (Tells replica.store) (subst (λ (t : EntryMap). IsTold r (Tells t)) same told)))
 
 -- ---- writing
 

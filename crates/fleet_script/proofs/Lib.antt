@@ -7,3 +7,4 @@ pub mod StepKinds
 pub mod WholeScripts
 pub mod Rooms
 pub mod Reading
+pub mod Sweeps

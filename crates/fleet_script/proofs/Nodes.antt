@@ -90,7 +90,7 @@ module _ {X : Type 0} where
   set_twice (z ∷ zs) zero x y = refl
   set_twice (z ∷ zs) (suc i) x y = ap (λ ws. z ∷ ws) (set_twice zs i x y)
 
-  length_push : (xs : List X) (x : X) → length (xs ++ x ∷ []) ≡ suc (length xs)
+  pub length_push : (xs : List X) (x : X) → length (xs ++ x ∷ []) ≡ suc (length xs)
   length_push [] x = refl
   length_push (y ∷ ys) x = ap suc (length_push ys x)
 

@@ -1,6 +1,6 @@
 -- What the shell keeps of a world: of each node its replica of now, by name the numbers of nodes and the pieces of now, and which writer numbers are taken.
 -- Source: this project's own.
-use Rattle.std.specs.Prelude.{◌≡◌, ◌⊎◌, ℕ, ◌<◌, ◌≤◌, Bool, false, Vec, List, [], length, slice_get, slice_index_or, slice_set, Option, Some, None, Result}
+use Rattle.std.specs.Prelude.{◌≡◌, ◌⊎◌, ℕ, ◌≤◌, Bool, false, Vec, List, [], length, slice_get, slice_index_or, slice_set, Option, Some, None, Result}
 use Rattle.std.specs.Cmp.Lexicographic.{slice_cmp}
 use Rattle.std.specs.Ordering.{nat_cmp}
 use Rattle.std.specs.declared.alloc.Global.{Global}
@@ -79,9 +79,15 @@ Goes old new step result = IsSaid (λ (text : Vec ℕ Global). text.items) resul
 abbrev pub Executes : Shell → Shell → Command → Result (Vec ℕ Global) Fault → Type 0
 Executes old new command result = Goes (kept_in old) (kept_in new) (λ before outcome after. Does before command outcome after) result
 
+-- this is the replica of the node of this name
+pub record IsNodeNamed (shell : Keeps) (name : List ℕ) (replica : Replicated) : Type 0 where
+  pub number : ℕ
+  pub named : shell.number_of name ≡ Some number
+  pub there : slice_get shell.nodes number ≡ Some replica
+
 -- why no node of a name was found: there is none, or memory was refused
 abbrev pub HasNoNode : Keeps → List ℕ → Fault → Type 0
-HasNoNode shell name fault = (fault ≡ Memory) ⊎ ((fault ≡ Refused UnknownNode) × ((at : ℕ) → shell.number_of name ≡ Some at → at < length shell.nodes → ⊥))
+HasNoNode shell name fault = (fault ≡ Memory) ⊎ ((fault ≡ Refused UnknownNode) × (shell.number_of name ≡ None))
 
 -- a node with the store of another joined into its own
 abbrev pub joined_with : Replicated → Replicated → Replicated

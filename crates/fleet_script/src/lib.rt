@@ -5,8 +5,6 @@
 //! Promise: the script's answers; convergence.
 #![tactic(auto)]
 
-mod exchanges;
-mod execution;
 mod laws;
 mod running;
 mod states;

@@ -1,6 +1,6 @@
 -- What a line asks for.
 -- Source: this project's own.
-use Rattle.std.specs.Prelude.{◌≡◌, ◌<◌, ℕ, false, ◌&&◌, codes, if◌then◌else◌, List, [], ◌∷◌, Option, Some, None, Result, Ok, Err, nat_le}
+use Rattle.std.specs.Prelude.{ℕ, ◌&&◌, codes, if◌then◌else◌, List, [], ◌∷◌, Option, Some, None, Result, Ok, Err, nat_le}
 use Rattle.std.specs.Str.{bytes_eq}
 use Rattle.script_words.specs.Words.{words_of, text_after}
 use Rattle.script_words.specs.Names.{is_name}
@@ -9,36 +9,6 @@ use Rattle.script_commands.specs.declared.commands.Command.{Command}
 use Rattle.script_commands.specs.declared.commands.Command.TheVariants.{Node, Put, Link, Remove, Merge, Part, Send, Sweep, Files, Cat, Show, List as ListUnits, Plan, Workers, Same, Crowd}
 use Rattle.script_commands.specs.declared.commands.Refusal.{Refusal}
 use Rattle.script_commands.specs.declared.commands.Refusal.TheVariants.{UnknownCommand, Arguments}
-
-abbrev pub AreNotOne : List (List ℕ) → Type 0
-AreNotOne (first ∷ []) = ⊥
-AreNotOne words = Unit {0}
-
-abbrev pub AreNotTwo : List (List ℕ) → Type 0
-AreNotTwo (first ∷ second ∷ []) = ⊥
-AreNotTwo words = Unit {0}
-
--- these don't begin with a name
-abbrev pub BeginsWithNoName : List (List ℕ) → Type 0
-BeginsWithNoName [] = Unit {0}
-BeginsWithNoName (first ∷ words) = is_name first ≡ false
-
-abbrev pub AreNotOneName : List (List ℕ) → Type 0
-AreNotOneName (name ∷ []) = is_name name ≡ false
-AreNotOneName words = Unit {0}
-
-abbrev pub AreNotTwoNames : List (List ℕ) → Type 0
-AreNotTwoNames (first ∷ second ∷ []) = is_name first && is_name second ≡ false
-AreNotTwoNames words = Unit {0}
-
-abbrev pub AreNotNameAndWord : List (List ℕ) → Type 0
-AreNotNameAndWord (name ∷ word ∷ []) = is_name name ≡ false
-AreNotNameAndWord words = Unit {0}
-
--- no number of at most 1,000
-abbrev pub IsNoEditCount : Option ℕ → Type 0
-IsNoEditCount None = Unit {0}
-IsNoEditCount (Some edits) = 1000 < edits
 
 abbrev pub node_with : List ℕ → Option ℕ → Result Command Refusal
 node_with name None = Err Arguments
@@ -134,12 +104,11 @@ question_of verb words =
     else (if bytes_eq verb (codes "crowd") then crowd_command words
     else Err UnknownCommand)))))))
 
--- the first word names the command
-abbrev pub command_of_words : List (List ℕ) → List ℕ → Result Command Refusal
-command_of_words [] line = Err UnknownCommand
-command_of_words (verb ∷ words) line =
+-- the first word names the command; the text is what follows two further words and one space
+abbrev pub change_of : List ℕ → List (List ℕ) → List ℕ → Result Command Refusal
+change_of verb words text =
     if bytes_eq verb (codes "node") then node_command words
-    else (if bytes_eq verb (codes "put") then put_command words (text_after 3 line)
+    else (if bytes_eq verb (codes "put") then put_command words text
     else (if bytes_eq verb (codes "link") then link_command words
     else (if bytes_eq verb (codes "remove") then remove_command words
     else (if bytes_eq verb (codes "merge") then merge_command words
@@ -147,6 +116,11 @@ command_of_words (verb ∷ words) line =
     else (if bytes_eq verb (codes "send") then send_command words
     else (if bytes_eq verb (codes "sweep") then sweep_command words
     else question_of verb words)))))))
+
+-- the command of a line with these words
+abbrev pub command_of_words : List (List ℕ) → List ℕ → Result Command Refusal
+command_of_words [] line = Err UnknownCommand
+command_of_words (verb ∷ words) line = change_of verb words (text_after 3 line)
 
 -- the command of a line, or why it is none
 abbrev pub command_of : List ℕ → Result Command Refusal

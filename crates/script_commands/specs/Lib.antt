@@ -1,5 +1,6 @@
 pub mod Commands
 pub mod Faults
+pub mod Fields
 pub mod Files
 pub mod Outcomes
 pub mod Paths

@@ -8,6 +8,7 @@
 
 mod commands;
 mod edit_counts;
+mod fields;
 mod laws;
 mod parsing;
 mod path_words;

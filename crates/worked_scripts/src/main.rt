@@ -1,13 +1,15 @@
 //! Works scripts: dialogues of commands and the answers that each must have. It reads dialogues from standard
-//! input, runs the commands of each as one script, and says of each whether the answers are those that it tells.
+//! input, shows how a program of one's own takes these libraries in, runs the commands of each dialogue as one script, and
+//! says of each whether the answers are those that it tells.
 //!
 //! Promise: memory is refused only where it is.
 //!
-//! `stdin` has the dialogues, and `stdout` a line for each; the gate compares the two. How a dialogue is written
-//! stands in `dialogues.rt`.
+//! `stdin` has the dialogues; `stdout` has what `embedding.rt` shows, and then a line for each; the gate compares the two.
+//! How a dialogue is written stands in `dialogues.rt`.
 #![tactic(auto)]
 
 mod dialogues;
+mod embedding;
 
 use dialogues::{Dialogue, Kind, kind_of};
 use fleet_script::run;
@@ -50,25 +52,27 @@ fn work<R: AllocGlobal + Threads + Wait + Sync>(
 fn work_all<R: AllocGlobal + Threads + Wait + Sync>(
     rt: &R,
     text: &[u8],
-) -> Result<Vec<u8>, AllocError> {
-    let mut out = Vec::new(rt.alloc());
+    out: &mut Vec<u8>,
+) -> Result<(), AllocError> {
     let mut dialogue = Dialogue::new(rt.alloc());
     let mut rest = text;
     while !rest.is_empty() {
         let (line, later) = cut_line(rest);
         if matches!(kind_of(line), Kind::Name) && !dialogue.name().is_empty() {
-            work(rt, &dialogue, &mut out)?;
+            work(rt, &dialogue, out)?;
             dialogue = Dialogue::new(rt.alloc());
         }
         dialogue.add(rt.alloc(), line)?;
         rest = later;
     }
-    work(rt, &dialogue, &mut out)?;
-    Ok(out)
+    work(rt, &dialogue, out)
 }
 
 fn main(rt: HostRuntime) -> ExitCode {
     work_input(&rt, |text: &[u8]| -> Result<Vec<u8>, AllocError> {
-        work_all(&rt, text)
+        let mut out = Vec::new(rt.alloc());
+        embedding::show(&rt, &mut out)?;
+        work_all(&rt, text, &mut out)?;
+        Ok(out)
     })
 }

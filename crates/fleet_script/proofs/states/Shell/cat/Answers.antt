@@ -1,17 +1,7 @@
-use Rattle.std.proofs.Common.{subst}
 use Rattle.script_answers.specs.Files.{TellsFiles}
 use Rattle.fleet_script.specs.Holds.{kept_in}
-use Rattle.fleet_script.proofs.Goes.{IsTold, read_told, stays, with_node}
-use Rattle.fleet_script.proofs.Nodes.{slice_get_at}
+use Rattle.fleet_script.proofs.Goes.{reads}
 use Rattle.fleet_script.proofs.states.Shell.cat.Goals as goal
 
 pub returns : goal.returns
-returns c =
-    let shell = kept_in c.args.self.now in
-    let node = c.index.result.now in
-    let at = slice_get_at c.args.self.now.nodes.items c.in_ok-at.at node c.in_ok-at.ensures.within c.index.ensures in
-    record {
-      done = with_node shell shell c.tell_files.result c.args.node.now c.in_ok-at.at _ c.in_ok-at.ensures.found
-          (read_told shell c.tell_files.result c.in_ok-at.at node (TellsFiles c.args.unit.now) at
-          (stays shell c.tell_files.result (TellsFiles c.args.unit.now node.store) (subst (λ s. IsTold c.tell_files.result (TellsFiles c.args.unit.now s)) c.store.ensures.store c.tell_files.ensures.told)));
-    }
+returns c = record { done = reads (kept_in c.args.self.now) c.tell_files.result c.args.node.now c.in_ok-replica.replica.now c.store.result.now (TellsFiles c.args.unit.now) c.in_ok-replica.ensures.found c.store.ensures.store c.tell_files.ensures.told }

@@ -1,17 +1,7 @@
-use Rattle.std.proofs.Common.{subst}
 use Rattle.script_answers.specs.Tells.{TellsPlan}
 use Rattle.fleet_script.specs.Holds.{kept_in}
-use Rattle.fleet_script.proofs.Goes.{IsTold, read_told, stays, with_node}
-use Rattle.fleet_script.proofs.Nodes.{slice_get_at}
+use Rattle.fleet_script.proofs.Goes.{reads}
 use Rattle.fleet_script.proofs.states.Shell.plan.Goals as goal
 
 pub returns : goal.returns
-returns g c =
-    let shell = kept_in c.args.self.now in
-    let node = c.index.result.now in
-    let at = slice_get_at c.args.self.now.nodes.items c.in_ok-at.at node c.in_ok-at.ensures.within c.index.ensures in
-    record {
-      done = with_node shell shell c.tell_plan.result c.args.node.now c.in_ok-at.at _ c.in_ok-at.ensures.found
-          (read_told shell c.tell_plan.result c.in_ok-at.at node (TellsPlan c.args.unit.now c.args.running) at
-          (stays shell c.tell_plan.result (TellsPlan c.args.unit.now c.args.running node.store) (subst (λ s. IsTold c.tell_plan.result (TellsPlan c.args.unit.now c.args.running s)) c.store.ensures.store c.tell_plan.ensures.told)));
-    }
+returns g c = record { done = reads (kept_in c.args.self.now) c.tell_plan.result c.args.node.now c.in_ok-replica.replica.now c.store.result.now (TellsPlan c.args.unit.now c.args.running) c.in_ok-replica.ensures.found c.store.ensures.store c.tell_plan.ensures.told }

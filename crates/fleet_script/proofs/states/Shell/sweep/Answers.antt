@@ -1,6 +1,11 @@
+use Rattle.std.proofs.Common.{◌≡◌, length, ◌∙◌, arith}
+use Rattle.std.proofs.lemmas.List.{take_at}
 use Rattle.fleet_script.specs.Holds.{kept_in}
-use Rattle.fleet_script.proofs.Between.{sweep_done}
+use Rattle.fleet_script.proofs.Sweeps.{sweep_done}
 use Rattle.fleet_script.proofs.states.Shell.sweep.Goals as goal
 
-pub returns : goal.returns
-returns c = record { done = sweep_done (kept_in c.args.self.now) (kept_in c.gather.new.self) (kept_in c.spread.new.self) c.in_ok-text.text c.in_ok-text.ensures.items c.in_ok-gather.ensures.merged c.in_ok-spread.ensures.merged }
+pub returns-clause-done : goal.returns-clause-done
+returns-clause-done c =
+    let count : length c.sweep.new.replicas ≡ c.args.self.now.nodes.len = omega (arith, c.deref_mut.ensures.len) in
+    sweep_done (kept_in c.args.self.now) _ c.in_ok-text.text c.in_ok-text.ensures.items
+    (take_at c.sweep.new.replicas _ c.args.self.now.nodes.len count ∙ rw c.deref_mut.ensures.value at c.in_ok-sweep.ensures.joined)

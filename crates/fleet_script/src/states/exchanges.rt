@@ -1,15 +1,14 @@
 //! Commands between nodes: what one node holds reaches another.
-ghost use Rattle.std.specs.Prelude.{◌≡◌, ◌-◌, ◌<◌, length, map, vec_len, List, ℕ, Some, IfOk, OnOk, slice_index_or, if◌then◌else◌};
-ghost use Rattle.std.specs.Str.{bytes_eq};
+ghost use Rattle.std.specs.Prelude.{◌≡◌, ◌<◌, vec_len, IfOk, OnOk, slice_index_or};
 ghost use Rattle.edit_sums.specs.Sums.{changed_paths};
 ghost use Rattle.replica_store.specs.Replicas.{Replicated};
 ghost use Rattle.world_law.specs.Cuts.{cut, digest_of};
 ghost use Rattle.script_commands.specs.declared.commands.Command.TheVariants.{Merge, Part, Send, Sweep};
-ghost use Rattle.script_worlds.specs.Worlds.{merged_all, numbers_from};
 ghost use Rattle.fleet_script.specs.Does.{if_any};
-ghost use Rattle.fleet_script.specs.Holds.{Continues, Executes, IsJoinedAt, kept_in};
+ghost use Rattle.fleet_script.specs.Holds.{Executes, IsJoinedAt, kept_in};
 
 use crate::states::Shell;
+use delta_gossip::sweep;
 use delta_pieces::{Piece, delta_at, delta_between, digest_at};
 use load_path::Path;
 use plain_values::Bytes;
@@ -21,8 +20,9 @@ use std::mem;
 
 impl Shell {
     /// Gives a node all that it lacks of another.
-    pub fn merge(&mut self, alloc: Global, from: &[u8], to: &[u8]) -> Result<Vec<u8>, Fault>
+    pub(super) fn merge(&mut self, alloc: Global, from: &[u8], to: &[u8]) -> Result<Vec<u8>, Fault>
         ensures done { Executes self.old self.new (Merge from.now to.now) result }
+        ensures crew { self.new.workers ≡ self.old.workers }
     {
         let from = self.node_at(alloc, from)?;
         let to = self.node_at(alloc, to)?;
@@ -31,7 +31,7 @@ impl Shell {
     }
 
     /// Cuts at one node for the ask of another, and keeps what is cut under a name.
-    pub fn part(
+    pub(super) fn part(
         &mut self,
         alloc: Global,
         piece: &[u8],
@@ -40,6 +40,7 @@ impl Shell {
         paths: Words<'_>,
     ) -> Result<Vec<u8>, Fault>
         ensures done { Executes self.old self.new (Part piece.now from.now to.now paths.entry) result }
+        ensures crew { self.new.workers ≡ self.old.workers }
     {
         let from = self.node_at(alloc, from)?;
         let to = self.node_at(alloc, to)?;
@@ -51,8 +52,14 @@ impl Shell {
     }
 
     /// Gives a piece to a node. The piece is kept, and may be given again.
-    pub fn send(&mut self, alloc: Global, piece: &[u8], node: &[u8]) -> Result<Vec<u8>, Fault>
+    pub(super) fn send(
+        &mut self,
+        alloc: Global,
+        piece: &[u8],
+        node: &[u8],
+    ) -> Result<Vec<u8>, Fault>
         ensures done { Executes self.old self.new (Send piece.now node.now) result }
+        ensures crew { self.new.workers ≡ self.old.workers }
     {
         let name = Bytes::from_slice(alloc, piece)?;
         let to = self.node_at(alloc, node);
@@ -63,14 +70,13 @@ impl Shell {
         Ok(merge_done(alloc, changed)?)
     }
 
-    /// Brings all nodes together: each of the others is merged into the first, and the first then into
-    /// each of them.
-    pub fn sweep(&mut self, alloc: Global) -> Result<Vec<u8>, Fault>
+    /// Brings all nodes together: then each holds the join of all stores.
+    pub(super) fn sweep(&mut self, alloc: Global) -> Result<Vec<u8>, Fault>
         ensures done { Executes self.old self.new Sweep result }
+        ensures crew { self.new.workers ≡ self.old.workers }
     {
         let text = Vec::from_slice(alloc, b"ok\n")?;
-        self.gather(alloc)?;
-        self.spread(alloc)?;
+        sweep(&mut self.nodes)?;
         Ok(text)
     }
 }
@@ -84,7 +90,7 @@ impl Shell {
         ensures joined { OnOk result (IsJoinedAt (kept_in self.old) from to (kept_in self.new)) }
         ensures changed { IfOk result (λ changed. (d : Replicated) → changed ≡ changed_paths
             (slice_index_or self.old.nodes.items to d).store (slice_index_or self.new.nodes.items to d).store) }
-        ensures count { vec_len self.new.nodes ≡ vec_len self.old.nodes }
+        ensures crew { self.new.workers ≡ self.old.workers }
     {
         if from == to {
             return Ok(0);
@@ -94,28 +100,6 @@ impl Shell {
         let outcome = taken.merge(self.nodes[from].store());
         self.nodes[to] = taken;
         outcome
-    }
-
-    // Merges every other node into the first.
-    fn gather(&mut self, alloc: Global) -> Result<(), AllocError>
-        ensures merged { OnOk result (Continues (kept_in self.old) (kept_in self.new)
-            (λ old new. new ≡ merged_all old (map (λ k. (k, 0)) (numbers_from 1 (length old.nodes - 1))))) }
-    {
-        for k in 1..self.nodes.len() {
-            self.merge_nodes(alloc, k, 0)?;
-        }
-        Ok(())
-    }
-
-    // Merges the first node into every other.
-    fn spread(&mut self, alloc: Global) -> Result<(), AllocError>
-        ensures merged { OnOk result (Continues (kept_in self.old) (kept_in self.new)
-            (λ old new. new ≡ merged_all old (map (λ k. (0, k)) (numbers_from 1 (length old.nodes - 1))))) }
-    {
-        for k in 1..self.nodes.len() {
-            self.merge_nodes(alloc, 0, k)?;
-        }
-        Ok(())
     }
 
     // What one node cuts for the ask of another, at these paths, or at all where none are given. The

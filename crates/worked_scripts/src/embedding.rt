@@ -1,14 +1,9 @@
-//! How a program of one's own takes these libraries in. One function answers scripts, and in one two replicas
-//! merge.
-//!
-//! Promise: none of its own; the README shows it.
-#![tactic(auto)]
-
+//! How a program of one's own takes these libraries in: one function answers scripts, and in one two replicas merge. The
+//! README shows both.
 use fleet_script::{ShellFault, run};
 use replica_store::{Content, ContentFault, EditFault, Path, PathFault, Replica};
 use script_pipes::Watched;
 use std::alloc::{AllocError, Global};
-use std::io;
 use std::sync::Wait;
 use std::thread::Threads;
 use thiserror::Error;
@@ -26,8 +21,6 @@ enum Fault {
     Script(#[from] ShellFault),
     #[error("out of memory")]
     Memory(#[from] AllocError),
-    #[error("{0}")]
-    Output(#[from] io::Error),
 }
 
 // What a script is answered by.
@@ -56,12 +49,25 @@ fn meet(alloc: Global) -> Result<bool, Fault> {
     Ok(a.store().same(b.store()))
 }
 
-fn main(rt: HostRuntime) -> Result<(), Fault> {
-    let answers = answers_to(
-        &rt,
+// What both come to: the answers to a script, and whether the replicas hold the same.
+fn shown(rt: &(impl AllocGlobal + Threads + Wait + Sync)) -> Result<Vec<u8>, Fault> {
+    let mut text = answers_to(
+        rt,
         b"node a 1\nput a /etc/systemd/system/x.service A\nfiles a\n",
     )?;
-    print!(rt; "{}", str::from_utf8(&answers).unwrap_or("no text"))?;
-    println!(rt; "the same: {}", meet(rt.alloc())?)?;
-    Ok(())
+    let are_same = meet(rt.alloc())?;
+    text.extend_from_slice(b"the same: ")?;
+    text.extend_from_slice(if are_same { b"true\n" } else { b"false\n" })?;
+    Ok(text)
+}
+
+/// Writes what both come to, or why one of them came to nothing.
+pub fn show(
+    rt: &(impl AllocGlobal + Threads + Wait + Sync),
+    out: &mut Vec<u8>,
+) -> Result<(), AllocError> {
+    match shown(rt) {
+        Ok(text) => out.extend_from_slice(&text),
+        Err(fault) => out.extend_from_slice(format!(in rt.alloc(); "{fault}\n")?.as_bytes()),
+    }
 }

@@ -1,0 +1,118 @@
+//! Commands that change one node, or how many workers load.
+ghost use Rattle.std.specs.Prelude.{◌≡◌, ◌<◌, vec_len, OnOk, OnErr};
+ghost use Rattle.script_commands.specs.declared.commands.Command.TheVariants.{Node, Put, Link, Remove, Workers};
+ghost use Rattle.fleet_script.specs.Does.{Writes};
+ghost use Rattle.fleet_script.specs.Holds.{Executes, Goes, kept_in};
+
+use crate::states::Shell;
+use edit_sums::Content;
+use load_path::Path;
+use plain_values::Bytes;
+use replica_store::Replica;
+use script_answers::{Crew, put_done};
+use script_commands::{Fault, Refusal, read_file, read_link, read_path};
+use std::alloc::Global;
+
+impl Shell {
+    pub(super) fn node(&mut self, alloc: Global, name: &[u8], writer: u32) -> Result<Vec<u8>, Fault>
+        ensures done { Executes self.old self.new (Node name.now writer) result }
+        ensures crew { self.new.workers ≡ self.old.workers }
+    {
+        let name = Bytes::from_slice(alloc, name)?;
+        if self.numbers.contains_key(&name) {
+            return Err(Fault::Refused(Refusal::NodeTaken));
+        }
+        if self.writers.contains(&writer) {
+            return Err(Fault::Refused(Refusal::WriterTaken));
+        }
+        let text = Vec::from_slice(alloc, b"ok\n")?;
+        let number = self.nodes.len();
+        self.nodes.push(Replica::new(alloc, writer))?;
+        self.writers.insert(writer)?;
+        self.numbers.insert(name, number)?;
+        Ok(text)
+    }
+
+    pub(super) fn put(
+        &mut self,
+        alloc: Global,
+        node: &[u8],
+        path: &[u8],
+        text: &[u8],
+    ) -> Result<Vec<u8>, Fault>
+        ensures done { Executes self.old self.new (Put node.now path.now text.now) result }
+        ensures crew { self.new.workers ≡ self.old.workers }
+    {
+        let at = self.node_at(alloc, node)?;
+        let path = read_path(alloc, path)?;
+        let content = read_file(alloc, text)?;
+        self.write(alloc, at, path, content)
+    }
+
+    pub(super) fn link(
+        &mut self,
+        alloc: Global,
+        node: &[u8],
+        path: &[u8],
+        target: &[u8],
+    ) -> Result<Vec<u8>, Fault>
+        ensures done { Executes self.old self.new (Link node.now path.now target.now) result }
+        ensures crew { self.new.workers ≡ self.old.workers }
+    {
+        let at = self.node_at(alloc, node)?;
+        let path = read_path(alloc, path)?;
+        let content = read_link(alloc, target)?;
+        self.write(alloc, at, path, content)
+    }
+
+    pub(super) fn remove(
+        &mut self,
+        alloc: Global,
+        node: &[u8],
+        path: &[u8],
+    ) -> Result<Vec<u8>, Fault>
+        ensures done { Executes self.old self.new (Remove node.now path.now) result }
+        ensures crew { self.new.workers ≡ self.old.workers }
+    {
+        let at = self.node_at(alloc, node)?;
+        let path = read_path(alloc, path)?;
+        let version = match self.nodes[at].remove(path) {
+            Ok(version) => version,
+            Err(fault) => return Err(Fault::from(fault)),
+        };
+        Ok(put_done(alloc, version)?)
+    }
+
+    pub(super) fn workers(&mut self, alloc: Global, count: u32) -> Result<Vec<u8>, Fault>
+        ensures done { Executes self.old self.new (Workers count) result }
+        ensures crew { OnOk result (self.new.workers ≡ count) }
+        ensures same_crew { OnErr result (self.new.workers ≡ self.old.workers) }
+    {
+        let Some(workers) = Crew::of(count) else {
+            return Err(Fault::Refused(Refusal::Workers));
+        };
+        let text = Vec::from_slice(alloc, b"ok\n")?;
+        self.workers = workers;
+        Ok(text)
+    }
+
+    // A node puts its next edit.
+    fn write(
+        &mut self,
+        alloc: Global,
+        at: usize,
+        path: Path,
+        content: Content,
+    ) -> Result<Vec<u8>, Fault>
+        requires within { at < vec_len self.old.nodes }
+        ensures done { Goes (kept_in self.old) (kept_in self.new) (λ before outcome after.
+            Writes before outcome after at path content) result }
+        ensures crew { self.new.workers ≡ self.old.workers }
+    {
+        let version = match self.nodes[at].put(path, content) {
+            Ok(version) => version,
+            Err(fault) => return Err(Fault::from(fault)),
+        };
+        Ok(put_done(alloc, version)?)
+    }
+}

@@ -1,0 +1,98 @@
+//! Commands that only read.
+ghost use Rattle.script_commands.specs.declared.commands.Command.TheVariants.{Files, Cat, Show, List, Plan, Same, Crowd};
+ghost use Rattle.fleet_script.specs.Holds.{Executes, HasRoom, kept_in};
+
+use crate::states::Shell;
+use script_answers::{list_files, tell_crowd, tell_files, tell_list, tell_plan, tell_unit};
+use script_commands::{EditCount, Fault, Words};
+use std::alloc::Global;
+use std::sync::Wait;
+use std::thread::Threads;
+
+impl Shell {
+    pub(super) fn files(&self, alloc: Global, node: &[u8]) -> Result<Vec<u8>, Fault>
+        ensures done { Executes self.now self.now (Files node.now) result }
+    {
+        let replica = self.replica(alloc, node)?;
+        Ok(list_files(alloc, replica.store())?)
+    }
+
+    // Tells a unit's files: its fragment, and then its drop-ins.
+    pub(super) fn cat(&self, alloc: Global, node: &[u8], unit: &[u8]) -> Result<Vec<u8>, Fault>
+        ensures done { Executes self.now self.now (Cat node.now unit.now) result }
+    {
+        let replica = self.replica(alloc, node)?;
+        tell_files(alloc, replica.store(), unit)
+    }
+
+    // Tells a unit, as all that must be loaded of a node comes to it.
+    pub(super) fn show<R: Threads + Sync>(
+        &self,
+        rt: &R,
+        alloc: Global,
+        node: &[u8],
+        unit: &[u8],
+    ) -> Result<Vec<u8>, Fault>
+        ensures done { Executes self.now self.now (Show node.now unit.now) result }
+    {
+        let replica = self.replica(alloc, node)?;
+        tell_unit(rt, alloc, replica.store(), unit, &self.workers)
+    }
+
+    // Lists what a unit pulls, as all that must be loaded of a node comes to it.
+    pub(super) fn list<R: Threads + Sync>(
+        &self,
+        rt: &R,
+        alloc: Global,
+        node: &[u8],
+        unit: &[u8],
+    ) -> Result<Vec<u8>, Fault>
+        ensures done { Executes self.now self.now (List node.now unit.now) result }
+    {
+        let replica = self.replica(alloc, node)?;
+        tell_list(rt, alloc, replica.store(), unit, &self.workers)
+    }
+
+    // Tells what starts and what stops where a unit is to start while others run.
+    pub(super) fn plan<R: Threads + Sync>(
+        &self,
+        rt: &R,
+        alloc: Global,
+        node: &[u8],
+        unit: &[u8],
+        running: Words<'_>,
+    ) -> Result<Vec<u8>, Fault>
+        ensures done { Executes self.now self.now (Plan node.now unit.now running.entry) result }
+    {
+        let replica = self.replica(alloc, node)?;
+        tell_plan(rt, alloc, replica.store(), unit, running, &self.workers)
+    }
+
+    pub(super) fn same(&self, alloc: Global, left: &[u8], right: &[u8]) -> Result<Vec<u8>, Fault>
+        ensures done { Executes self.now self.now (Same left.now right.now) result }
+    {
+        let left = self.replica(alloc, left)?;
+        let right = self.replica(alloc, right)?;
+        if left.store().same(right.store()) {
+            Ok(Vec::from_slice(alloc, b"same\n")?)
+        } else {
+            Ok(Vec::from_slice(alloc, b"differ\n")?)
+        }
+    }
+
+    // Tells what a crowd comes to on a copy of what a node holds.
+    pub(super) fn crowd<R: Threads + Wait + Sync>(
+        &self,
+        rt: &R,
+        alloc: Global,
+        node: &[u8],
+        seats: u32,
+        edits: EditCount,
+    ) -> Result<Vec<u8>, Fault>
+        requires room { HasRoom (kept_in self.now) }
+        ensures done { Executes self.now self.now (Crowd node.now seats edits) result }
+    {
+        let replica = self.replica(alloc, node)?;
+        tell_crowd(rt, alloc, replica, seats, edits)
+    }
+}

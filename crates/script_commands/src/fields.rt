@@ -1,0 +1,137 @@
+//! The fields of a line, read from left to right.
+ghost use Rattle.std.specs.Prelude.{◌≡◌, ◌≢◌, ◌≤◌, [], ◌∷◌, true, OnOk, MatchResult};
+ghost use Rattle.script_words.specs.Names.{is_name};
+ghost use Rattle.script_words.specs.Words.{words_of, after_word, text_after};
+ghost use Rattle.script_commands.specs.declared.commands.Refusal.TheVariants.{Arguments};
+ghost use Rattle.script_commands.specs.Fields.{AreNotOne, AreNotOneEditCount, AreNotOneName, AreNotOneNumber, BeginsWithNoName, BeginsWithNoNumber, BeginsWithNumber};
+
+use crate::commands::{Refusal, Word, Words};
+use crate::edit_counts::EditCount;
+use script_words::{cut_word, is_name, parse_number, text_of_rest};
+use std::marker::Model;
+
+/// What is left of a line. A field that isn't there, or isn't of its kind, is refused.
+#[derive(Drop)]
+pub(crate) struct Fields<'a> {
+    rest: &'a [u8],
+}
+
+impl<'a> Model for Fields<'a> {
+    ghost use Rattle.std.specs.Prelude.{ℕ, List};
+
+    ghost Value = { List ℕ };
+
+    ghost view = { λ f. f.rest.now };
+}
+
+impl<'a> Fields<'a> {
+    /// The fields of this line.
+    pub(crate) fn new(line: &'a [u8]) -> Self
+        ensures line { result ≡ line.now }
+    {
+        Fields { rest: line }
+    }
+
+    /// The next word.
+    pub(crate) fn word(&mut self) -> Result<Word<'a>, Refusal>
+        ensures word { MatchResult result (λ word. words_of self.old ≡ word ∷ words_of self.new)
+            (λ refusal. (refusal ≡ Arguments) × (words_of self.old ≡ [])) }
+        ensures rest { OnOk result (self.new ≡ after_word self.old) }
+    {
+        let Some((word, rest)) = cut_word(self.rest) else {
+            return Err(Refusal::Arguments);
+        };
+        self.rest = rest;
+        Ok(Word::new(word))
+    }
+
+    /// The next word, which is a name.
+    pub(crate) fn name(&mut self) -> Result<Word<'a>, Refusal>
+        ensures name { MatchResult result
+            (λ name. (words_of self.old ≡ name ∷ words_of self.new) × (is_name name ≡ true))
+            (λ refusal. (refusal ≡ Arguments) × BeginsWithNoName (words_of self.old)) }
+        ensures rest { OnOk result (self.new ≡ after_word self.old) }
+    {
+        let name = self.word()?;
+        if !is_name(name.as_slice()) {
+            return Err(Refusal::Arguments);
+        }
+        Ok(name)
+    }
+
+    /// Nothing more.
+    pub(crate) fn end(self) -> Result<(), Refusal>
+        ensures end { MatchResult result (λ _. words_of self.entry ≡ [])
+            (λ refusal. (refusal ≡ Arguments) × (words_of self.entry ≢ [])) }
+    {
+        match cut_word(self.rest) {
+            None => Ok(()),
+            Some(_) => Err(Refusal::Arguments),
+        }
+    }
+
+    /// The one word that is left.
+    pub(crate) fn last_word(mut self) -> Result<Word<'a>, Refusal>
+        ensures word { MatchResult result (λ word. words_of self.entry ≡ word ∷ [])
+            (λ refusal. (refusal ≡ Arguments) × AreNotOne (words_of self.entry)) }
+    {
+        let word = self.word()?;
+        self.end()?;
+        Ok(word)
+    }
+
+    /// The one word that is left, which is a name.
+    pub(crate) fn last_name(mut self) -> Result<Word<'a>, Refusal>
+        ensures name { MatchResult result
+            (λ name. (words_of self.entry ≡ name ∷ []) × (is_name name ≡ true))
+            (λ refusal. (refusal ≡ Arguments) × AreNotOneName (words_of self.entry)) }
+    {
+        let name = self.name()?;
+        self.end()?;
+        Ok(name)
+    }
+
+    /// The number that the next word writes.
+    pub(crate) fn number(&mut self) -> Result<u32, Refusal>
+        ensures number { MatchResult result
+            (λ number. BeginsWithNumber number (words_of self.old) (words_of self.new))
+            (λ refusal. (refusal ≡ Arguments) × BeginsWithNoNumber (words_of self.old)) }
+    {
+        let word = self.word()?;
+        parse_number(word.as_slice()).ok_or(Refusal::Arguments)
+    }
+
+    /// The number that the one word that is left writes.
+    pub(crate) fn last_number(mut self) -> Result<u32, Refusal>
+        ensures number { MatchResult result
+            (λ number. BeginsWithNumber number (words_of self.entry) [])
+            (λ refusal. (refusal ≡ Arguments) × AreNotOneNumber (words_of self.entry)) }
+    {
+        let number = self.number()?;
+        self.end()?;
+        Ok(number)
+    }
+
+    /// The number of edits that the one word that is left writes.
+    pub(crate) fn last_edit_count(self) -> Result<EditCount, Refusal>
+        ensures edits { MatchResult result
+            (λ edits. BeginsWithNumber edits (words_of self.entry) [] × (edits ≤ 1000))
+            (λ refusal. (refusal ≡ Arguments) × AreNotOneEditCount (words_of self.entry)) }
+    {
+        EditCount::of(self.last_number()?).ok_or(Refusal::Arguments)
+    }
+
+    /// All words that are left.
+    pub(crate) fn rest(self) -> Words<'a>
+        ensures words { result ≡ words_of self.entry }
+    {
+        Words::new(self.rest)
+    }
+
+    /// The text behind the last word that was read and one space.
+    pub(crate) fn text(self) -> Word<'a>
+        ensures text { result ≡ text_after 0 self.entry }
+    {
+        Word::new(text_of_rest(self.rest))
+    }
+}
