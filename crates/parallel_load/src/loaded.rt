@@ -26,9 +26,9 @@ pub enum NameLoad {
 /// A dependency on a unit by its number: the place of its name among all names of a load, from 0.
 #[derive(Clone, Copy, Debug, PartialEq, Eq)]
 pub struct Dependency {
-    /// The way.
+    /// How it depends.
     pub kind: DepKind,
-    /// The number.
+    /// On which unit.
     pub number: usize,
 }
 
