@@ -13,6 +13,9 @@ REFUSED = (b"memory", b"out of memory")
 
 AT = b"; refused at "
 
+# Calls at what is held, which take no memory: these are never made again, and all others at some request.
+HELD = (b"again remove ", b"again put E/x=B 1.2:E/x=A", b"again at 1:1.1=65,2:1.1=65,3:1.1=65,4:1.1=65 4 ")
+
 
 def is_right(line, answer, said):
     """Whether an answer is the right one, or one that was made again behind what may have stood between."""
@@ -28,6 +31,10 @@ def lies_between(line, answer, between):
     call, rest = line[len(b"again ") :].split(b" ", 1)
     if call == b"split":
         return between.split(b": ", 1)[1] == rest.split(b" ", 1)[1]
+    if call in (b"put", b"remove"):
+        return entries(between, b" ") == entries(rest.partition(b" ")[2], b" ")
+    if call == b"at":
+        return between == rest.split(b" ")[0]
     if call == b"join":
         return is_amid(rest.split(b" ")[0], between, answer, b",")
     if call in (b"exchange", b"sweep"):
@@ -95,8 +102,8 @@ def once(bench, tally, line, answer):
     """One request is refused."""
     for number, run in refused_in_turn(bench, PROGRAM, line + b"\n"):
         judge(tally, f"request {number}", run, line, answer)
-    if line.startswith(b"again ") and tally.again == 0:
-        tally.wrong("at no request", "the call was made again")
+    if line.startswith(b"again ") and (tally.again == 0) != line.startswith(HELD):
+        tally.wrong(f"at {tally.again} requests", "the call was made again")
 
 
 def cases():
@@ -108,4 +115,4 @@ def cases():
         if is_world and worlds > 6 and worlds % WORLDS_APART:
             continue
         subject = line.split(b" ", 1)[0].decode()
-        yield Case(f"calls: {subject}", name_of(line), once, (line, answer), weight=len(line) // 8)
+        yield Case(f"calls: {subject}", name_of(line), once, (line, answer), weight=len(line) // 8, refuses=True)

@@ -38,13 +38,15 @@ class Tally:
 
 @dataclass(frozen=True)
 class Case:
-    """A case: the group that it belongs to, its name, and what is called with a bench and the words behind it."""
+    """A case: the group that it belongs to, its name, what is called with a bench and the words behind it, and whether
+    memory is refused in it."""
 
     group: str
     name: str
     work: object
     words: tuple = ()
     weight: int = 1
+    refuses: bool = False
 
 
 def done(case, bench):
@@ -55,5 +57,7 @@ def done(case, bench):
         case.work(bench, tally, *case.words)
     except Exception as fault:  # whatever goes wrong is one case that failed, and the others go on
         tally.wrong("broke off", repr(fault))
+    if not tally.runs or (case.refuses and not tally.refused):
+        tally.wrong(f"in {tally.runs} runs", "nothing was refused")
     tally.seconds = time.monotonic() - begun
     return tally

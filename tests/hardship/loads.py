@@ -1,10 +1,11 @@
-"""Loads and graphs of stores that are refused memory: the lines of worked_loads."""
+"""Loads and graphs of stores that are refused memory: the lines of worked_answers."""
 from cases import Case
 from lines import answers_below, is_silent, name_of
 from programs import first_line, refused_in_turn
 
-PROGRAM = "worked_loads"
+PROGRAM = "worked_answers"
 REFUSED = b"out of memory"
+ASKED = b"the gate was asked for"
 
 
 def workers_of(answer):
@@ -25,10 +26,23 @@ def is_load_of_workers(answer, said):
     return said in (answer, workers + b"a load") and not said.endswith(b"the same")
 
 
+def askings(line):
+    """How often a gate was asked for each piece."""
+    return {number: int(often) for number, often in (pair.split(b":") for pair in line[len(ASKED) :].split())}
+
+
+def is_asked_at_most(answer, said):
+    """Whether a line says that a gate was asked as often for each piece as another says, or less often."""
+    most = askings(answer)
+    return said.startswith(ASKED) and all(often <= most.get(number, 0) for number, often in askings(said).items())
+
+
 def is_allowed(answers, said):
     """Whether these lines are the right ones, or say where memory was refused."""
     if said == [b"memory"]:
         return True
+    if said and answers[-1].startswith(ASKED):
+        return is_asked_at_most(answers[-1], said[-1]) and is_allowed(answers[:-1], said[:-1])
     if said and said[0] == REFUSED:
         of_workers = [answer for answer in answers if workers_of(answer) is not None]
         return len(of_workers) == len(said) - 1 and all(map(is_load_of_workers, of_workers, said[1:]))
@@ -62,4 +76,4 @@ def cases():
     for line, answers in answers_below(PROGRAM):
         call = line.split(b" ", 1)[0].decode()
         if call != "meet":
-            yield Case(f"loads: {call}", name_of(line), once, (line, answers), weight=100)
+            yield Case(f"loads: {call}", name_of(line), once, (line, answers), weight=100, refuses=True)

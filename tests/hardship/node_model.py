@@ -2,48 +2,28 @@
 
 A take is accepted and then published. Where memory is refused, an edit or a piece is answered by `out of memory`, which
 accepts nothing, or by `A3 Pending`, which accepts it without publishing it. At most one take is pending: the next edit
-or piece, or the close, publishes it first.
+or piece, or the close, publishes it first. Whether an edit that was refused then had published the pending take isn't
+told at once, so of some answers a node may be in two states; what it answers later tells which.
 """
+from dataclasses import dataclass, replace
+
 MOST = 2**64 - 1
 REFUSED = "out of memory"
+
+# A gate is asked so often for one message at most.
+TURNS = 1_000_000
 
 
 class Wrong(Exception):
     """An answer that a node must not give."""
 
 
-class Answers:
-    """The answers of a line that are left."""
-
-    def __init__(self, lines):
-        self.lines = lines
-
-    def next(self):
-        """The next answer."""
-        if not self.lines:
-            raise Wrong("an answer is missing")
-        return self.lines.pop(0)
-
-    def takes(self, wanted):
-        """Whether the next answer is this one; it is then taken."""
-        if self.lines[:1] != [wanted]:
-            return False
-        self.lines.pop(0)
-        return True
-
-    def must(self, wanted):
-        """The next answer must be this one."""
-        said = self.next()
-        if said != wanted:
-            raise Wrong(f"{said!r} in place of {wanted!r}")
-
-
+@dataclass(frozen=True)
 class Sight:
     """What a node holds at a moment: the version at each path, and how many takes there were."""
 
-    def __init__(self, held, takes):
-        self.held = held
-        self.takes = takes
+    held: dict
+    takes: int = 0
 
     def told(self):
         """As the answers write it."""
@@ -52,49 +32,63 @@ class Sight:
 
     def with_take(self, path, version):
         """After a take at a path."""
-        held = dict(self.held)
-        held[path] = max(version, held.get(path, version))
-        return Sight(held, self.takes + 1)
+        return Sight({**self.held, path: max(version, self.held.get(path, version))}, self.takes + 1)
 
 
+@dataclass(frozen=True)
+class Take:
+    """An edit or a piece of one edit, which has its version."""
+
+    path: str
+    piece: tuple = None
+
+    def version(self, node):
+        """The version that it gets; None where the node has none left."""
+        if self.piece is not None:
+            return self.piece
+        counter = node.high() + 1
+        return (counter, node.writer) if counter <= MOST else None
+
+
+@dataclass(frozen=True)
 class Node:
-    """A node: what it accepted, what it shows, and its seats."""
+    """A node: what it accepted, what it shows, how many takes each seat has seen and the last token tells, and how often
+    it told that memory was refused."""
 
-    def __init__(self, writer, room, held):
-        self.writer = writer
-        self.room = room
-        self.accepted = Sight(held, 0)
-        self.shown = self.accepted
-        self.may_show_all = False
-        self.seats = 0
-        self.token = False
+    writer: int
+    room: int
+    accepted: Sight
+    shown: Sight
+    seen: tuple = ()
+    token: int = None
+    told: int = 0
 
     def high(self):
         """The greatest counter held."""
         return max((version[0] for version in self.accepted.held.values()), default=0)
 
-    def published(self):
-        """All takes are shown."""
-        self.shown = self.accepted
+    def with_seat(self):
+        """A seat more, which has seen what is shown."""
+        return replace(self, seen=(*self.seen, self.shown.takes))
 
-    def accept(self, path, version, is_shown):
-        """A take is accepted, which publishes the one before it, and is published itself or not."""
-        self.published()
-        self.accepted = self.accepted.with_take(path, version)
-        if is_shown:
-            self.published()
-            self.token = True
-        self.may_show_all = False
+    def sees(self, seat, takes):
+        """A seat has seen so many takes, or more before."""
+        seen = list(self.seen)
+        seen[seat] = max(seen[seat], takes)
+        return replace(self, seen=tuple(seen))
+
+    def answered(self, seat, take):
+        """After a take that was answered, behind the one that was pending."""
+        accepted = self.accepted.with_take(take.path, take.version(self))
+        return replace(self, accepted=accepted, shown=accepted).sees(seat, accepted.takes)
+
+    def pending(self, take):
+        """After a take that was accepted and isn't shown, behind the one that was pending."""
+        accepted = self.accepted.with_take(take.path, take.version(self))
+        return replace(self, accepted=accepted, shown=self.accepted, told=self.told + 1)
 
     def refused(self):
-        """Nothing was accepted. What was pending may have been published."""
-        self.may_show_all = True
-
-    def sees(self, told):
-        """Whether a view may show this; what it shows then is what the node shows."""
-        if told == self.shown.told():
-            return True
-        if self.may_show_all and told == self.accepted.told():
-            self.published()
-            return True
-        return False
+        """After a take that was refused memory, as the node may then be: what was pending was published, or wasn't."""
+        same = replace(self, told=self.told + 1)
+        published = replace(same, shown=self.accepted)
+        return [same] if same == published else [same, published]

@@ -1,23 +1,19 @@
-"""The steps of a line of worked_nodes, walked over the answers that were given."""
-from node_model import MOST, REFUSED, Answers, Node, Wrong
+"""The steps of a line of worked_nodes, walked over the answers that were given.
+
+A step says, for a node and its answers, in which states the node may be then; in none where it must not give these
+answers.
+"""
+from dataclasses import replace
+
+from node_model import REFUSED, TURNS, Node, Sight, Take, Wrong
 
 
-def seat(node, words, answers):
-    """A seat is given while there is one; a reader's place may be refused."""
-    said = answers.next()
-    if said == "A2 NoSeat":
-        return
-    if said != f"seat {node.seats}" or node.seats == node.room:
-        raise Wrong(f"{said!r} as seat {node.seats} of {node.room}")
-    node.seats += 1
-
-
-def lacks(node, words, answers):
-    """Whether the seat that the next word names wasn't given, which is then the answer."""
-    if int(words.pop(0)) < node.seats:
-        return False
-    answers.must("no seat")
-    return True
+def seat(node, said):
+    """A seat is given while there is one, but where its reader's place was refused."""
+    is_left = len(node.seen) < node.room
+    if said == ["A2 NoSeat"]:
+        return [replace(node, told=node.told + is_left)]
+    return [node.with_seat()] if is_left and said == [f"seat {len(node.seen)}"] else []
 
 
 def name_of(word):
@@ -25,115 +21,176 @@ def name_of(word):
     return word.rsplit("/", 1)[1]
 
 
-def taken(node, answers, path, version, wanted):
+def version_text(version):
+    """A version as answers write it."""
+    return f"{version[0]}.{version[1]}"
+
+
+def taken(node, said, place, take, answer, pending):
     """A take is answered, pending or refused."""
-    pending = "A3 Pending" if wanted.startswith("changed") else f"A3 Pending {version[0]}.{version[1]}"
-    if answers.takes(REFUSED):
-        node.refused()
-    elif answers.takes(pending):
-        node.accept(path, version, False)
-    else:
-        answers.must(wanted)
-        node.accept(path, version, True)
+    if said == [REFUSED]:
+        return node.refused()
+    if said == [pending]:
+        return [node.pending(take)]
+    if said != [answer]:
+        return []
+    after = node.answered(place, take)
+    return [replace(after, token=after.shown.takes)]
 
 
-def edit(node, words, answers):
+def edit(node, said, place, path, _text):
     """An edit gets the next counter, where one is left."""
-    is_lacking = lacks(node, words, answers)
-    path, _text = name_of(words.pop(0)), words.pop(0)
-    if is_lacking:
-        return
-    if node.high() == MOST:
-        answers.must("E1 VersionsSpent")
-        return
-    version = (node.high() + 1, node.writer)
-    taken(node, answers, path, version, f"ok {version[0]}.{version[1]}")
+    take = Take(name_of(path))
+    version = take.version(node)
+    if version is None:
+        return [node] if said == ["E1 VersionsSpent"] else []
+    text = version_text(version)
+    return taken(node, said, place, take, f"ok {text}", f"A3 Pending {text}")
 
 
-def absorb(node, words, answers):
+def piece_of(path, counter, writer):
+    """A piece of one edit."""
+    return Take(name_of(path), (int(counter), int(writer)))
+
+
+def absorb(node, said, place, path, counter, writer, _text):
     """A piece of one edit changes a path where its version is greater."""
-    is_lacking = lacks(node, words, answers)
-    path, version = name_of(words.pop(0)), (int(words.pop(0)), int(words.pop(0)))
-    words.pop(0)
-    if not is_lacking:
-        changed = int(version > node.accepted.held.get(path, (0, -1)))
-        taken(node, answers, path, version, f"changed {changed}")
+    take = piece_of(path, counter, writer)
+    changed = int(take.piece > node.accepted.held.get(take.path, (0, -1)))
+    return taken(node, said, place, take, f"changed {changed}", "A3 Pending")
 
 
-def learn(node, words, answers):
-    """A seat learns the last token that was given."""
-    if lacks(node, words, answers):
-        return
-    if not node.token:
-        answers.must("no token")
-    elif not answers.next().startswith("seen "):
-        raise Wrong("a token wasn't learnt")
+def learn(node, said, place):
+    """A seat learns the last token that was given, and has then seen what it had and what the token tells."""
+    if node.token is None:
+        return [node] if said == ["no token"] else []
+    after = node.sees(place, node.token)
+    return [after] if said == [f"seen {after.seen[place]}"] else []
 
 
-def view(node, words, answers):
-    """A view shows what was published."""
-    if lacks(node, words, answers):
-        return
-    said = answers.next()
-    if not node.sees(said):
-        raise Wrong(f"a view of {said!r} where {node.shown.told()!r} was published")
+def view(node, said, place):
+    """A view shows what was published, which the seat has then seen."""
+    return [node.sees(place, node.shown.takes)] if said == [node.shown.told()] else []
 
 
-def serve(node, words, answers):
-    """One edit of an inbox is answered, pending or refused."""
-    is_lacking = lacks(node, words, answers)
-    path, _text = name_of(words.pop(0)), words.pop(0)
-    if is_lacking:
-        return
-    counts = tuple(answers.next() for _ in range(3))
-    version = (node.high() + 1, node.writer)
-    if counts == ("answered 0", "pending 0", "refused 1"):
-        node.refused()
-    elif node.high() == MOST:
-        raise Wrong(f"{counts} where no version is left")
-    elif counts == ("answered 0", "pending 1", "refused 0"):
-        node.accept(path, version, False)
-    elif counts == ("answered 1", "pending 0", "refused 0"):
-        node.accept(path, version, True)
-    else:
-        raise Wrong(f"served {counts}")
+def served(states, place, take):
+    """How a message may go from each of these: a node, and how many were answered, pending and refused before."""
+    for node, (answered, pending, refused) in states:
+        if take.version(node) is None:
+            yield node, (answered, pending, refused + 1)
+            continue
+        yield node.answered(place, take), (answered + 1, pending, refused)
+        yield node.pending(take), (answered, pending + 1, refused)
+        for after in node.refused():
+            yield after, (answered, pending, refused + 1)
+
+
+def serve(node, said, place, times, *messages):
+    """Each message up to the end is answered, pending or refused; the gate is asked for each."""
+    takes = messages[: messages.index(None)] if None in messages else messages
+    often = min(int(times) + 1, TURNS)
+    asked = "".join(f" {number}:{often}" for number in range(len(takes)))
+    states = [(node, (0, 0, 0))]
+    for take in takes:
+        states = list(served(states, place, take))
+    return [after for after, counts in states if said == [*told_counts(counts), "asked for" + asked]]
+
+
+def told_counts(counts):
+    """How the counts of an inbox are told."""
+    return [f"{word} {count}" for word, count in zip(("answered", "pending", "refused"), counts)]
 
 
 STEPS = {"seat": seat, "edit": edit, "absorb": absorb, "learn": learn, "view": view, "serve": serve}
 
+# How many words stand behind each, but for those of an inbox.
+SIZES = {"seat": 0, "edit": 3, "absorb": 5, "learn": 1, "view": 1, "serve": 2}
 
-def close(node, answers):
-    """A node is closed, at the second time where the first was refused; all that was accepted is there."""
-    if answers.takes(REFUSED) and answers.takes(REFUSED):
-        return
-    answers.must("closed " + node.accepted.told())
-
-
-def tells_refusal(answer):
-    """Whether an answer says that memory was refused."""
-    return answer.startswith((REFUSED, "A3 Pending", "pending 1", "no blank"))
+# How many answers a step has, where it isn't one.
+ANSWERS = {"serve": 4}
 
 
-def walk(line, lines, refusals):
-    """Goes through a line and its answers, and raises Wrong at one that must not be where so much was refused."""
-    if sum(map(tells_refusal, lines)) > refusals:
-        raise Wrong(f"more was told of than the {refusals} refused")
-    words, answers = line.split(), Answers(list(lines))
+def messages_of(words):
+    """The messages of an inbox, up to the word `+` or the last one: takes, and None for the end of the service."""
+    while words:
+        kind = words.pop(0)
+        if kind == "+":
+            return
+        size = {"edit": 2, "absorb": 4, "end": 0}[kind]
+        given, words[:] = words[:size], words[size:]
+        yield Take(name_of(given[0])) if kind == "edit" else piece_of(*given[:3]) if given else None
+
+
+def steps_of(words):
+    """The steps that words write, each with its words; what stands behind them is left."""
+    while words and words[0] in STEPS:
+        kind = words.pop(0)
+        given, words[:] = words[: SIZES[kind]], words[SIZES[kind] :]
+        if given:
+            given[0] = int(given[0])
+        yield kind, [*given, *(messages_of(words) if kind == "serve" else ())]
+
+
+def step(nodes, kind, given, lines):
+    """In which states a node may be after a step, of those in which it may have been; its answers are taken."""
+    if given and given[0] >= len(nodes[0].seen):
+        said, wanted = lines[:1], ["no seat"]
+        after = nodes if said == wanted else []
+    else:
+        said = lines[: ANSWERS.get(kind, 1)]
+        after = [state for node in nodes for state in STEPS[kind](node, said, *given)]
+    del lines[: len(said)]
+    if not after:
+        raise Wrong(f"{kind} is answered by {said}")
+    return after
+
+
+def close(nodes, said):
+    """A node is closed, at the second time where the first was refused; all that was accepted is there. How often it
+    told that memory was refused."""
+    told = [node.told for node in nodes if said in ends_of(node)]
+    if not told:
+        raise Wrong(f"closed with {said}")
+    return min(told) + said.count(REFUSED)
+
+
+def ends_of(node):
+    """The answers with which a node may end."""
+    closed = "closed " + node.accepted.told()
+    return [closed], [REFUSED, closed], [REFUSED, REFUSED]
+
+
+def opened(words, lines):
+    """The node that a line opens, with what it answers of its blank; None where it must not open one."""
     call, writer, room = words.pop(0), int(words.pop(0)), int(words.pop(0))
     held = {}
     if call == "over":
         path, version = name_of(words.pop(0)), (int(words.pop(0)), int(words.pop(0)))
         held[path] = version
         words.pop(0)
-    answers.takes("no blank: out of memory")
+    told = int(lines[:1] == ["no blank: out of memory"])
+    del lines[:told]
     if not 1 <= room <= 64:
-        answers.must("A1 Seats")
-        return
-    node = Node(writer, room, held)
-    while words and words[0] in STEPS:
-        STEPS[words.pop(0)](node, words, answers)
-    if words == ["short"] and node.seats:
-        answers.must("A4 SeatsOut 1")
-    close(node, answers)
-    if answers.lines:
-        raise Wrong(f"{answers.lines[0]!r} behind the last answer")
+        return None
+    return Node(writer, room, Sight(held), Sight(held), told=told)
+
+
+def walk(line, said, refusals):
+    """Goes through a line and its answers, and raises Wrong at one that must not be where so much was refused. It gives
+    how often the answers tell of it."""
+    words, lines = line.split(), list(said)
+    node = opened(words, lines)
+    if node is None:
+        if lines != ["A1 Seats"]:
+            raise Wrong(f"opened with {lines}")
+        return 0
+    nodes = [node]
+    for kind, given in steps_of(words):
+        nodes = step(nodes, kind, given, lines)
+    if words == ["short"] and nodes[0].seen and lines.pop(0) != "A4 SeatsOut 1":
+        raise Wrong("closed without a seat")
+    told = close(nodes, lines)
+    if told > refusals:
+        raise Wrong(f"{told} were told of, and {refusals} refused")
+    return told
+

@@ -60,5 +60,5 @@ def cases():
     """A script, once with each request refused alone, and once with all from it on."""
     for name, script, answers in all_scripts():
         words = (script, answers)
-        yield Case("scripts, a request refused", name, once, words, weight=50)
-        yield Case("scripts, all requests refused from one on", name, from_then_on, words, weight=50)
+        yield Case("scripts, a request refused", name, once, words, weight=50, refuses=True)
+        yield Case("scripts, all requests refused from one on", name, from_then_on, words, weight=50, refuses=True)

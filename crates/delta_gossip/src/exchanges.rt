@@ -9,8 +9,8 @@ use std::alloc::AllocError;
 /// changed in each.
 ///
 /// Whole stores are merged, without digests, so nothing is asked of their versions: also where one
-/// version stands for two edits, both hold the same afterwards. At most one growth of each store,
-/// and two passes over both.
+/// version stands for two edits, both hold the same afterwards. Each map of ranks, folders or names that
+/// takes keys grows once; the stores are passed over twice.
 ///
 /// It fails for want of memory alone. Each store then lies between what it was and the join, and
 /// the same call may be made again.

@@ -65,9 +65,9 @@ module _ (s : EntryMap) (x : Search) (ds : List (List ℕ)) where
 
   held : (f : List ℕ) (p : PathParts × Entry) → took s x ds f ≡ Some (Placed p) → finmap.get s p.0 ≡ Some p.1
   held f p h =
-      let rank = first_is (took_in s x ds f) levels 0 (Placed p) h in
-      let folder = first_is (λ d. take_at s x (path (get_or levels rank.place 0) d f)) ds [] (Placed p) rank.says in
-      held_at (path (get_or levels rank.place 0) (get_or ds folder.place []) f) p folder.says
+      let level = first_is (took_in s x ds f) levels 0 (Placed p) h in
+      let folder = first_is (λ d. take_at s x (path (get_or levels level.place 0) d f)) ds [] (Placed p) level.says in
+      held_at (path (get_or levels level.place 0) (get_or ds folder.place []) f) p folder.says
 
   pub took_name : (f : List ℕ) (p : PathParts × Entry) → took s x ds f ≡ Some (Placed p) → p.0.name ≡ f
   took_name f p h = found_name s x ds f p.0 (sym (seen_took f) ∙ ap (option_map seen) h)

@@ -2,6 +2,7 @@
 ghost use Rattle.dropins.specs.PrecedenceLaws.{RanksGoFirst, SomethingIsTaken, TakenOnce, MasksHide, FoldersDecide, RemovalsGiveBack};
 ghost use Rattle.dropins.specs.CutLaws.{CutsAreDashedFronts, LongerCutsComeFirst};
 ghost use Rattle.dropins.specs.FolderLaws.{OneFolder, FoldersAreNames, FoldersStandOnce};
+ghost use Rattle.dropins.specs.FolderJoinLaws.{FoldersOfEach, FoldersJoin};
 ghost use Rattle.dropins.specs.LentLaws.{LentAreDropIns};
 ghost use Rattle.dropins.specs.OrderLaws.{OneOrder, DropInsAreFiles};
 
@@ -26,10 +27,13 @@ pub fn order_laws()
 {}
 
 /// The folders of names are names, and each stands in the list once; names without dashes and
-/// without an instance have one folder. What a prefix is cut to are just its proper fronts that end
-/// in a dash, the longer ones first.
+/// without an instance have one folder. Several names have the folders of each; those of two lists
+/// in a row are the first's, then what is new of the second's. What a prefix is cut to are just its
+/// proper fronts that end in a dash, the longer ones first.
 pub fn folder_laws()
     ensures one { OneFolder }
+    ensures each { FoldersOfEach }
+    ensures joined { FoldersJoin }
     ensures names { FoldersAreNames }
     ensures once { FoldersStandOnce }
     ensures cuts { CutsAreDashedFronts }

@@ -42,7 +42,7 @@ pub enum Take<'a> {
 type Candidates<'a> = Vec<(Bytes, Take<'a>)>;
 
 // What is taken, by file name.
-type Takes<'a> = BTreeMap<Bytes, Take<'a>>;
+type TakenByName<'a> = BTreeMap<Bytes, Take<'a>>;
 
 /// What is taken in folders with an ending, by file name, without masks.
 pub fn taken_entries<'a>(
@@ -82,19 +82,19 @@ fn taken<'a>(
     store: &'a Store,
     search: Search,
     dirs: &[Bytes],
-) -> Result<Takes<'a>, AllocError>
+) -> Result<TakenByName<'a>, AllocError>
     ensures taken { IfOk result (λ takes. (f : List ℕ) → get name_cmp takes f ≡ took store.now search
         dirs.now f) }
 {
     let mut found = Vec::new(alloc);
     for level in 0..LEVELS {
-        add_rank(store, &mut found, search, level, dirs)?;
+        add_level(store, &mut found, search, level, dirs)?;
     }
     firsts(alloc, found)
 }
 
 // Of each file name the first candidate. The last of several stays in a map, so they are given from behind.
-fn firsts<'a>(alloc: Global, found: Candidates<'a>) -> Result<Takes<'a>, AllocError>
+fn firsts<'a>(alloc: Global, found: Candidates<'a>) -> Result<TakenByName<'a>, AllocError>
     ensures firsts { IfOk result (λ takes. (f : List ℕ) → get name_cmp takes f ≡ first_for found.entry.items f) }
 {
     let mut found = found;
@@ -102,19 +102,19 @@ fn firsts<'a>(alloc: Global, found: Candidates<'a>) -> Result<Takes<'a>, AllocEr
     found.into_iter().collect(alloc)
 }
 
-// Adds what stands at one rank.
-fn add_rank<'a>(
+// Adds what stands at one level.
+fn add_level<'a>(
     store: &'a Store,
     found: &mut Candidates<'a>,
     search: Search,
-    rank: u8,
+    level: u8,
     dirs: &[Bytes],
 ) -> Result<(), AllocError>
     ensures added { OnOk result ((f : List ℕ) → first_for found.new.items f ≡ option_or
-        (first_for found.old.items f) (took_in store.now search dirs.now f rank)) }
+        (first_for found.old.items f) (took_in store.now search dirs.now f level)) }
 {
     for dir in dirs {
-        add_folder(store, found, search, rank, dir.as_slice())?;
+        add_folder(store, found, search, level, dir.as_slice())?;
     }
     Ok(())
 }
@@ -124,13 +124,13 @@ fn add_folder<'a>(
     store: &'a Store,
     found: &mut Candidates<'a>,
     search: Search,
-    rank: u8,
+    level: u8,
     dir: &[u8],
 ) -> Result<(), AllocError>
     ensures added { OnOk result ((f : List ℕ) → first_for found.new.items f ≡ option_or
-        (first_for found.old.items f) (take_at store.now search (path rank dir.now f))) }
+        (first_for found.old.items f) (take_at store.now search (path level dir.now f))) }
 {
-    let mut entries = store.entries_in(rank, dir);
+    let mut entries = store.entries_in(level, dir);
     while let Some(placed) = entries.next_entry() {
         add_entry(found, search, placed)?;
     }
@@ -235,7 +235,7 @@ fn dir_with(alloc: Global, folder: &UnitName, ending: &[u8]) -> Result<Bytes, Al
 }
 
 // The entries that are taken, by file name, without masks.
-fn unmasked<'a>(alloc: Global, takes: Takes<'a>) -> Result<Vec<Placed<'a>>, AllocError>
+fn unmasked<'a>(alloc: Global, takes: TakenByName<'a>) -> Result<Vec<Placed<'a>>, AllocError>
     ensures entries { IfOk result (λ taken. taken.items ≡ unmasked takes.entry.entries) }
     ensures ordered { IsOrdered name_cmp takes.entry }
 {

@@ -3,6 +3,7 @@ ghost use Rattle.std.specs.Prelude.{◌≡◌, ◌↔◌, ◌++◌, List, max};
 ghost use Rattle.list_laws.specs.Members.{IsAmong};
 ghost use Rattle.edit_sums.specs.declared.entries.Edit.{Edit};
 ghost use Rattle.edit_sums.specs.Sums.{EntryMap, IsAboveEdits, IsSum, IsStoreBelow, sum_of, join, high_of, high_among};
+ghost use Rattle.edit_sums.specs.WinnerLaws.{CountersDecide, WritersDecide, SortsDecide};
 
 /// The sum of edits holds at each path the greatest of the edits there, and nothing else. It depends on which edits there
 /// are, and not on their order or number. It lies below just those stores that are above each of the edits, and the sum of
@@ -13,6 +14,14 @@ pub fn sums_of_edits()
         → ((e : Edit) → IsAmong e ys → IsAmong e xs) → sum_of xs ≡ sum_of ys }
     ensures least { (es : List Edit) (s : EntryMap) → IsStoreBelow (sum_of es) s ↔ IsAboveEdits es s }
     ensures append { (xs ys : List Edit) → sum_of (xs ++ ys) ≡ join (sum_of xs) (sum_of ys) }
+{}
+
+/// Of two edits at one path the sum holds that with the greater counter; under one counter that of
+/// the greater writer; and under one version a file before a link, and a link before a removal.
+pub fn winners_of_sums()
+    ensures counters { CountersDecide }
+    ensures writers { WritersDecide }
+    ensures sorts { SortsDecide }
 {}
 
 /// To be below is an order of stores: each is below itself, what is below one that is below a third

@@ -12,4 +12,6 @@ mod laws;
 
 pub use contents::{Content, ContentFault, FILE_LIMIT, FileBytes, LinkTarget, TARGET_LIMIT};
 pub use entries::{Edit, Entry};
-pub use laws::{counters_of_sums, joins_of_stores, order_of_stores, sums_of_edits};
+pub use laws::{
+    counters_of_sums, joins_of_stores, order_of_stores, sums_of_edits, winners_of_sums,
+};

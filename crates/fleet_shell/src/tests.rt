@@ -1,11 +1,12 @@
 //! How the program ends: readers and writers that fail or are slow, exit statuses, and words on standard error.
-//! Scripts with their answers are data of `worked_scripts`.
+//! Scripts with their answers are data of `worked_answers`.
 use super::*;
 use std::alloc::Global;
 use std::cell::Cell;
 use std::test::Fail;
 
 mod fakes;
+mod pipes;
 
 use fakes::{Narrow, Noted, Slow};
 

@@ -111,7 +111,7 @@ fn put_under(
     }
 }
 
-// The unit names that have a visible link of their own at some rank.
+// The unit names that have a visible link of their own at some level.
 fn linked_names(alloc: Global, store: &Store) -> Result<BTreeSet<UnitName>, AllocError>
     ensures linked { IfOk result (λ names. Collects (IsOwnLink store.now) [] names.keys) }
 {
@@ -122,16 +122,16 @@ fn linked_names(alloc: Global, store: &Store) -> Result<BTreeSet<UnitName>, Allo
     Ok(names)
 }
 
-// Adds those that have one at this rank.
+// Adds those that have one at this level.
 fn add_linked(
     alloc: Global,
     names: &mut BTreeSet<UnitName>,
     store: &Store,
-    rank: u8,
+    level: u8,
 ) -> Result<(), AllocError>
-    ensures added { OnOk result (Collects (IsOwnAt store.now rank) names.old.keys names.new.keys) }
+    ensures added { OnOk result (Collects (IsOwnAt store.now level) names.old.keys names.new.keys) }
 {
-    let mut entries = store.entries_in(rank, b"");
+    let mut entries = store.entries_in(level, b"");
     while let Some(placed) = entries.next_entry() {
         add_own(alloc, names, &placed)?;
     }

@@ -76,17 +76,17 @@ pub(crate) fn own_choice(
     Ok(None)
 }
 
-// What the own name says at one rank.
+// What the own name says at one level.
 fn says(
     alloc: Global,
     store: &Store,
     name: &UnitName,
     own: &UnitName,
-    rank: u8,
+    level: u8,
 ) -> Result<Option<Choice>, AllocError>
-    ensures said { IfOk result (λ said. said ≡ says store.now name.now own.now rank) }
+    ensures said { IfOk result (λ said. said ≡ says store.now name.now own.now level) }
 {
-    match store.placed_at(rank, b"", own.bytes()) {
+    match store.placed_at(level, b"", own.bytes()) {
         None => Ok(None),
         Some(placed) => entry_says(alloc, name, own, &placed),
     }

@@ -1,5 +1,5 @@
 //! Joins of pairs that are given away into sorted pairs.
-ghost use Rattle.std.specs.Prelude.{◌≡◌, [], ◌∷◌, IsSome, IsOk, OnOk, IfErr};
+ghost use Rattle.std.specs.Prelude.{◌≡◌, ◌↔◌, [], ◌∷◌, None, IsTrue, IsSome, IsOk, IfOk, OnOk, IfErr};
 ghost use Rattle.std.specs.FinMap.{find};
 ghost use Rattle.std.specs.Bool.{OnTrue, OnFalse};
 ghost use Rattle.join_law.specs.Maps.{IsMap, IsSinglePair, MapBelow};
@@ -11,16 +11,18 @@ use plain_values::Key;
 use sorted_pairs::seek;
 use std::mem;
 
-// Joins one pair. A bottom value changes nothing.
+// Joins one pair, and answers whether its key was added. A bottom value changes nothing.
 pub fn join_pair<K: Key, V: Join>(
     pairs: &mut Vec<(K, V)>,
     key: K,
     value: V,
-) -> Result<(), Rest<(K, V)>>
+) -> Result<bool, Rest<(K, V)>>
     requires { IsMap K.cmp V.below V.is_valid pairs.old.items }
     ensures map { IsMap K.cmp V.below V.is_valid pairs.new.items }
     ensures ok { OnOk result (IsJoin (MapBelow K.cmp V.below) pairs.old.items
         ((key, value) ∷ []) pairs.new.items) }
+    ensures added { IfOk result (λ added. IsTrue added ↔
+        ((find K.cmp key pairs.old.items ≡ None) × ¬ IsLeast V.below value)) }
     ensures key { IfErr result (λ fault. fault.rest.0 ≡ key) }
     ensures refused { IfErr result (λ fault. IsPartialJoin (MapBelow K.cmp V.below) pairs.old.items
         ((key, value) ∷ []) pairs.new.items (fault.rest ∷ [])) }
@@ -30,18 +32,18 @@ pub fn join_pair<K: Key, V: Join>(
     ensures in_place { V.joins_in_place → IsSome (find K.cmp key pairs.old.items) → IsOk result }
 {
     if value.is_bottom() {
-        return Ok(());
+        return Ok(false);
     }
     match seek(pairs, &key) {
         Ok(at) => {
             let place = &mut pairs[at];
             match place.1.join_from(value) {
-                Ok(()) => Ok(()),
+                Ok(()) => Ok(false),
                 Err(Rest { rest }) => Err(Rest { rest: (key, rest) }),
             }
         }
         Err(at) => match pairs.insert(at, (key, value)) {
-            Ok(()) => Ok(()),
+            Ok(()) => Ok(true),
             Err(fault) => Err(Rest { rest: fault.value }),
         },
     }

@@ -1,5 +1,5 @@
 //! Maps whose values are joined key by key.
-ghost use Rattle.std.specs.Prelude.{◌≡◌, [], ◌∷◌, ◌++◌, length, map, IsSome, IsOk, IfOk, OnOk, IfErr};
+ghost use Rattle.std.specs.Prelude.{◌≡◌, ◌↔◌, [], ◌∷◌, ◌++◌, None, length, map, IsTrue, IsSome, IsOk, IfOk, OnOk, IfErr};
 ghost use Rattle.std.specs.Option.{option_copied, option_to_list, IfNone, IfSome};
 ghost use Rattle.std.specs.FinMap.{find};
 ghost use Rattle.join_law.specs.Maps.{IsHeld, IsMap, MapBelow};
@@ -120,13 +120,16 @@ impl<K: Key, V: Join> JoinMap<K, V> {
         self.pairs.pop()
     }
 
-    /// Joins a value into the one at a key. A search and at most one shift of the pairs.
+    /// Joins a value into the one at a key, and answers whether the key was added. A search and at
+    /// most one shift of the pairs.
     ///
     /// It fails for want of memory alone. The map then lies between what it was and the join, and
     /// joining the `rest`, which has the same key, gives that join; where the value is single, the
     /// map is unchanged. Where the key is held, it takes no memory but that of the value's join.
-    pub fn join_at(&mut self, key: K, value: V) -> Result<(), Rest<(K, V)>>
+    pub fn join_at(&mut self, key: K, value: V) -> Result<bool, Rest<(K, V)>>
         ensures ok { OnOk result (IsJoin (MapBelow K.cmp V.below) self.old ((key, value) ∷ []) self.new) }
+        ensures added { IfOk result (λ added. IsTrue added ↔
+            ((find K.cmp key self.old ≡ None) × ¬ IsLeast V.below value)) }
         ensures key { IfErr result (λ fault. fault.rest.0 ≡ key) }
         ensures refused { IfErr result (λ fault. IsPartialJoin (MapBelow K.cmp V.below) self.old
             ((key, value) ∷ []) self.new (fault.rest ∷ [])) }

@@ -1,9 +1,9 @@
 //! Joins of one value into maps of maps.
-ghost use Rattle.std.specs.Prelude.{◌≡◌, ◌≤◌, [], ◌∷◌, vec_len, IsSome, IsOk, IfOk, OnOk, OnErr};
+ghost use Rattle.std.specs.Prelude.{◌≡◌, ◌≤◌, ◌↔◌, [], ◌∷◌, None, vec_len, IsTrue, IsSome, IsOk, IfOk, OnOk, OnErr};
 ghost use Rattle.std.specs.FinMap.{find};
 ghost use Rattle.sorted_pairs.specs.Places.{IsGap};
 ghost use Rattle.join_law.specs.Maps.{IsHeld, IsMap, MapBelow, or_empty};
-ghost use Rattle.join_law.specs.Order.{IsBetween, IsJoin};
+ghost use Rattle.join_law.specs.Order.{IsBetween, IsJoin, IsLeast};
 
 use crate::joins::Join;
 use crate::maps::JoinMap;
@@ -33,18 +33,20 @@ fn insert_within<K: Key, L: Key, V: Join>(
     Ok(())
 }
 
-// Joins a value into the one at a key of the map at a key.
+// Joins a value into the one at a key of the map at a key, and answers whether that key was added.
 fn join_within<K: Key, L: Key, V: Join>(
     pairs: &mut Vec<(K, JoinMap<L, V>)>,
     key: K,
     inner: L,
     value: V,
-) -> Result<(), AllocError>
+) -> Result<bool, AllocError>
     requires map { IsMap K.cmp (MapBelow L.cmp V.below) (IsMap L.cmp V.below V.is_valid) pairs.old.items }
     requires held { IsHeld V.below V.is_valid value }
     ensures map { IsMap K.cmp (MapBelow L.cmp V.below) (IsMap L.cmp V.below V.is_valid) pairs.new.items }
     ensures ok { OnOk result (IsJoin (MapBelow K.cmp (MapBelow L.cmp V.below)) pairs.old.items
         ((key, (inner, value) ∷ []) ∷ []) pairs.new.items) }
+    ensures added { IfOk result (λ added. IsTrue added ↔
+        ((find L.cmp inner (or_empty (find K.cmp key pairs.old.items)) ≡ None) × ¬ IsLeast V.below value)) }
     ensures refused { OnErr result (IsBetween (MapBelow K.cmp (MapBelow L.cmp V.below)) pairs.old.items
         ((key, (inner, value) ∷ []) ∷ []) pairs.new.items) }
     ensures single { OnErr result (V.is_single value → pairs.new.items ≡ pairs.old.items) }
@@ -55,22 +57,25 @@ fn join_within<K: Key, L: Key, V: Join>(
         Ok(at) => {
             let place = &mut pairs[at];
             match place.1.join_at(inner, value) {
-                Ok(()) => Ok(()),
+                Ok(added) => Ok(added),
                 Err(_) => Err(AllocError),
             }
         }
-        Err(at) => insert_within(pairs, at, key, inner, value),
+        Err(at) => {
+            insert_within(pairs, at, key, inner, value)?;
+            Ok(true)
+        }
     }
 }
 
-// Joins a value into the one at a key of the map at a key of the map at a key.
+// Joins a value into the one at a key of the map at a key of the map at a key, and answers whether that key was added.
 fn join_deep<K: Key, L: Key, M: Key, V: Join>(
     pairs: &mut Vec<(K, JoinMap<L, JoinMap<M, V>>)>,
     key: K,
     inner: L,
     innermost: M,
     value: V,
-) -> Result<(), AllocError>
+) -> Result<bool, AllocError>
     requires map { IsMap K.cmp (MapBelow L.cmp (MapBelow M.cmp V.below))
         (IsMap L.cmp (MapBelow M.cmp V.below) (IsMap M.cmp V.below V.is_valid)) pairs.old.items }
     requires held { IsHeld V.below V.is_valid value }
@@ -78,6 +83,9 @@ fn join_deep<K: Key, L: Key, M: Key, V: Join>(
         (IsMap L.cmp (MapBelow M.cmp V.below) (IsMap M.cmp V.below V.is_valid)) pairs.new.items }
     ensures ok { OnOk result (IsJoin (MapBelow K.cmp (MapBelow L.cmp (MapBelow M.cmp V.below)))
         pairs.old.items ((key, (inner, (innermost, value) ∷ []) ∷ []) ∷ []) pairs.new.items) }
+    ensures added { IfOk result (λ added. IsTrue added ↔
+        ((find M.cmp innermost (or_empty (find L.cmp inner (or_empty (find K.cmp key pairs.old.items)))) ≡ None)
+        × ¬ IsLeast V.below value)) }
     ensures refused { OnErr result (IsBetween (MapBelow K.cmp (MapBelow L.cmp (MapBelow M.cmp V.below)))
         pairs.old.items ((key, (inner, (innermost, value) ∷ []) ∷ []) ∷ []) pairs.new.items) }
     ensures single { OnErr result (V.is_single value → pairs.new.items ≡ pairs.old.items) }
@@ -92,21 +100,25 @@ fn join_deep<K: Key, L: Key, M: Key, V: Join>(
         }
         Err(at) => {
             let made = JoinMap::of_pair(*pairs.allocator(), innermost, value)?;
-            insert_within(pairs, at, key, inner, made)
+            insert_within(pairs, at, key, inner, made)?;
+            Ok(true)
         }
     }
 }
 
 impl<K: Key, L: Key, V: Join> JoinMap<K, JoinMap<L, V>> {
-    /// Joins a value into the one at a key of the map at a key. A search and at most one shift of
-    /// pairs in each map; no map is made but to hold the value.
+    /// Joins a value into the one at a key of the map at a key, and answers whether that key was
+    /// added. A search and at most one shift of pairs in each map; no map is made but to hold the
+    /// value.
     ///
     /// It fails for want of memory alone. The map then lies between what it was and the join;
     /// where the value is single, it is unchanged. Where both keys are held, it takes no memory but
     /// that of the value's join.
-    pub fn join_within(&mut self, key: K, inner: L, value: V) -> Result<(), AllocError>
+    pub fn join_within(&mut self, key: K, inner: L, value: V) -> Result<bool, AllocError>
         ensures ok { OnOk result (IsJoin (MapBelow K.cmp (MapBelow L.cmp V.below)) self.old
             ((key, (inner, value) ∷ []) ∷ []) self.new) }
+        ensures added { IfOk result (λ added. IsTrue added ↔
+            ((find L.cmp inner (or_empty (find K.cmp key self.old)) ≡ None) × ¬ IsLeast V.below value)) }
         ensures refused { OnErr result (IsBetween (MapBelow K.cmp (MapBelow L.cmp V.below)) self.old
             ((key, (inner, value) ∷ []) ∷ []) self.new) }
         ensures single { OnErr result (V.is_single value → self.new ≡ self.old) }
@@ -116,22 +128,32 @@ impl<K: Key, L: Key, V: Join> JoinMap<K, JoinMap<L, V>> {
     {
         let pairs = &mut self.pairs;
         if value.is_bottom() {
-            return Ok(());
+            return Ok(false);
         }
         join_within(pairs, key, inner, value)
     }
 }
 
 impl<K: Key, L: Key, M: Key, V: Join> JoinMap<K, JoinMap<L, JoinMap<M, V>>> {
-    /// Joins a value into the one at a key of the map at a key of the map at a key. A search and at
-    /// most one shift of pairs in each map; no map is made but to hold the value.
+    /// Joins a value into the one at a key of the map at a key of the map at a key, and answers
+    /// whether that key was added. A search and at most one shift of pairs in each map; no map is
+    /// made but to hold the value.
     ///
     /// It fails for want of memory alone. The map then lies between what it was and the join;
     /// where the value is single, it is unchanged. Where all three keys are held, it takes no memory
     /// but that of the value's join.
-    pub fn join_deep(&mut self, key: K, inner: L, innermost: M, value: V) -> Result<(), AllocError>
+    pub fn join_deep(
+        &mut self,
+        key: K,
+        inner: L,
+        innermost: M,
+        value: V,
+    ) -> Result<bool, AllocError>
         ensures ok { OnOk result (IsJoin (MapBelow K.cmp (MapBelow L.cmp (MapBelow M.cmp V.below))) self.old
             ((key, (inner, (innermost, value) ∷ []) ∷ []) ∷ []) self.new) }
+        ensures added { IfOk result (λ added. IsTrue added ↔
+            ((find M.cmp innermost (or_empty (find L.cmp inner (or_empty (find K.cmp key self.old)))) ≡ None)
+            × ¬ IsLeast V.below value)) }
         ensures refused { OnErr result (IsBetween (MapBelow K.cmp (MapBelow L.cmp (MapBelow M.cmp V.below)))
             self.old ((key, (inner, (innermost, value) ∷ []) ∷ []) ∷ []) self.new) }
         ensures single { OnErr result (V.is_single value → self.new ≡ self.old) }
@@ -142,7 +164,7 @@ impl<K: Key, L: Key, M: Key, V: Join> JoinMap<K, JoinMap<L, JoinMap<M, V>>> {
     {
         let pairs = &mut self.pairs;
         if value.is_bottom() {
-            return Ok(());
+            return Ok(false);
         }
         join_deep(pairs, key, inner, innermost, value)
     }

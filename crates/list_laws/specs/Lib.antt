@@ -1,5 +1,6 @@
 pub mod Agreements
 pub mod Cuts
+pub mod Filters
 pub mod FirstSaid
 pub mod Lines
 pub mod Members

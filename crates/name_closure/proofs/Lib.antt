@@ -3,3 +3,4 @@ mod Insertions
 mod News
 mod Others
 mod Rounding
+mod Searched

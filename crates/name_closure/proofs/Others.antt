@@ -6,7 +6,7 @@ use Rattle.std.proofs.Common.{arith, inl, inr, sym, ap, subst, ◌∙◌, get_or
 use Rattle.std.proofs.lemmas.Grind.{flat_map-append}
 use Rattle.std.proofs.lemmas.List.{take_more}
 use Rattle.list_laws.specs.Members.{IsAmong, IsAmong-append_cases, IsAmong-append_left, IsAmong-append_right}
-use Rattle.name_closure.specs.Loading.{AreOthers}
+use Rattle.name_closure.specs.Loading.{AreApart, AreOthers}
 
 module _ {N U : Type 0} where
   -- the key of a pair stands among the keys
@@ -31,6 +31,14 @@ module _ {N : Type 0} (own : List N) where
     where
       last : (m : N) → IsAmong m (n ∷ []) → IsAmong m own ⊎ IsAmong m some
       last m (inl e) = inl (subst (λ v. IsAmong v own) e h)
+      last m (inr f) = absurd f
+
+  -- one more node, which is none of the round's own
+  pub apart_more : (some : List N) (n : N) → AreApart own some → ¬ IsAmong n own → AreApart own (some ++ n ∷ [])
+  apart_more some n apart other m h = elim (IsAmong-append_cases m some (n ∷ []) h) [ inl a ↦ apart m a | inr b ↦ last m b ]
+    where
+      last : (m : N) → IsAmong m (n ∷ []) → ¬ IsAmong m own
+      last m (inl e) = subst (λ v. ¬ IsAmong v own) e other
       last m (inr f) = absurd f
 
   -- and one that is added

@@ -26,6 +26,10 @@ pub record AreOthers {N : Type 0} (own all some : List N) : Type 0 where
   pub origin : (n : N) → IsAmong n some → IsAmong n all
   pub took : (n : N) → IsAmong n all → IsAmong n own ⊎ IsAmong n some
 
+-- none of these is one of a round's own
+abbrev pub AreApart : {N : Type 0} → List N → List N → Type 0
+AreApart {N} own some = (n : N) → IsAmong n some → ¬ IsAmong n own
+
 -- what a round of these nodes loads: the nodes, beside each what is loaded for it, and the other nodes that are named there, all of
 -- which can be loaded
 pub record IsRound {N U : Type 0} (is_node : N → Type 0) (is_loaded : N → U → Type 0) (named : U → List N) (nodes : List N) (pairs : List (N × U)) (names : List N) : Type 0 where

@@ -4,7 +4,7 @@ ghost use Rattle.std.specs.List.{flat_map};
 ghost use Rattle.std.specs.List.Sorted.{IsStrictlySortedBy};
 ghost use Rattle.std.specs.Map.{keys_of};
 ghost use Rattle.list_laws.specs.Members.{IsAmong};
-ghost use Rattle.name_closure.specs.Loading.{AreLoaded, AreOthers, IsRound};
+ghost use Rattle.name_closure.specs.Loading.{AreApart, AreLoaded, AreOthers, IsRound};
 
 use crate::loads::{Loads, Round, load_each};
 use plain_values::Key;
@@ -28,7 +28,7 @@ pub(crate) fn load_round<K: Key, L: Loads<K>>(
 }
 
 /// The nodes that are named in a part of what a round loaded and aren't the round's own, each once, in order; where its
-/// nodes don't rise, some of its own too. `AllocError` for want of memory. A search for each node that is named, and
+/// nodes don't rise, maybe some of its own too. `AllocError` for want of memory. A search for each node that is named, and
 /// O(m log m) for m that are given.
 pub fn names_of<K: Key, L: Loads<K>>(
     alloc: Global,
@@ -41,6 +41,9 @@ pub fn names_of<K: Key, L: Loads<K>>(
     ensures others { IfOk result (λ names. AreOthers (keys_of pairs.now)
         (flat_map (λ pair. L.named loader.now pair.1) part.now) names.items) }
     ensures nodes { IfOk result (λ names. All (L.is_node loader.now) names.items) }
+    ensures rising { IfOk result (λ names. IsStrictlySortedBy K.cmp names.items) }
+    ensures apart { IsStrictlySortedBy K.cmp (keys_of pairs.now)
+        → IfOk result (λ names. AreApart (keys_of pairs.now) names.items) }
 {
     let mut names = Vec::new(alloc);
     for (_, one) in part {
@@ -57,6 +60,8 @@ fn add_others<K: Key, U>(
     more: Vec<K>,
 ) -> Result<(), AllocError>
     ensures added { OnOk result (AreOthers (keys_of pairs.now) (names.old.items ++ more.items) names.new.items) }
+    ensures apart { IsStrictlySortedBy K.cmp (keys_of pairs.now) → AreApart (keys_of pairs.now) names.old.items
+        → OnOk result (AreApart (keys_of pairs.now) names.new.items) }
 {
     for node in more {
         if !is_own(pairs, &node) {
@@ -69,6 +74,8 @@ fn add_others<K: Key, U>(
 // Whether a node is seen to be one of the round's own: always where these rise. O(log n).
 fn is_own<K: Key, U>(pairs: &[(K, U)], node: &K) -> bool
     ensures own { IsTrue result → IsAmong node.now (keys_of pairs.now) }
+    ensures seen { IsStrictlySortedBy K.cmp (keys_of pairs.now) → IsAmong node.now (keys_of pairs.now)
+        → IsTrue result }
 {
     match pairs.binary_search_by(|pair| pair.0.cmp(node)) {
         Ok(at) => pairs[at].0 == *node,

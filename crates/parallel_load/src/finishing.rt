@@ -1,5 +1,5 @@
 //! A load made of what was found: its names in order, dependencies by main names and by numbers.
-ghost use Rattle.std.specs.Prelude.{◌≡◌, ◌<◌, ℕ, length, slice_index_or, map, IfOk, IsTrue};
+ghost use Rattle.std.specs.Prelude.{◌≡◌, ◌<◌, map, IfOk, IsTrue};
 ghost use Rattle.std.specs.BTreeMap.{keys};
 ghost use Rattle.std.specs.FinMap.{is_sorted};
 ghost use Rattle.std.specs.List.Sorted.{IsStrictlySortedBy};
@@ -14,10 +14,9 @@ use crate::mains::{Mains, Settled};
 use plain_values::Items;
 use std::alloc::{AllocError, Global};
 use std::collections::BTreeMap;
-use std::thread;
 use std::thread::Threads;
 use unit_name::UnitName;
-use worker_rounds::{Share, cut, put_together};
+use worker_rounds::{Share, work_by_shares};
 
 /// The load of what was found, with dependencies by main names. It fails for want of memory alone.
 pub(crate) fn settled(
@@ -86,7 +85,7 @@ fn pairs_of(
     Ok(pairs)
 }
 
-// Names with what they stand for, dependencies by main names and by numbers, by so many workers.
+// Names with what they stand for, dependencies by main names and by numbers, each share of them by a worker of its own.
 fn settle_by_workers<R: Threads + Sync>(
     rt: &R,
     alloc: Global,
@@ -100,28 +99,10 @@ fn settle_by_workers<R: Threads + Sync>(
     if workers == 1 {
         return mains.settle_all(alloc, pairs);
     }
-    let shares = cut(alloc, pairs, workers)?;
-    let parts = settle_shares(rt, alloc, mains, shares)?;
-    put_together(alloc, parts)
-}
-
-// The names of each share with what they stand for, dependencies by main names and by numbers, each share by a worker of its
-// own.
-fn settle_shares<R: Threads + Sync>(
-    rt: &R,
-    alloc: Global,
-    mains: &Mains,
-    shares: Vec<Share<(UnitName, Kept)>>,
-) -> Result<Vec<Result<Vec<Settled>, AllocError>>, AllocError>
-    ensures len { IfOk result (λ parts. length parts.items ≡ length shares.items) }
-    ensures each { IfOk result (λ parts. (i : ℕ) (share : _) (part : _) → i < length shares.items
-        → IfOk (slice_index_or parts.items i part)
-        (λ names. names.items ≡ map (settled_name mains.now) (slice_index_or shares.items i share).nodes.items)) }
-{
     let settle = |share: Share<(UnitName, Kept)>| -> Result<Vec<Settled>, AllocError>
         ensures { IfOk result (λ names. names.items ≡ map (settled_name mains.entry.now) share.nodes.items) }
     { mains.settle_all(alloc, share.nodes) };
-    thread::map_vec(rt, shares, &settle)
+    work_by_shares(rt, alloc, pairs, workers, &settle)
 }
 
 // The load of these names, which are in byte order.

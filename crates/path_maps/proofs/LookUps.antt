@@ -1,20 +1,25 @@
 -- What three look-ups find, one after another.
-use Rattle.std.proofs.Common.{◌≡◌, ℕ, List, Option, Some, None, IsSome, Bor, filter, refl, sym, ap, subst, ◌∙◌}
-use Rattle.std.specs.Prelude.{MatchOption}
+use Rattle.std.proofs.Common.{◌≡◌, ℕ, List, Option, Some, None, IsSome, [], ◌∷◌, true, false, cond, Bor, filter, refl, sym, ap, subst, ◌∙◌, arith}
+use Rattle.std.specs.Prelude.{MatchOption, Bool, IsTrue, ◌↔◌, ◌+◌, ◌≤◌, is_some}
+use Rattle.std.specs.Int.{from_bool}
 use Rattle.std.specs.Option.{option_map, IfSome}
-use Rattle.std.specs.Ordering.{nat_cmp}
+use Rattle.std.specs.Ordering.{nat_cmp, eq_by_cmp}
 use Rattle.std.specs.FinMap as finmap
 use Rattle.std.specs.FinMap.Entries.{find}
 use Rattle.join_law.specs.declared.versions.Versioned.{Versioned}
-use Rattle.join_law.specs.VersionOrder.{written, written_at}
-use Rattle.join_law.specs.Maps.{or_empty}
+use Rattle.join_law.specs.declared.versions.Versioned.TheVariants.{Never, At}
+use Rattle.join_law.specs.Order.{IsLeast}
+use Rattle.join_law.specs.VersionOrder.{IsUpTo, written, written_at}
+use Rattle.join_law.specs.VersionedLaws.{never_least, not_least}
+use Rattle.join_law.specs.Maps.{AllHeld, or_empty}
 use Rattle.load_path.specs.Paths.{PathParts, IsPath}
 use Rattle.edit_sums.specs.declared.contents.Content.{Content}
+use Rattle.edit_sums.specs.Contents.{content_cmp}
 use Rattle.edit_sums.specs.Entries.{Entry}
 use Rattle.edit_sums.specs.Sums.{EntryMap}
 use Rattle.path_maps.specs.Spread.{AllKeys}
-use Rattle.path_maps.specs.PathMaps.{NameMap, RankMap, AreRanks, bytes_cmp, look_up, flat, listed, in_folder}
-use Rattle.path_maps.specs.PathMapLaws.{get-flat}
+use Rattle.path_maps.specs.PathMaps.{NameMap, FolderMap, RankMap, NamesBelow, FoldersBelow, AreNames, AreFolders, AreRanks, bytes_cmp, look_up, flat, listed, in_folder}
+use Rattle.path_maps.specs.PathMapLaws.{get-flat, found_lawful}
 use Rattle.path_maps.specs.Kept.{IsKept}
 use Rattle.path_maps.specs.Cursors.{or_nothing}
 use Rattle.path_maps.specs.Folders.{is_in, names_in}
@@ -46,6 +51,65 @@ there (Some v) h = refl
 -- where something is held, each look-up finds something
 pub held_there : (m : RankMap) → AreRanks m → (s : EntryMap) → flat m ≡ s → (q : PathParts) → IsSome (finmap.get s q) → IsSome (find bytes_cmp q.name (or_empty (find bytes_cmp q.folder (or_empty (find nat_cmp q.rank m)))))
 held_there m is s e q h = there _ (subst (λ (x : Option Entry). IsSome x) (sym (held_is m is s e q _ refl)) h)
+
+-- a value that is held was written
+was_written : (v : Versioned Content) → ¬ IsLeast (IsUpTo content_cmp) v → IsSome (written v)
+was_written Never left = absurd (left (never_least content_cmp))
+was_written (At x) left = refl
+
+name_written : (k : List ℕ) (names : NameMap) → AllHeld (IsUpTo content_cmp) (λ _. Unit {0}) names → IsSome (find bytes_cmp k names) → IsSome (written_at (find bytes_cmp k names))
+name_written k [] held some = some
+name_written k (n ∷ ns) held some =
+    elim (eq_by_cmp bytes_cmp k n.0) as (λ b. IsSome (cond b (Some n.1) (find bytes_cmp k ns)) → IsSome (written_at (cond b (Some n.1) (find bytes_cmp k ns)))) [
+      | true ↦ λ _. was_written n.1 held.0.not_least
+      | false ↦ λ found. name_written k ns held.1 found
+    ] some
+
+-- the names of a folder are in order, and each of them was written
+names_lawful : (m : RankMap) → AreRanks m → (rank : ℕ) (folder : List ℕ) → AreNames (names_in m rank folder)
+names_lawful m is rank folder = by_rank (find nat_cmp rank m) refl
+  where
+    no_pairs : AreNames []
+    no_pairs = record { sorted = refl; held = tt }
+
+    by_folder : (folders : FolderMap) → AreFolders folders → (x : Option NameMap) → find bytes_cmp folder folders ≡ x → AreNames (or_empty x)
+    by_folder folders are None e = no_pairs
+    by_folder folders are (Some names) e = found_lawful bytes_cmp NamesBelow AreNames folder folders are.held names e
+
+    by_rank : (x : Option FolderMap) → find nat_cmp rank m ≡ x → AreNames (or_empty (find bytes_cmp folder (or_empty x)))
+    by_rank None e = no_pairs
+    by_rank (Some folders) e = by_folder folders (found_lawful nat_cmp FoldersBelow AreFolders rank m is.held folders e) (find bytes_cmp folder folders) refl
+
+-- where each look-up finds something, something is held
+pub there_held : (m : RankMap) → AreRanks m → (s : EntryMap) → flat m ≡ s → (q : PathParts) → IsSome (find bytes_cmp q.name (names_in m q.rank q.folder)) → IsSome (finmap.get s q)
+there_held m is s e q h =
+    subst (λ (x : Option Entry). IsSome x) (held_is m is s e q _ refl)
+    (name_written q.name (names_in m q.rank q.folder) (names_lawful m is q.rank q.folder).held h)
+
+module _ (m : RankMap) (is : AreRanks m) (s : EntryMap) (e : flat m ≡ s) (q : PathParts) where
+  abbrev found : Option (Versioned Content)
+  found = find bytes_cmp q.name (names_in m q.rank q.folder)
+
+  -- nothing is held where a look-up finds nothing
+  pub absent_there : found ≡ None → finmap.get s q ≡ None
+  absent_there none = sym (held_is m is s e q None (ap written_at none))
+
+  -- so many paths are held with this one where its key was added, or was not
+  pub counted_with : (x : Entry) (added : Bool) → IsTrue added ↔ ((found ≡ None) × ¬ IsLeast (IsUpTo content_cmp) (At x)) → finmap.len s + from_bool added ≡ cond (finmap.contains_key s q) (finmap.len s) (finmap.len s + 1)
+  counted_with x true h = let none = absent_there (h.0 refl).0 in ap (λ (o : Option Entry). cond (is_some o) (finmap.len s) (finmap.len s + 1)) (sym none)
+  counted_with x false h = by found refl
+    where
+      same : finmap.len s + 0 ≡ finmap.len s
+      same = omega arith
+
+      by : (o : Option (Versioned Content)) → found ≡ o → finmap.len s + 0 ≡ cond (finmap.contains_key s q) (finmap.len s) (finmap.len s + 1)
+      by None t = let wrong = h.1 (t, not_least content_cmp x) in cc (wrong)
+      by (Some v) t = let some = there_held m is s e q (subst (λ (o : Option (Versioned Content)). IsSome o) (sym t) refl) in same ∙ ap (λ b. cond b (finmap.len s) (finmap.len s + 1)) (sym some)
+
+  -- and as many can be counted, if a path where nothing is held can be
+  pub fits_with : (most : ℕ) (x : Entry) (added : Bool) → IsTrue added ↔ ((found ≡ None) × ¬ IsLeast (IsUpTo content_cmp) (At x)) → finmap.len s ≤ most → (finmap.get s q ≡ None → finmap.len s + 1 ≤ most) → finmap.len s + from_bool added ≤ most
+  fits_with most x true h now room = room (absent_there (h.0 refl).0)
+  fits_with most x false h now room = omega (arith, now)
 
 -- a path at which the look-ups find something is lawful
 pub lawful_there : (m : RankMap) (len high : ℕ) → IsKept m len high → (q : PathParts) (x : Entry) → look_up m q ≡ Some x → IsPath q

@@ -1,5 +1,6 @@
 //! Stores.
-ghost use Rattle.std.specs.Prelude.{◌≡◌, ◌≤◌, ◌↔◌, ◌+◌, IsTrue, IsSome, IsOk, IfOk, OnOk, OnErr, IfErr, filter, if◌then◌else◌};
+ghost use Rattle.std.specs.Prelude.{◌≡◌, ◌≤◌, ◌↔◌, ◌+◌, None, IsTrue, IsSome, IsOk, IfOk, OnOk, OnErr, IfErr, filter};
+ghost use Rattle.std.specs.Bool.{OnTrue, OnFalse};
 ghost use Rattle.std.specs.Option.{option_copied, option_map, IfSome};
 ghost use Rattle.std.specs.FinMap as finmap;
 ghost use Rattle.edit_sums.specs.Sums.{changed_paths, high_of, join, sum_of, visible_at, with_edit, IsStoreBelow};
@@ -70,7 +71,8 @@ impl Store {
         }
     }
 
-    /// The sum of some edits: at each path the greatest of the edits there. O(n log n).
+    /// The sum of some edits: at each path the greatest of the edits there. It seeks three keys for each edit; what stands
+    /// behind a new key in its map is moved, so edits that come in path order move nothing.
     pub fn from_edits(alloc: Global, edits: &[Edit]) -> Result<Store, AllocError>
         ensures sum { IfOk result (λ store. store ≡ sum_of edits.now) }
     {
@@ -214,11 +216,13 @@ impl Store {
             version,
             content,
         } = edit;
-        let len = self.len_with(&path)?;
+        if self.is_full_for(&path) {
+            return Err(AllocError);
+        }
         let (rank, folder, name) = path.into_parts();
         let value = Versioned::At(Entry { version, content });
-        self.ranks.join_deep(rank, folder, name, value)?;
-        self.len = len;
+        let added = self.ranks.join_deep(rank, folder, name, value)?;
+        self.len += usize::from(added);
         self.high = self.high.max(version.counter);
         Ok(())
     }
@@ -301,16 +305,13 @@ impl Store {
         }
     }
 
-    // How many paths are held with this one. Over the greatest number, it is want of memory.
-    fn len_with(&self, path: &Path) -> Result<usize, AllocError>
-        ensures len { IfOk result (λ len. len ≡ if finmap.contains_key self.now path.now
-            then finmap.len self.now else finmap.len self.now + 1) }
-        ensures held { IsSome (finmap.get self.now path.now) → IsOk result }
+    // Whether the path would be one more than can be counted, which is want of memory. It is looked for only where the
+    // greatest number is held.
+    fn is_full_for(&self, path: &Path) -> bool
+        ensures full { OnTrue result (finmap.get self.now path.now ≡ None) }
+        ensures room { OnFalse result (finmap.get self.now path.now ≡ None → finmap.len self.now + 1 ≤ usize.MAX) }
     {
-        match self.get(path) {
-            Some(_) => Ok(self.len),
-            None => self.len.checked_add(1).ok_or(AllocError),
-        }
+        self.len == usize::MAX && self.get(path).is_none()
     }
 }
 

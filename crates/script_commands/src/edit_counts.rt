@@ -3,8 +3,8 @@ ghost use Rattle.std.specs.Prelude.{◌≡◌, ◌<◌, ◌≤◌, MatchOption};
 
 use std::marker::Model;
 
-/// A worker of a crowd makes at most so many edits.
-pub const MOST_EDITS: u32 = 1_000;
+// A worker of a crowd makes at most so many edits.
+const MOST_EDITS: u32 = 1_000;
 
 /// How many edits each worker of a crowd makes: 0 to 1,000.
 #[derive(Debug, Drop)]

@@ -14,7 +14,7 @@ mod parsing;
 mod path_words;
 
 pub use commands::{Command, Fault, Refusal, Word, Words};
-pub use edit_counts::{EditCount, MOST_EDITS};
+pub use edit_counts::EditCount;
 pub use laws::commands_read_back;
 pub use parsing::parse;
 pub use path_words::{read_file, read_link, read_path, read_paths};

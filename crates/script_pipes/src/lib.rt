@@ -14,6 +14,3 @@ mod writing;
 pub use reading::{MAX_READS, MAX_SCRIPT_BYTES, ReadFault, Source, read_all};
 pub use watching::Watched;
 pub use writing::{Sink, WriteFault, write_all};
-
-#[cfg(test)]
-mod tests;

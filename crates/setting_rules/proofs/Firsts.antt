@@ -1,5 +1,5 @@
 -- Keys at their first places, and maps that have a value for each.
-use Rattle.std.proofs.Common.{◌≡◌, Bool, true, false, cond, ◌||◌, not, List, [], ◌∷◌, ◌++◌, map, filter, refl, ap, sym, ◌∙◌, append-nil}
+use Rattle.std.proofs.Common.{◌≡◌, Bool, true, false, cond, ◌||◌, not, List, [], ◌∷◌, ◌++◌, map, refl, ap, sym, ◌∙◌, append-nil}
 use Rattle.std.specs.List.{list_any}
 use Rattle.std.proofs.lemmas.Bool.{true≢false}
 use Rattle.std.proofs.lemmas.List.Elements.{filter-append}
@@ -8,21 +8,11 @@ use Rattle.setting_rules.specs.Rules.{Text}
 use Rattle.setting_rules.specs.Maps.{SettingMap, same_key, changed}
 use Rattle.setting_rules.specs.KeyLaws.{same_key_is, same_key_turned}
 use Rattle.setting_rules.specs.Settings.{firsts}
+use Rattle.setting_rules.specs.EnteredLaws.{others, any_others}
 
 -- the keys with one more at the end, unless it is there
 abbrev pub with_last : List SettingKey → SettingKey → List SettingKey
 with_last ks k = cond (list_any (same_key k) ks) ks (ks ++ k ∷ [])
-
-abbrev pub others : SettingKey → List SettingKey → List SettingKey
-others x ks = filter (λ q. not (same_key q x)) ks
-
-any_others : (k x : SettingKey) → same_key k x ≡ false → (ks : List SettingKey) → list_any (same_key k) (others x ks) ≡ list_any (same_key k) ks
-any_others k x h [] = refl
-any_others k x h (y ∷ ks) = by (same_key y x) refl (any_others k x h ks)
-  where
-    by : (b : Bool) → same_key y x ≡ b → list_any (same_key k) (others x ks) ≡ list_any (same_key k) ks → list_any (same_key k) (cond (not b) (y ∷ others x ks) (others x ks)) ≡ (same_key k y || list_any (same_key k) ks)
-    by true e rest = rest ∙ sym (ap (λ b. b || list_any (same_key k) ks) (ap (same_key k) (same_key_is y x e) ∙ h))
-    by false e rest = ap (λ b. same_key k y || b) rest
 
 pub firsts-push : (ks : List SettingKey) (k : SettingKey) → firsts (ks ++ k ∷ []) ≡ with_last (firsts ks) k
 firsts-push [] k = refl

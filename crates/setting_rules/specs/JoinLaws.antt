@@ -11,7 +11,7 @@ use Rattle.setting_rules.specs.Settings.{behind_last, given, resets, counted, la
 use Rattle.setting_rules.specs.ResetLaws.{behind_last-append, behind_last-none, given-append}
 
 -- the last of two lists is that of the second, if it has any
-last_behind : (xs : List Text) (y : Text) (ys : List Text) → last_alone (xs ++ y ∷ ys) ≡ last_alone (y ∷ ys)
+pub last_behind : (xs : List Text) (y : Text) (ys : List Text) → last_alone (xs ++ y ∷ ys) ≡ last_alone (y ∷ ys)
 last_behind xs y ys =
     let n : length (xs ++ y ∷ ys) - 1 ≡ length xs + (length (y ∷ ys) - 1) = omega (arith, length-append xs (y ∷ ys)) in
     ap (λ k. drop k (xs ++ y ∷ ys)) n ∙ drop-append-add xs (y ∷ ys) (length (y ∷ ys) - 1)

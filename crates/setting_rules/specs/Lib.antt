@@ -1,5 +1,7 @@
 pub mod Dependencies
 pub mod Effects
+pub mod EnteredLaws
+pub mod FamilyLaws
 pub mod JoinLaws
 pub mod KeyLaws
 pub mod Kinds
@@ -10,6 +12,8 @@ pub mod ResetLaws
 pub mod Rows
 pub mod Rules
 pub mod Settings
+pub mod SwitchLaws
 pub mod Switches
+pub mod TemplateLaws
 pub mod WordLaws
 pub mod Words

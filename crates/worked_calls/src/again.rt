@@ -3,15 +3,17 @@
 //! The answer is that of the call where nothing is refused. Where something was, what stood between the two calls comes
 //! behind it, after the words `; refused at`.
 use crate::answer_text::Answer;
-use crate::edits::{append_store, store};
+use crate::edits::{append_store, placed_of, store};
 use crate::join_maps::{append_map, map};
+use crate::joins::versioned;
 use crate::pieces::{append_parts, append_piece, holder, piece};
-use crate::replicas::replica;
+use crate::replicas::{append_edited, replica};
 use crate::worlds::{append_both, append_replicas, replicas};
 use delta_gossip::{exchange, sweep};
 use delta_pieces::{TakeFault, take};
 use join_law::{Join, Rest};
-use worked_lines::{LineFault, Words, is};
+use replica_store::EditFault;
+use worked_lines::{LineFault, Words, byte_of, is};
 
 /// Writes what a call that may be made again answers.
 pub fn answer(words: &mut Words, out: &mut Answer) -> Result<(), LineFault> {
@@ -29,10 +31,16 @@ fn told(words: &mut Words, out: &mut Answer, between: &mut Answer) -> Result<(),
     let call = words.word()?;
     if is(call, b"join") {
         joined(words, out, between)
+    } else if is(call, b"at") {
+        joined_at(words, out, between)
     } else if is(call, b"absorb") {
         absorbed(words, out, between)
     } else if is(call, b"merge") {
         merged(words, out, between)
+    } else if is(call, b"put") {
+        put(words, out, between)
+    } else if is(call, b"remove") {
+        removed(words, out, between)
     } else if is(call, b"take") {
         taken(words, out, between)
     } else if is(call, b"split") {
@@ -56,6 +64,19 @@ fn joined(words: &mut Words, out: &mut Answer, between: &mut Answer) -> Result<(
     append_map(out, &joined)
 }
 
+// A map that a value is joined to at a key; where that is refused, the rest of it.
+fn joined_at(words: &mut Words, out: &mut Answer, between: &mut Answer) -> Result<(), LineFault> {
+    let mut joined = map(words)?;
+    let key = byte_of(words.word()?)?;
+    let value = versioned(words.word()?)?;
+    if let Err(Rest { rest }) = joined.join_at(key, value) {
+        append_map(between, &joined)?;
+        let (key, value) = rest;
+        joined.join_at(key, value)?;
+    }
+    append_map(out, &joined)
+}
+
 // A store that takes another; where that is refused, the rest of it.
 fn absorbed(words: &mut Words, out: &mut Answer, between: &mut Answer) -> Result<(), LineFault> {
     let mut first = store(words)?;
@@ -75,6 +96,30 @@ fn merged(words: &mut Words, out: &mut Answer, between: &mut Answer) -> Result<(
         first.merge(&second)?;
     }
     append_store(out, &first)
+}
+
+// A replica that puts a content at a path, twice where the first time is refused memory.
+fn put(words: &mut Words, out: &mut Answer, between: &mut Answer) -> Result<(), LineFault> {
+    let (path, content) = placed_of(words.alloc, words.word()?)?;
+    let mut replica = replica(1, words)?;
+    let mut version = replica.put(path.try_clone()?, content.try_clone()?);
+    if let Err(EditFault::Memory) = version {
+        append_store(between, replica.store())?;
+        version = replica.put(path, content);
+    }
+    append_edited(out, version, &replica)
+}
+
+// A replica that removes what is visible at a path, twice where the first time is refused memory.
+fn removed(words: &mut Words, out: &mut Answer, between: &mut Answer) -> Result<(), LineFault> {
+    let path = words.path()?;
+    let mut replica = replica(1, words)?;
+    let mut version = replica.remove(path.try_clone()?);
+    if let Err(EditFault::Memory) = version {
+        append_store(between, replica.store())?;
+        version = replica.remove(path);
+    }
+    append_edited(out, version, &replica)
 }
 
 // A replica that takes a piece; where that is refused, the rest of it.

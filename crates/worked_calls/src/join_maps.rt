@@ -48,7 +48,8 @@ fn told(
 // Joins to a map the pair that a word writes.
 fn join_pair(map: &mut Numbers, pair: &[u8]) -> Result<(), LineFault> {
     let (key, value) = cut_at(pair, b':').ok_or(LineFault::Words)?;
-    Ok(map.join_at(byte_of(key)?, versioned(value)?)?)
+    map.join_at(byte_of(key)?, versioned(value)?)?;
+    Ok(())
 }
 
 /// The next word as a map.
@@ -149,7 +150,8 @@ fn join_branch(tree: &mut Tree, pair: &[u8]) -> Result<(), LineFault> {
     let (outer, others) = cut_at(keys, b'/').ok_or(LineFault::Words)?;
     let (middle, inner) = cut_at(others, b'/').ok_or(LineFault::Words)?;
     let value = versioned(value)?;
-    Ok(tree.join_deep(byte_of(outer)?, byte_of(middle)?, byte_of(inner)?, value)?)
+    tree.join_deep(byte_of(outer)?, byte_of(middle)?, byte_of(inner)?, value)?;
+    Ok(())
 }
 
 // The next word as a map of maps of maps.

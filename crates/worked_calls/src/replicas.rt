@@ -42,8 +42,8 @@ fn append_whole(out: &mut Answer, replica: Replica) -> Result<(), LineFault> {
     append_store(out, &replica.into_store())
 }
 
-// Writes the version of an edit and what the replica then holds, or why it was refused.
-fn append_edited(
+/// Writes the version of an edit and what the replica then holds, or why it was refused.
+pub fn append_edited(
     out: &mut Answer,
     version: Result<Version, EditFault>,
     replica: &Replica,

@@ -1,18 +1,20 @@
-//! A gate at which two workers wait for one another.
-use std::sync::atomic::{AtomicUsize, Ordering};
+//! A gate at which two workers wait for one another, and one that counts how often it is asked.
+use std::alloc::{AllocError, Global};
+use std::sync::atomic::{AtomicBool, AtomicUsize, Ordering};
 use std::thread;
 use std::time::{Clock, Duration};
-use worker_rounds::{Gate, TURNS};
+use worker_rounds::{Gate, MOST_WORKERS, TURNS};
 
-/// Lets each of two workers go on once both have come, and counts how often it was asked for each.
+/// Lets each of two workers go on once both have come.
 ///
-/// A worker that has come goes on only when the other has come too, or when it was asked for `TURNS` times. So where it was
-/// asked for both, and for each fewer times, neither was done before the other was begun.
+/// A worker that has come waits inside the gate's call until the other has come too, for `TURNS` turns of a microsecond
+/// at most. So where one thread asks for both, in whatever order and however often, a wait runs out, which is noted.
 #[derive(Drop)]
 pub struct Meeting<'a, R: Clock> {
     clock: &'a R,
-    first: AtomicUsize,
-    second: AtomicUsize,
+    first: AtomicBool,
+    second: AtomicBool,
+    ran_out: AtomicBool,
 }
 
 impl<'a, R: Clock> Meeting<'a, R> {
@@ -20,22 +22,17 @@ impl<'a, R: Clock> Meeting<'a, R> {
     pub fn new(clock: &'a R) -> Self {
         Meeting {
             clock,
-            first: AtomicUsize::new(0),
-            second: AtomicUsize::new(0),
+            first: AtomicBool::new(false),
+            second: AtomicBool::new(false),
+            ran_out: AtomicBool::new(false),
         }
     }
 
-    /// Whether both workers came, and neither went on before the other had come.
+    /// Whether both workers came, and each met the other while it waited.
     pub fn were_together(&self) -> bool {
-        let first = self.first.load(Ordering::SeqCst);
-        let second = self.second.load(Ordering::SeqCst);
-        has_met(first) && has_met(second)
+        let have_come = self.first.load(Ordering::SeqCst) && self.second.load(Ordering::SeqCst);
+        have_come && !self.ran_out.load(Ordering::SeqCst)
     }
-}
-
-// Whether a worker came and met the other, when it was asked for so many times.
-fn has_met(turns: usize) -> bool {
-    turns > 0 && turns < TURNS as usize
 }
 
 impl<R: Clock> Gate for Meeting<'_, R> {
@@ -45,11 +42,53 @@ impl<R: Clock> Gate for Meeting<'_, R> {
         } else {
             (&self.second, &self.first)
         };
-        own.fetch_add(1, Ordering::SeqCst);
-        if other.load(Ordering::SeqCst) > 0 {
-            return true;
+        own.store(true, Ordering::SeqCst);
+        for _ in 0..TURNS {
+            if other.load(Ordering::SeqCst) {
+                return true;
+            }
+            thread::sleep(self.clock, Duration::from_micros(1));
         }
-        thread::sleep(self.clock, Duration::from_micros(1));
-        false
+        self.ran_out.store(true, Ordering::SeqCst);
+        true
+    }
+}
+
+/// Turns each number away so often before it lets it go on, and counts how often it is asked for each. Numbers from
+/// `MOST_WORKERS` on count as one.
+#[derive(Drop)]
+pub struct CountingGate {
+    turned_away: usize,
+    asked: Vec<AtomicUsize>,
+}
+
+impl CountingGate {
+    /// One that wasn't asked for any number.
+    pub fn new(alloc: Global, turned_away: usize) -> Result<Self, AllocError> {
+        let mut asked = Vec::new(alloc);
+        for _ in 0..=MOST_WORKERS {
+            asked.push(AtomicUsize::new(0))?;
+        }
+        Ok(CountingGate { turned_away, asked })
+    }
+
+    /// Writes each number that it was asked for, with how often, in their order.
+    pub fn append_to(&self, alloc: Global, out: &mut Vec<u8>) -> Result<(), AllocError> {
+        for (number, count) in self.asked.iter().enumerate() {
+            let often = count.load(Ordering::SeqCst);
+            if often > 0 {
+                out.extend_from_slice(format!(in alloc; " {number}:{often}")?.as_bytes())?;
+            }
+        }
+        Ok(())
+    }
+}
+
+impl Gate for CountingGate {
+    fn arrive(&self, number: usize) -> bool {
+        match self.asked.get(number.min(MOST_WORKERS)) {
+            Some(count) => count.fetch_add(1, Ordering::SeqCst) >= self.turned_away,
+            None => true,
+        }
     }
 }

@@ -1,5 +1,5 @@
-//! What the programs of data share: the words of a line, and lines with their answers. And a gate at which two workers
-//! wait for one another, which shows that two pieces of a load run at the same time.
+//! What the programs of data share: the words of a line, and lines with their answers. And gates: one at which two
+//! workers wait for one another, which shows that they run at the same time, and one that counts how often it is asked.
 //!
 //! Promise: none; no clause can say it.
 #![tactic(auto)]
@@ -11,7 +11,7 @@ mod spelled;
 mod words;
 
 pub use faults::LineFault;
-pub use gates::Meeting;
+pub use gates::{CountingGate, Meeting};
 pub use lines::{answer_lines, work_input};
 pub use spelled::{
     byte_of, cut_at, file_of, is, link_of, name_of, number_of, parts_of, path_of, text_of,

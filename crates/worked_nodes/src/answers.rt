@@ -18,7 +18,7 @@ use std::time::Clock;
 use worked_lines::{LineFault, Words, is};
 
 // Does the steps at an open node, up to a word that is none; whether that word is `short`.
-fn work_steps<N: NodeName, R: Wait>(
+fn work_steps<N: NodeName + Send + Sync, R: Threads + Wait + Clock + Sync>(
     rt: &R,
     node: &Node<N>,
     bench: &mut Bench<N>,
@@ -36,7 +36,7 @@ fn work_steps<N: NodeName, R: Wait>(
 }
 
 // Does what a line says at the node of this blank, and closes it. What was answered comes back.
-fn work_node<N: NodeName, R: Wait>(
+fn work_node<N: NodeName + Send + Sync, R: Threads + Wait + Clock + Sync>(
     rt: &R,
     alloc: Global,
     blank: Blank,
@@ -61,7 +61,7 @@ fn work_node<N: NodeName, R: Wait>(
 }
 
 // Does what a line says at the node of this blank, under a name of its own.
-fn work_blank<R: Wait>(
+fn work_blank<R: Threads + Wait + Clock + Sync>(
     rt: &R,
     alloc: Global,
     blank: Blank,
@@ -71,7 +71,7 @@ fn work_blank<R: Wait>(
 }
 
 // What a line of a node answers whose blank was refused memory: it is made again, of the replica that came back.
-fn answer_again<R: Wait>(
+fn answer_again<R: Threads + Wait + Clock + Sync>(
     rt: &R,
     alloc: Global,
     replica: Replica,
@@ -87,7 +87,7 @@ fn answer_again<R: Wait>(
 }
 
 // What a line of a node over this replica answers.
-fn answer_over<R: Wait>(
+fn answer_over<R: Threads + Wait + Clock + Sync>(
     rt: &R,
     alloc: Global,
     replica: Replica,
@@ -102,14 +102,22 @@ fn answer_over<R: Wait>(
 }
 
 // What a line of a node over nothing answers.
-fn answer_node<R: Wait>(rt: &R, alloc: Global, words: &mut Words) -> Result<Vec<u8>, LineFault> {
+fn answer_node<R: Threads + Wait + Clock + Sync>(
+    rt: &R,
+    alloc: Global,
+    words: &mut Words,
+) -> Result<Vec<u8>, LineFault> {
     let writer = words.writer()?;
     let seats = words.place()?;
     answer_over(rt, alloc, Replica::new(alloc, writer), seats, words)
 }
 
 // What a line of a node over one edit answers.
-fn answer_held<R: Wait>(rt: &R, alloc: Global, words: &mut Words) -> Result<Vec<u8>, LineFault> {
+fn answer_held<R: Threads + Wait + Clock + Sync>(
+    rt: &R,
+    alloc: Global,
+    words: &mut Words,
+) -> Result<Vec<u8>, LineFault> {
     let writer = words.writer()?;
     let seats = words.place()?;
     let store = Store::from_edits(alloc, &one_edit(words)?)?;

@@ -5,8 +5,7 @@ use std::alloc::Global;
 use std::sync::Wait;
 use std::thread::Threads;
 use std::time::Clock;
-use worked_lines::{LineFault, Meeting, Words};
-use worker_rounds::OpenGate;
+use worked_lines::{CountingGate, LineFault, Meeting, Words};
 
 // What a crowd's numbers answer, or why there are none.
 fn counted_text(alloc: Global, counted: Result<Counted, CrowdFault>) -> Result<Vec<u8>, LineFault> {
@@ -35,7 +34,7 @@ fn crowd_text<R: Threads + Wait + Sync, G: Gate + Sync>(
     counted_text(alloc, crowd(rt, alloc, &replica, seats, edits, gate))
 }
 
-/// What a line of a crowd answers.
+/// What a line of a crowd answers, and how often its gate was asked for each worker.
 pub fn answer_crowd<R: Threads + Wait + Sync>(
     rt: &R,
     alloc: Global,
@@ -44,7 +43,11 @@ pub fn answer_crowd<R: Threads + Wait + Sync>(
     let writer = words.writer()?;
     let seats = words.place()?;
     let edits = words.number()?;
-    crowd_text(rt, alloc, writer, seats, edits, &OpenGate)
+    let gate = CountingGate::new(alloc, 0)?;
+    let mut text = crowd_text(rt, alloc, writer, seats, edits, &gate)?;
+    text.extend_from_slice(b"\n  asked for")?;
+    gate.append_to(alloc, &mut text)?;
+    Ok(text)
 }
 
 /// What a line of two workers answers who wait for one another before their first edits.

@@ -1,4 +1,5 @@
 //! Edits in words.
+use delta_pieces::Piece;
 use join_law::Version;
 use replica_store::Edit;
 use worked_lines::{LineFault, Words};
@@ -16,4 +17,9 @@ pub fn one_edit(words: &mut Words) -> Result<Vec<Edit>, LineFault> {
         content,
     })?;
     Ok(edits)
+}
+
+/// The next words as a piece of one edit.
+pub fn one_piece(words: &mut Words) -> Result<Piece, LineFault> {
+    Ok(Piece::from_edits(words.alloc, &one_edit(words)?)?)
 }

@@ -1,18 +1,19 @@
 //! What is done at a node.
 use crate::bench::{Bench, store_text};
-use crate::edits::one_edit;
-use crossbeam_channel::{Receiver, Sender, unbounded};
-use delta_pieces::Piece;
+use crate::beside::beside;
+use crate::edits::one_piece;
+use crate::serving::work_inbox;
 use join_law::Version;
 use node_histories::NodeName;
-use shared_node::{Message, Node, NodeFault, Seat, Served, Told, serve};
+use shared_node::{Node, NodeFault, Seat, Told};
 use std::alloc::Global;
 use std::sync::Wait;
+use std::thread::Threads;
+use std::time::Clock;
 use worked_lines::{LineFault, Words, is};
-use worker_rounds::Gate;
 
 /// Does one step, and writes its answer. It answers false where the word is no step at an open node.
-pub fn step<N: NodeName, R: Wait>(
+pub fn step<N: NodeName + Send + Sync, R: Threads + Wait + Clock + Sync>(
     rt: &R,
     node: &Node<N>,
     bench: &mut Bench<N>,
@@ -31,6 +32,8 @@ pub fn step<N: NodeName, R: Wait>(
         view(bench, words)
     } else if is(word, b"serve") {
         work_inbox(rt, node, bench, words)
+    } else if is(word, b"beside") {
+        beside(rt, node, bench, words)
     } else {
         return Ok(false)
     };
@@ -84,11 +87,6 @@ fn edit<N: NodeName, R: Wait>(
     tell_edit(bench, taken)
 }
 
-// The piece of one edit that the words write.
-fn piece(alloc: Global, words: &mut Words) -> Result<Piece, LineFault> {
-    Ok(Piece::from_edits(alloc, &one_edit(words)?)?)
-}
-
 // Keeps the token of a piece, and writes how many paths it changed, or why it wasn't taken.
 fn tell_piece<N: NodeName>(
     bench: &mut Bench<N>,
@@ -111,7 +109,7 @@ fn absorb<N: NodeName, R: Wait>(
     words: &mut Words,
 ) -> Result<(), LineFault> {
     let place = words.place()?;
-    let piece = piece(bench.alloc, words)?;
+    let piece = one_piece(words)?;
     let Some(Some(seat)) = bench.seats.get_mut(place) else {
         return bench.tell("no seat");
     };
@@ -159,67 +157,4 @@ fn view<N: NodeName>(bench: &mut Bench<N>, words: &mut Words) -> Result<(), Line
         Some(text) => bench.tell_bytes(&text?),
         None => bench.tell("A7 NoEntry"),
     }
-}
-
-// Nobody waits at this gate.
-struct Open;
-
-impl Gate for Open {
-    fn arrive(&self, _number: usize) -> bool {
-        true
-    }
-}
-
-// Sends a message.
-fn send<R: Wait>(rt: &R, sender: &Sender<Message>, message: Message) -> Result<(), LineFault> {
-    match sender.send(rt, message) {
-        Ok(()) => Ok(()),
-        Err(_) => Err(LineFault::Memory),
-    }
-}
-
-// An inbox with one message and the end.
-fn inbox_of<R: Wait>(
-    rt: &R,
-    alloc: Global,
-    message: Message,
-) -> Result<Receiver<Message>, LineFault> {
-    let (sender, inbox) = unbounded(alloc)?;
-    send(rt, &sender, message)?;
-    send(rt, &sender, Message::End)?;
-    Ok(inbox)
-}
-
-// An inbox with one edit, which the words write, and the end.
-fn inbox<R: Wait>(
-    rt: &R,
-    alloc: Global,
-    words: &mut Words,
-) -> Result<Receiver<Message>, LineFault> {
-    let path = words.path()?;
-    let content = words.file()?;
-    inbox_of(rt, alloc, Message::Edit(path, content))
-}
-
-// Writes how an inbox was served.
-fn tell_served<N: NodeName>(bench: &mut Bench<N>, served: Served) -> Result<(), LineFault> {
-    bench.tell_number("answered", served.answered as u64)?;
-    bench.tell_number("pending", served.pending as u64)?;
-    bench.tell_number("refused", served.refused as u64)
-}
-
-// Serves one edit from a seat.
-fn work_inbox<N: NodeName, R: Wait>(
-    rt: &R,
-    node: &Node<N>,
-    bench: &mut Bench<N>,
-    words: &mut Words,
-) -> Result<(), LineFault> {
-    let place = words.place()?;
-    let inbox = inbox(rt, bench.alloc, words)?;
-    let Some(Some(seat)) = bench.seats.get_mut(place) else {
-        return bench.tell("no seat");
-    };
-    let served = serve(rt, node, seat, &inbox, &Open);
-    tell_served(bench, served)
 }

@@ -68,8 +68,8 @@ fn make_edit<N: NodeName, R: Wait>(
     }
 }
 
-// Makes so many edits from a seat.
-fn make_edits<N: NodeName, R: Wait>(
+/// Makes so many edits from a seat, of its own file.
+pub fn make_edits<N: NodeName, R: Wait>(
     rt: &R,
     alloc: Global,
     node: &Node<N>,

@@ -1,3 +1,4 @@
 pub mod Crews
 pub mod Joined
 pub mod Refusals
+pub mod Shares

@@ -15,4 +15,4 @@ pub use crews::{MOST_WORKERS, is_crew};
 pub use faults::RoundFault;
 pub use gates::{Gate, OpenGate, TURNS, pass_gate};
 pub use rounds::close_loaded_by_workers;
-pub use shares::{Share, cut, put_together};
+pub use shares::{Share, work_by_shares};

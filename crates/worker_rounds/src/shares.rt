@@ -1,10 +1,14 @@
 //! Shares of a list: elements cut for workers, and what was made of them put together.
 ghost use Rattle.std.specs.Prelude.{◌≡◌, ◌<◌, length, map, min, All, IfOk};
 ghost use Rattle.std.specs.List.{flat_map, range_with_len};
+ghost use Rattle.std.specs.Fork.{AcceptsJobs, GivesJobs};
 ghost use Rattle.worker_rounds.specs.Joined.{IsJoined};
+ghost use Rattle.worker_rounds.specs.Shares.{AreShares, AreWorked};
 
 use std::alloc::{AllocError, Global};
 use std::collections::VecDeque;
+use std::thread;
+use std::thread::Threads;
 
 /// Nodes that stand one behind the other, for one worker.
 #[derive(Drop)]
@@ -14,8 +18,8 @@ pub struct Share<K> {
     pub nodes: Vec<K>,
 }
 
-/// The nodes cut into shares, as many as the lesser of the workers and the nodes. Linear, without a copy of a node.
-pub fn cut<K: Drop>(
+// The nodes cut into shares, as many as the lesser of the workers and the nodes. Linear, without a copy of a node.
+pub(crate) fn cut<K: Drop>(
     alloc: Global,
     nodes: Vec<K>,
     workers: usize,
@@ -41,9 +45,26 @@ pub fn cut<K: Drop>(
     Ok(Vec::from(shares))
 }
 
-/// All that the parts hold, one behind the other. `AllocError` where a part was refused, or for want of memory. Linear, without a
-/// copy of an element.
-pub fn put_together<X: Drop>(
+/// What is made of the nodes by so many workers: each share has a call of its own, and what the calls give is put together in
+/// the order of the shares. `AllocError` where a call refuses, or for want of memory. It may wait for threads.
+pub fn work_by_shares<
+    R: Threads + Sync,
+    K: Send + Drop,
+    X: Send + Drop,
+    F: Fn(Share<K>) -> Result<Vec<X>, AllocError> + Sync,
+>(rt: &R, alloc: Global, nodes: Vec<K>, workers: usize, work: &F) -> Result<Vec<X>, AllocError>
+    requires some { 0 < workers }
+    requires ready { (shares : _) → AreShares workers nodes.items shares → AcceptsJobs F.Fn work.now shares }
+    ensures worked { IfOk result (λ all. AreWorked (GivesJobs F.Fn work.now) workers nodes.items all.items) }
+{
+    let shares = cut(alloc, nodes, workers)?;
+    let parts = thread::map_vec(rt, shares, work)?;
+    put_together(alloc, parts)
+}
+
+// All that the parts hold, one behind the other. `AllocError` where a part was refused, or for want of memory. Linear, without a
+// copy of an element.
+pub(crate) fn put_together<X: Drop>(
     alloc: Global,
     parts: Vec<Result<Vec<X>, AllocError>>,
 ) -> Result<Vec<X>, AllocError>

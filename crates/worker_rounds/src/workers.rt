@@ -6,7 +6,7 @@ ghost use Rattle.std.specs.Map.{keys_of};
 ghost use Rattle.name_closure.specs.Loading.{AreLoaded, AreLoads, AreOthers, IsRound};
 
 use crate::gates::{Gate, pass_gate};
-use crate::shares::{Share, cut, put_together};
+use crate::shares::{Share, put_together, work_by_shares};
 use name_closure::{Loads, Round, load_each, names_of};
 use plain_values::Key;
 use std::alloc::{AllocError, Global};
@@ -25,29 +25,6 @@ fn load_share<K: Key, L: Loads<K>, G: Gate>(
 {
     pass_gate(gate, share.number);
     load_each(alloc, loader, share.nodes)
-}
-
-// What was loaded of each share, each by a worker of its own, in the order of their numbers.
-fn load_shares<R: Threads + Sync, K: Key + Send, L: Loads<K> + Sync, G: Gate + Sync>(
-    rt: &R,
-    alloc: Global,
-    loader: &L,
-    gate: &G,
-    shares: Vec<Share<K>>,
-) -> Result<Vec<Result<Vec<(K, L::Loaded)>, AllocError>>, AllocError>
-where
-    L::Loaded: Send,
-    requires nodes { All (λ share. All (L.is_node loader.now) share.nodes.items) shares.items }
-    ensures len { IfOk result (λ parts. length parts.items ≡ length shares.items) }
-    ensures each { IfOk result (λ parts. (i : ℕ) (share : _) (part : _) → i < length shares.items
-        → IfOk (slice_index_or parts.items i part)
-        (λ pairs. AreLoads (L.is_loaded loader.now) (slice_index_or shares.items i share).nodes.items pairs.items)) }
-{
-    let load = |share: Share<K>| -> Result<Vec<(K, L::Loaded)>, AllocError>
-        requires { All (L.is_node loader.now) share.nodes.items }
-        ensures { IfOk result (λ pairs. AreLoads (L.is_loaded loader.entry.now) share.nodes.items pairs.items) }
-    { load_share(alloc, loader, gate, share) };
-    thread::map_vec(rt, shares, &load)
 }
 
 // What is named in each part of what a round loaded and isn't the round's own. So many workers take parts of the same size, but
@@ -131,7 +108,7 @@ where
     Ok(Round { pairs, names })
 }
 
-// Each of the new nodes of a round with what is loaded for it, by so many workers.
+// Each of the new nodes of a round with what is loaded for it, each share by a worker of its own.
 fn pairs_by_workers<R: Threads + Sync, K: Key + Send, L: Loads<K> + Sync, G: Gate + Sync>(
     rt: &R,
     alloc: Global,
@@ -146,7 +123,9 @@ where
     requires nodes { All (L.is_node loader.now) fresh.items }
     ensures pairs { IfOk result (λ pairs. AreLoads (L.is_loaded loader.now) fresh.items pairs.items) }
 {
-    let shares = cut(alloc, fresh, workers)?;
-    let parts = load_shares(rt, alloc, loader, gate, shares)?;
-    put_together(alloc, parts)
+    let load = |share: Share<K>| -> Result<Vec<(K, L::Loaded)>, AllocError>
+        requires { All (L.is_node loader.now) share.nodes.items }
+        ensures { IfOk result (λ pairs. AreLoads (L.is_loaded loader.entry.now) share.nodes.items pairs.items) }
+    { load_share(alloc, loader, gate, share) };
+    work_by_shares(rt, alloc, fresh, workers, &load)
 }

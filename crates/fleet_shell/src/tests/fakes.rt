@@ -35,6 +35,18 @@ impl Read for Slow<'_> {
     }
 }
 
+/// Gives that many zeros, as many as there is room for at each read.
+#[derive(Drop)]
+pub struct Zeros(pub usize);
+
+impl Read for Zeros {
+    fn read(&mut self, buf: &mut [u8]) -> io::Result<usize> {
+        let count = self.0.min(buf.len());
+        self.0 -= count;
+        Ok(count)
+    }
+}
+
 /// Takes some bytes a write, and from some write on it fails or takes none.
 #[derive(Drop)]
 pub struct Narrow {

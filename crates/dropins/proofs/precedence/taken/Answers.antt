@@ -10,7 +10,7 @@ use Rattle.dropins.proofs.precedence.taken.Goals as goal
 
 pub loop-level-preserved : goal.loop-level-preserved
 loop-level-preserved c f =
-    said_more (took_in c.args.store.now c.args.search c.args.dirs.now f) levels c.loop-level.level c.loop-level.level (omega arith) (sym (level_is c.loop-level.level c.loop-level.level (omega arith))) (first_for c.add_rank.new.found.items f) (first_for c.loop-level.found.items f) None (c.in_ok-add_rank.ensures.added f) (c.loop-level.invariant f)
+    said_more (took_in c.args.store.now c.args.search c.args.dirs.now f) levels c.loop-level.level c.loop-level.level (omega arith) (sym (level_is c.loop-level.level c.loop-level.level (omega arith))) (first_for c.add_level.new.found.items f) (first_for c.loop-level.found.items f) None (c.in_ok-add_level.ensures.added f) (c.loop-level.invariant f)
 
 pub returns : goal.returns
 returns c =

@@ -9,7 +9,7 @@ use Rattle.fragment_choice.proofs.choices.says.Goals as goal
 pub returns-in-None : goal.returns-in-None
 returns-in-None c =
     let store = c.args.store.now in
-    record { said = nothing_says store c.args.name.now c.args.own.now c.args.rank (c.in-None.ensures.held ∙ ap (λ b. finmap.get store (path_at c.args.rank [] b)) c.bytes.ensures.bytes) }
+    record { said = nothing_says store c.args.name.now c.args.own.now c.args.level (c.in-None.ensures.held ∙ ap (λ b. finmap.get store (path_at c.args.level [] b)) c.bytes.ensures.bytes) }
 
 pub returns-in-Some : goal.returns-in-Some
 returns-in-Some c =
@@ -17,7 +17,7 @@ returns-in-Some c =
     let name = c.args.name.now in
     let own = c.args.own.now in
     let placed = c.in-Some.placed in
-    let held : Some placed.1 ≡ finmap.get store (own_path own c.args.rank) = c.in-Some.ensures.held ∙ ap (λ b. finmap.get store (path_at c.args.rank [] b)) c.bytes.ensures.bytes in
-    let path : placed.0 ≡ own_path own c.args.rank = c.in-Some.ensures.path ∙ ap (path_at c.args.rank []) c.bytes.ensures.bytes in
-    let says = ap (λ p. content_says name own p placed.1.content) path ∙ entry_says store name own c.args.rank placed.1 held in
+    let held : Some placed.1 ≡ finmap.get store (own_path own c.args.level) = c.in-Some.ensures.held ∙ ap (λ b. finmap.get store (path_at c.args.level [] b)) c.bytes.ensures.bytes in
+    let path : placed.0 ≡ own_path own c.args.level = c.in-Some.ensures.path ∙ ap (path_at c.args.level []) c.bytes.ensures.bytes in
+    let says = ap (λ p. content_says name own p placed.1.content) path ∙ entry_says store name own c.args.level placed.1 held in
     record { said = subst (λ v. IfOk c.entry_says.result (λ said. said ≡ v)) says c.entry_says.ensures.said }

@@ -1,6 +1,6 @@
-use Rattle.std.proofs.Common.{subst, ap, ◌∙◌, set}
+use Rattle.std.proofs.Common.{subst, ap, sym, refl, ◌∙◌, set}
 use Rattle.std.specs.Prelude.{IsSome}
-use Rattle.sorted_pairs.specs.PlaceLaws.{find_gap}
+use Rattle.sorted_pairs.specs.PlaceLaws.{find_at, find_gap}
 use Rattle.join_law.proofs.MapEdits.{set_same, joined_is_map, joined_is_join, partly_is_map, partly_is_join, refused_is_join, inserted_is_map, inserted_is_join}
 use Rattle.join_law.proofs.edits.join_pair.Goals as goal
 
@@ -43,3 +43,13 @@ returns-in-Err-insert-clause-in_place g c = λ in_place some.
     let none = find_gap g.K.Ord.cmp c.args.key g.met.K.Ord.total _ _ c.requires.sorted (rw c.deref.ensures.value at c.in-Err.ensures.absent) in
     let t = subst IsSome none some in
     cc (t)
+
+pub returns-in-Ok-join_from-clause-added : goal.returns-in-Ok-join_from-clause-added
+returns-in-Ok-join_from-clause-added g c =
+    let found = find_at g.K.Ord.cmp c.args.key c.args.pairs.now.items c.in-Ok.at c.index_mut-place.result.now (rw c.deref.ensures.value at c.in-Ok.ensures.found) in
+    (λ added. cc (added), λ new. let none = sym found ∙ new.0 in cc (none))
+
+pub returns-in-Ok-insert-clause-added : goal.returns-in-Ok-insert-clause-added
+returns-in-Ok-insert-clause-added g c =
+    let none = find_gap g.K.Ord.cmp c.args.key g.met.K.Ord.total _ _ c.requires.sorted (rw c.deref.ensures.value at c.in-Err.ensures.absent) in
+    (λ _. (none, λ least. let t = c.if-is_bottom.ensures.least.1 least in cc (t)), λ _. refl)

@@ -1,14 +1,22 @@
-use Rattle.std.proofs.Common.{rules, append_assoc}
+use Rattle.std.proofs.Common.{◌≡◌, ◌∙◌, false, rules, sym, append_assoc}
+use Rattle.std.proofs.lemmas.Bool.{true≢false}
 use Rattle.std.specs.Prelude.{IsTrue}
 use Rattle.std.specs.Map.{keys_of}
-use Rattle.name_closure.proofs.Others.{others_kept, others_more}
+use Rattle.name_closure.proofs.Others.{apart_more, others_kept, others_more}
 use Rattle.name_closure.proofs.names.add_others.Goals as goal
 
 pub loop-node-preserved-in-Continue-1 : goal.loop-node-preserved-in-Continue-1
 loop-node-preserved-in-Continue-1 g c =
-    rw (c.in_ok-push.ensures.items, ← append_assoc) (others_more (keys_of c.args.pairs.now) _ _ c.in-Some.node c.loop-node.invariant)
+    let other : c.is_own.result ≡ false = search rules in
+    record {
+      others = rw (c.in_ok-push.ensures.items, ← append_assoc) (others_more (keys_of c.args.pairs.now) _ _ c.in-Some.node c.loop-node.invariant.others);
+      apart = λ rising old. rw c.in_ok-push.ensures.items (apart_more (keys_of c.args.pairs.now) c.loop-node.names.items c.in-Some.node (c.loop-node.invariant.apart rising old) (λ own. true≢false (sym (c.is_own.ensures.seen rising own) ∙ other)));
+    }
 
 pub loop-node-preserved : goal.loop-node-preserved
 loop-node-preserved g c =
     let own : IsTrue c.is_own.result = search rules in
-    rw (← append_assoc) (others_kept (keys_of c.args.pairs.now) _ _ c.in-Some.node (c.is_own.ensures.own own) c.loop-node.invariant)
+    record {
+      others = rw (← append_assoc) (others_kept (keys_of c.args.pairs.now) _ _ c.in-Some.node (c.is_own.ensures.own own) c.loop-node.invariant.others);
+      apart = c.loop-node.invariant.apart;
+    }

@@ -1,7 +1,11 @@
 use Rattle.std.proofs.Common.{◌++◌}
+use Rattle.std.specs.List.Sorted.{IsStrictlySortedBy}
 use Rattle.std.specs.Map.{keys_of}
-use Rattle.name_closure.specs.Loading.{AreOthers}
+use Rattle.name_closure.specs.Loading.{AreApart, AreOthers}
 use Rattle.name_closure.proofs.names.add_others.Given as goal
 
 abbrev pub invariant-loop-node : goal.invariant-loop-node
-invariant-loop-node g l = AreOthers (keys_of l.pairs) (l.fn.names.items ++ l.yielded) l.names.items
+invariant-loop-node g l = record {
+  others : AreOthers (keys_of l.pairs) (l.fn.names.items ++ l.yielded) l.names.items;
+  apart : IsStrictlySortedBy g.K.Ord.cmp (keys_of l.pairs) → AreApart (keys_of l.pairs) l.fn.names.items → AreApart (keys_of l.pairs) l.names.items;
+}

@@ -26,6 +26,7 @@ loop-one-preserved g c =
           subst (λ v. AreOthers own v c.add_others.new.names.items)
           (made_more (λ (p : g.row.K.Denot × g.row.L-Loaded.Denot). g.L.Loads.named loader p.1) part c.loop-one.one-index pair pair c.in_ok-more.more.items within is c.in_ok-more.ensures.named)
           (others_after own _ c.loop-one.names.items c.in_ok-more.more.items c.add_others.new.names.items c.loop-one.invariant.others c.in_ok-add_others.ensures.added);
+      apart = λ rising. c.in_ok-add_others.ensures.apart rising (c.loop-one.invariant.apart rising);
       nodes =
           holds_of_part (g.L.Loads.is_node loader) _ c.add_others.new.names.items
           (All-append (g.L.Loads.is_node loader) c.loop-one.names.items c.in_ok-more.more.items c.loop-one.invariant.nodes (c.in_ok-more.ensures.nodes pair.0 node loaded))
@@ -42,3 +43,6 @@ pub returns-clause-nodes : goal.returns-clause-nodes
 returns-clause-nodes g c =
     holds_of_part (g.L.Loads.is_node c.args.loader.now) c.loop-one.names.items c.each_once.result.items c.loop-one.invariant.nodes
     (λ n h. (c.each_once.ensures.members n).0 h)
+
+pub returns-clause-apart : goal.returns-clause-apart
+returns-clause-apart g c = λ rising n h. c.loop-one.invariant.apart rising n ((c.each_once.ensures.members n).0 h)

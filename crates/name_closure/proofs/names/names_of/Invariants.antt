@@ -1,11 +1,13 @@
 use Rattle.std.proofs.Common.{All, take}
 use Rattle.std.specs.List.{flat_map}
+use Rattle.std.specs.List.Sorted.{IsStrictlySortedBy}
 use Rattle.std.specs.Map.{keys_of}
-use Rattle.name_closure.specs.Loading.{AreOthers}
+use Rattle.name_closure.specs.Loading.{AreApart, AreOthers}
 use Rattle.name_closure.proofs.names.names_of.Given as goal
 
 abbrev pub invariant-loop-one : goal.invariant-loop-one
 invariant-loop-one g l = record {
   others : AreOthers (keys_of l.pairs) (flat_map (λ pair. g.L.Loads.named l.loader pair.1) (take l.one-index l.part)) l.names.items;
+  apart : IsStrictlySortedBy g.K.Ord.cmp (keys_of l.pairs) → AreApart (keys_of l.pairs) l.names.items;
   nodes : All (g.L.Loads.is_node l.loader) l.names.items;
 }

@@ -4,6 +4,6 @@ use Rattle.parallel_load.proofs.sources.sources.Goals as goal
 
 pub returns : goal.returns
 returns c =
-    let within = c.loop-rank.invariant.1 in
-    let no = c.loop-rank-test.false in
-    record { sources = sources_are c.args.store.now c.args.extra.now c.loop-rank.names.items c.loop-rank.rank c.loop-rank.invariant.0 (omega arith) }
+    let within = c.loop-level.invariant.1 in
+    let no = c.loop-level-test.false in
+    record { sources = sources_are c.args.store.now c.args.extra.now c.loop-level.names.items c.loop-level.level c.loop-level.invariant.0 (omega arith) }

@@ -2,5 +2,5 @@ use Rattle.std.proofs.Common.{◌≡◌, ◌++◌, ◌≤◌}
 use Rattle.parallel_load.proofs.Rows.{names_below}
 use Rattle.parallel_load.proofs.sources.sources.Given as goal
 
-abbrev pub invariant-loop-rank : goal.invariant-loop-rank
-invariant-loop-rank l = (l.names.items ≡ l.extra ++ names_below l.store l.rank) × (l.rank ≤ 4)
+abbrev pub invariant-loop-level : goal.invariant-loop-level
+invariant-loop-level l = (l.names.items ≡ l.extra ++ names_below l.store l.level) × (l.level ≤ 4)

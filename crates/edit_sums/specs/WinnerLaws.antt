@@ -1,0 +1,94 @@
+-- Which of two edits at one path is held: the order of versions and contents in plain words.
+-- Source (the last writer wins): Shapiro, Preguica, Baquero, Zawirski 2011; that ties go by content is this project's own.
+use Rattle.std.proofs.Common.{◌≡◌, ℕ, ◌<◌, true, cond, Some, None, [], ◌∷◌, refl, ap, sym, ◌∙◌, arith}
+use Rattle.std.specs.FinMap as finmap
+use Rattle.std.specs.Ordering.{nat_cmp, ordering_then, eq_by_cmp, is_eq, is_gt}
+use Rattle.std.specs.Cmp.{nat_cmp_total}
+use Rattle.std.specs.Cmp.Lexicographic.{slice_cmp}
+use Rattle.std.specs.declared.cmp.Ordering.{Ordering}
+use Rattle.std.specs.declared.cmp.Ordering.TheVariants.{Less, Equal, Greater}
+use Rattle.std.proofs.lemmas.Cmp.{ranked, tied_itself}
+use Rattle.join_law.specs.VersionOrder.{version_cmp}
+use Rattle.join_law.specs.VersionOrderLaws.{version_cmp_total}
+use Rattle.load_path.specs.Paths.{PathParts, path_cmp}
+use Rattle.load_path.specs.PathLaws.{path_cmp_total}
+use Rattle.edit_sums.specs.declared.contents.Content.{Content}
+use Rattle.edit_sums.specs.declared.contents.Content.TheVariants.{Gone, Link, File}
+use Rattle.edit_sums.specs.declared.entries.Edit.{Edit}
+use Rattle.edit_sums.specs.Contents.{sort_of, bytes_of, content_cmp}
+use Rattle.edit_sums.specs.Entries.{entry_cmp, larger}
+use Rattle.edit_sums.specs.Sums.{entry_of, greatest_at, sum_of}
+use Rattle.edit_sums.specs.GreatestLaws.{get-sum_of}
+
+-- of two edits at one path the first is held
+abbrev pub Wins : Edit → Edit → Type 0
+Wins e f = e.path ≡ f.path → finmap.get (sum_of (e ∷ f ∷ [])) e.path ≡ Some (entry_of e)
+
+-- a removal is less than a link and a file, and a link is less than a file
+abbrev pub IsLesserSort : Content → Content → Type 0
+IsLesserSort Gone Gone = ⊥
+IsLesserSort Gone (Link target) = Unit {0}
+IsLesserSort Gone (File bytes) = Unit {0}
+IsLesserSort (Link target) Gone = ⊥
+IsLesserSort (Link target) (Link other) = ⊥
+IsLesserSort (Link target) (File bytes) = Unit {0}
+IsLesserSort (File bytes) other = ⊥
+
+-- The greater counter wins.
+abbrev pub CountersDecide : Type 0
+CountersDecide = (e f : Edit) → f.version.counter < e.version.counter → Wins e f
+
+-- Under one counter the greater writer wins.
+abbrev pub WritersDecide : Type 0
+WritersDecide = (e f : Edit) → f.version.counter ≡ e.version.counter → f.version.writer < e.version.writer → Wins e f
+
+-- Under one version files win over links, and links over removals.
+abbrev pub SortsDecide : Type 0
+SortsDecide = (e f : Edit) → f.version ≡ e.version → IsLesserSort f.content e.content → Wins e f
+
+-- a greater number compares as greater
+greater : (x y : ℕ) → y < x → nat_cmp x y ≡ Greater
+greater x y h = by (nat_cmp x y) refl
+  where
+    by : (r : Ordering) → nat_cmp x y ≡ r → nat_cmp x y ≡ Greater
+    by Less e = absurd (omega (arith, ranked x y Less (sym e)))
+    by Equal e = absurd (omega (arith, ranked x y Equal (sym e)))
+    by Greater e = e
+
+same : (q : PathParts) → eq_by_cmp path_cmp q q ≡ true
+same q = ap is_eq (tied_itself path_cmp_total q)
+
+-- the greater entry is held
+held : (e f : Edit) → entry_cmp (entry_of e) (entry_of f) ≡ Greater → Wins e f
+held e f more at =
+    get-sum_of (e ∷ f ∷ []) e.path
+    ∙ ap (λ b. cond b (larger (Some (entry_of e)) (greatest_at e.path (f ∷ []))) (greatest_at e.path (f ∷ []))) (same e.path)
+    ∙ ap (λ b. larger (Some (entry_of e)) (cond b (Some (entry_of f)) None)) (ap (λ q. eq_by_cmp path_cmp q f.path) at ∙ same f.path)
+    ∙ ap (λ r. cond (is_gt r) (Some (entry_of e)) (Some (entry_of f))) more
+
+pub counters_decide : CountersDecide
+counters_decide e f h =
+    held e f (ap (λ r. ordering_then (ordering_then r (nat_cmp e.version.writer f.version.writer)) (content_cmp e.content f.content)) (greater e.version.counter f.version.counter h))
+
+pub writers_decide : WritersDecide
+writers_decide e f tie h =
+    held e f
+    (ap (λ r. ordering_then (ordering_then r (nat_cmp e.version.writer f.version.writer)) (content_cmp e.content f.content)) (ap (nat_cmp e.version.counter) tie ∙ tied_itself nat_cmp_total e.version.counter)
+    ∙ ap (λ r. ordering_then r (content_cmp e.content f.content)) (greater e.version.writer f.version.writer h))
+
+pub sorts_decide : SortsDecide
+sorts_decide e f tie lesser =
+    held e f
+    (ap (λ r. ordering_then r (content_cmp e.content f.content)) (ap (version_cmp e.version) tie ∙ tied_itself version_cmp_total e.version)
+    ∙ ap (λ r. ordering_then r (slice_cmp nat_cmp (bytes_of e.content) (bytes_of f.content))) (greater (sort_of e.content) (sort_of f.content) (by e.content f.content lesser)))
+  where
+    by : (x y : Content) → IsLesserSort y x → sort_of y < sort_of x
+    by Gone Gone h = absurd h
+    by Gone (Link target) h = absurd h
+    by Gone (File bytes) h = absurd h
+    by (Link target) Gone h = omega arith
+    by (Link target) (Link other) h = absurd h
+    by (Link target) (File bytes) h = absurd h
+    by (File bytes) Gone h = omega arith
+    by (File bytes) (Link target) h = omega arith
+    by (File bytes) (File other) h = absurd h

@@ -1,0 +1,76 @@
+-- What an empty condition or assertion empties, said of all keys that begin with one word.
+-- Source: systemd.unit(5), "Conditions and Asserts".
+use Rattle.std.proofs.Common.{◌≡◌, Bool, true, false, ◌&&◌, ◌||◌, not, List, [], ◌∷◌, ◌++◌, map, codes, refl, ap, ◌∙◌, subst}
+use Rattle.std.specs.List.{All, list_any}
+use Rattle.std.proofs.lemmas.List.Elements.{All-head, All-tail}
+use Rattle.section_reader.specs.declared.assignments.Assignment.{Assignment}
+use Rattle.setting_rules.specs.declared.keys.SettingKey.{SettingKey}
+use Rattle.setting_rules.specs.declared.rules.KeyRule.{KeyRule}
+use Rattle.setting_rules.specs.declared.rules.KeyRule.TheVariants.{Condition, Assertion}
+use Rattle.setting_rules.specs.Kinds.{settable_kind}
+use Rattle.setting_rules.specs.Rules.{Text, is_empty, rule_of}
+use Rattle.setting_rules.specs.Maps.{same_key, values_at}
+use Rattle.setting_rules.specs.KeyLaws.{same_key_is}
+use Rattle.setting_rules.specs.Settings.{key_of, rule_at, counts, counted, emptied_by, gives, resets, values_of, settings_of}
+use Rattle.setting_rules.specs.ResetLaws.{filter-behind_last-none, resets_forget, settings_show_values}
+
+-- a key of `[Unit]` that begins with a word
+abbrev pub BeginsWith : Text → SettingKey → Type 0
+BeginsWith word k = (k.section ≡ codes "Unit") × ((rest : Text) × (k.key ≡ word ++ rest))
+
+-- an empty value of such a key, behind which no such key is set, leaves each of these keys without values
+abbrev pub EmptiesAll : Text → Type 0
+EmptiesAll word = (before after : List Assignment) (a : Assignment) (k : SettingKey) →
+    BeginsWith word (key_of a) → a.value ≡ [] → All (λ b. ¬ BeginsWith word (key_of b)) after → BeginsWith word k → values_at (settings_of (before ++ a ∷ after)) k ≡ []
+
+-- An empty condition empties all conditions.
+abbrev pub ConditionsEmptyAll : Type 0
+ConditionsEmptyAll = EmptiesAll (codes "Condition")
+
+-- An empty assertion empties all assertions.
+abbrev pub AssertionsEmptyAll : Type 0
+AssertionsEmptyAll = EmptiesAll (codes "Assert")
+
+condition_words : (rest : Text) → rule_of (codes "Unit") (codes "Condition" ++ rest) ≡ Condition
+unfolding rule_of settable_kind
+condition_words rest = refl
+
+assertion_words : (rest : Text) → rule_of (codes "Unit") (codes "Assert" ++ rest) ≡ Assertion
+unfolding rule_of settable_kind
+assertion_words rest = refl
+
+-- where the keys that begin with a word have a rule by which an empty value empties all of them
+module _ (word : Text) (rule : KeyRule) (ruled : (rest : Text) → rule_of (codes "Unit") (word ++ rest) ≡ rule) (empties : (itself : Bool) → emptied_by rule rule itself ≡ true) (all : (values : List Text) → counted rule values ≡ values) where
+  rule_is : (k : SettingKey) → BeginsWith word k → rule_at k ≡ rule
+  rule_is k h = ap (λ s. rule_of s k.key) h.0 ∙ ap (rule_of (codes "Unit")) h.1.1 ∙ ruled h.1.0
+
+  none_given : (k : SettingKey) → BeginsWith word k → (after : List Assignment) → All (λ b. ¬ BeginsWith word (key_of b)) after → list_any (gives k) after ≡ false
+  none_given k h [] apart = refl
+  none_given k h (b ∷ after) apart = by (same_key k (key_of b)) refl (none_given k h after (All-tail (λ b. ¬ BeginsWith word (key_of b)) b after apart))
+    where
+      by : (same : Bool) → same_key k (key_of b) ≡ same → list_any (gives k) after ≡ false → (gives k b || list_any (gives k) after) ≡ false
+      by true e more = absurd (All-head (λ b. ¬ BeginsWith word (key_of b)) b after apart (subst (λ q. BeginsWith word q) (same_key_is k (key_of b) e) h))
+      by false e more = ap (λ s. (s && counts b && not (is_empty b.value)) || list_any (gives k) after) e ∙ more
+
+  nothing_behind : (k : SettingKey) → BeginsWith word k → (after : List Assignment) → All (λ b. ¬ BeginsWith word (key_of b)) after → values_of k after ≡ []
+  unfolding values_of
+  nothing_behind k h after apart =
+      ap (λ l. counted (rule_at k) (map (λ b. b.value) l)) (filter-behind_last-none (gives k) (resets k) after (none_given k h after apart))
+      ∙ ap (λ r. counted r []) (rule_is k h) ∙ all []
+
+  emptied : EmptiesAll word
+  emptied before after a k of_a empty apart h =
+      settings_show_values k (before ++ a ∷ after) ∙ resets_forget k before after a reset ∙ nothing_behind k h after apart
+    where
+      reset : resets k a ≡ true
+      reset =
+          ap (λ v. is_empty v && emptied_by (rule_at (key_of a)) (rule_at k) (same_key k (key_of a))) empty
+          ∙ ap (λ r. emptied_by r (rule_at k) (same_key k (key_of a))) (rule_is (key_of a) of_a)
+          ∙ ap (λ r. emptied_by rule r (same_key k (key_of a))) (rule_is k h)
+          ∙ empties (same_key k (key_of a))
+
+pub conditions_empty_all : ConditionsEmptyAll
+conditions_empty_all = emptied (codes "Condition") Condition condition_words (λ itself. refl) (λ values. refl)
+
+pub assertions_empty_all : AssertionsEmptyAll
+assertions_empty_all = emptied (codes "Assert") Assertion assertion_words (λ itself. refl) (λ values. refl)

@@ -1,0 +1,118 @@
+-- Which boolean decides whether a unit refuses a manual start.
+-- Source: systemd.unit(5), "[Unit] Section Options".
+use Rattle.std.proofs.Common.{◌≡◌, Bool, true, false, cond, ◌&&◌, ◌||◌, not, Some, None, is_some, unwrap_or, List, [], ◌∷◌, ◌++◌, map, filter, refl, ap, sym, ◌∙◌}
+use Rattle.std.specs.List.{All, list_any}
+use Rattle.std.proofs.lemmas.List.Elements.{All-head, All-tail}
+use Rattle.section_reader.specs.declared.assignments.Assignment.{Assignment}
+use Rattle.setting_rules.specs.declared.rules.KeyRule.{KeyRule}
+use Rattle.setting_rules.specs.declared.rules.KeyRule.TheVariants.{Ignored, Dependency, Switch, Condition, Assertion, Plain}
+use Rattle.setting_rules.specs.Kinds.{settable_kind}
+use Rattle.setting_rules.specs.Rules.{Text, is_empty, boolean, rule_of}
+use Rattle.setting_rules.specs.Maps.{same_key, values_at}
+use Rattle.setting_rules.specs.KeyLaws.{same_key_is, same_key_itself}
+use Rattle.setting_rules.specs.Settings.{key_of, rule_at, behind_last, counts, counts_by, counted, last_alone, emptied_by, gives, given, resets, values_of, settings_of}
+use Rattle.setting_rules.specs.Switches.{manual_start_key, says_yes, last_value, refuses}
+use Rattle.setting_rules.specs.ResetLaws.{behind_last-none, filter-none, given-append, settings_show_values}
+use Rattle.setting_rules.specs.JoinLaws.{last_behind}
+
+-- an assignment gives the switch no good boolean
+abbrev pub GivesNoBoolean : Assignment → Type 0
+GivesNoBoolean a = key_of a ≡ manual_start_key → boolean a.value ≡ None
+
+-- A good boolean with no good one behind it is the switch's only value.
+abbrev pub LastBooleanStays : Type 0
+LastBooleanStays = (before after : List Assignment) (a : Assignment) (says : Bool) →
+    key_of a ≡ manual_start_key → boolean a.value ≡ Some says → All GivesNoBoolean after → values_at (settings_of (before ++ a ∷ after)) manual_start_key ≡ a.value ∷ []
+
+-- And it decides.
+abbrev pub LastBooleanDecides : Type 0
+LastBooleanDecides = (before after : List Assignment) (a : Assignment) (says : Bool) →
+    key_of a ≡ manual_start_key → boolean a.value ≡ Some says → All GivesNoBoolean after → refuses (settings_of (before ++ a ∷ after)) ≡ says
+
+-- Without a good boolean a unit doesn't refuse.
+abbrev pub NothingRefusedUnsaid : Type 0
+NothingRefusedUnsaid = (items : List Assignment) → All GivesNoBoolean items → refuses (settings_of items) ≡ false
+
+switch_rule : rule_at manual_start_key ≡ Switch
+unfolding rule_of settable_kind
+switch_rule = refl
+
+-- no assignment empties the switch
+never_reset : (items : List Assignment) → list_any (resets manual_start_key) items ≡ false
+never_reset [] = refl
+never_reset (a ∷ items) =
+    ap (λ r. (is_empty a.value && emptied_by (rule_of a.section a.key) r (same_key manual_start_key (key_of a))) || list_any (resets manual_start_key) items) switch_rule
+    ∙ ap (λ b. (is_empty a.value && b) || list_any (resets manual_start_key) items) (stays (rule_of a.section a.key) (same_key manual_start_key (key_of a)))
+    ∙ ap (λ b. b || list_any (resets manual_start_key) items) (and_false (is_empty a.value))
+    ∙ never_reset items
+  where
+    stays : (r : KeyRule) (itself : Bool) → emptied_by r Switch itself ≡ false
+    stays Ignored itself = refl
+    stays Dependency itself = refl
+    stays Switch itself = refl
+    stays Condition itself = refl
+    stays Assertion itself = refl
+    stays Plain itself = refl
+
+    and_false : (b : Bool) → (b && false) ≡ false
+    and_false true = refl
+    and_false false = refl
+
+-- so its value is the last that is given
+switch_values : (items : List Assignment) → values_at (settings_of items) manual_start_key ≡ last_alone (given manual_start_key items)
+unfolding values_of
+switch_values items =
+    settings_show_values manual_start_key items
+    ∙ ap (λ r. counted r (given manual_start_key (behind_last (resets manual_start_key) items))) switch_rule
+    ∙ ap (λ l. last_alone (given manual_start_key l)) (behind_last-none (resets manual_start_key) items (never_reset items))
+
+-- whether an assignment to the switch counts
+counts_where_good : (a : Assignment) → key_of a ≡ manual_start_key → counts a ≡ is_some (boolean a.value)
+counts_where_good a e = ap (λ k. counts_by (rule_at k) a.value) e ∙ ap (λ r. counts_by r a.value) switch_rule
+
+none_given : (items : List Assignment) → All GivesNoBoolean items → list_any (gives manual_start_key) items ≡ false
+none_given [] h = refl
+none_given (a ∷ items) h = by (same_key manual_start_key (key_of a)) refl (none_given items (All-tail GivesNoBoolean a items h))
+  where
+    by : (same : Bool) → same_key manual_start_key (key_of a) ≡ same → list_any (gives manual_start_key) items ≡ false → (gives manual_start_key a || list_any (gives manual_start_key) items) ≡ false
+    by false e more = ap (λ s. (s && counts a && not (is_empty a.value)) || list_any (gives manual_start_key) items) e ∙ more
+    by true e more =
+        let is : key_of a ≡ manual_start_key = sym (same_key_is manual_start_key (key_of a) e) in
+        ap (λ s. (s && counts a && not (is_empty a.value)) || list_any (gives manual_start_key) items) e
+        ∙ ap (λ c. (c && not (is_empty a.value)) || list_any (gives manual_start_key) items) (counts_where_good a is ∙ ap is_some (All-head GivesNoBoolean a items h is))
+        ∙ more
+
+nothing_given : (items : List Assignment) → All GivesNoBoolean items → given manual_start_key items ≡ []
+nothing_given items h = ap (map (λ a. a.value)) (filter-none (gives manual_start_key) items (none_given items h))
+
+-- a good boolean isn't the empty text
+not_empty : (value : Text) (says : Bool) → boolean value ≡ Some says → is_empty value ≡ false
+unfolding boolean
+not_empty [] says h = cc
+not_empty (b ∷ bs) says h = refl
+
+pub last_boolean_stays : LastBooleanStays
+last_boolean_stays before after a says of_switch good none =
+    switch_values (before ++ a ∷ after) ∙ ap last_alone values ∙ last_behind (given manual_start_key before) a.value []
+  where
+    gives_it : gives manual_start_key a ≡ true
+    gives_it =
+        ap (λ k. same_key manual_start_key k && counts a && not (is_empty a.value)) of_switch
+        ∙ ap (λ b. b && counts a && not (is_empty a.value)) (same_key_itself manual_start_key)
+        ∙ ap (λ b. b && not (is_empty a.value)) (counts_where_good a of_switch ∙ ap is_some good)
+        ∙ ap not (not_empty a.value says good)
+
+    values : given manual_start_key (before ++ a ∷ after) ≡ given manual_start_key before ++ a.value ∷ []
+    values =
+        given-append manual_start_key before (a ∷ after)
+        ∙ ap (λ b. given manual_start_key before ++ map (λ x. x.value) (cond b (a ∷ filter (gives manual_start_key) after) (filter (gives manual_start_key) after))) gives_it
+        ∙ ap (λ l. given manual_start_key before ++ a.value ∷ l) (nothing_given after none)
+
+pub last_boolean_decides : LastBooleanDecides
+unfolding refuses
+last_boolean_decides before after a says of_switch good none =
+    ap (λ values. says_yes (last_value values)) (last_boolean_stays before after a says of_switch good none) ∙ ap (λ b. unwrap_or b false) good
+
+pub nothing_refused_unsaid : NothingRefusedUnsaid
+unfolding refuses
+nothing_refused_unsaid items none = ap (λ values. says_yes (last_value values)) (switch_values items ∙ ap last_alone (nothing_given items none))

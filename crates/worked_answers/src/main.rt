@@ -1,0 +1,59 @@
+//! Works what stores answer: loads by one thread and by workers, their graphs, and whole scripts. It reads a call a line
+//! from standard input, and writes each line with its answers below it; then dialogues, of which it says whether they go on as told.
+//!
+//! Promise: memory is refused only where it is.
+//!
+//! A line is a call and lists of words, each list ended by `+` or by the line. The calls are
+//!
+//! - `load WORKERS + EDITS + ASKED + LOOKED`: the load by one thread, with what it has at the names that are looked up;
+//!   then, for each number of workers, whether the load by so many is the same, or why there is none;
+//! - `gate TIMES WORKERS + EDITS + ASKED`: the same, nothing looked up, at a gate that turns each piece of a load away
+//!   so many times; then how often the gate was asked for each piece, by number;
+//! - `meet EDITS + ASKED`: the load by two workers, at a gate where each of two pieces waits for the other;
+//! - `graph EDITS + ASKED + KINDS + NAMES`: the units of the graph of a load, and from each name the unit for which it
+//!   stands, where edges of the kinds lead in one step, what is reached over them, and how far what it pulls is;
+//! - `one EDITS + NAMES`: the unit of each name, loaded alone;
+//! - `ask EDITS + ASKED + QUESTION + WORKERS`: what a store answers by one thread, and by each number of workers;
+//! - `world EDITS + QUESTION + WORKERS`: what two nodes of a world answer, by each number of workers, once the second took
+//!   what the first put: at a moment before the last edit, and at one behind it; and that there is no third node.
+//!
+//! A question is `unit NAME`, `pulled NAME`, or `plan TARGET RUNNING..`.
+//!
+//! An edit is `PATH=TEXT` for a file and `PATH>TARGET` for a link, its directory as `E`, `R`, `L` or `U`. In a text `\n`
+//! and `\xHH` are read. A line that is refused memory is answered by `memory`. Lines that are empty or begin with `#` are
+//! repeated as they are.
+//!
+//! Behind a form feed stand dialogues, as `dialogues.rt` writes them: commands with the answers that each must have. The
+//! commands of each are run as one script, and the answers compared. Before the first it is shown how a program of one's
+//! own takes these libraries in (`embedding.rt`).
+//!
+//! `stdin` has the calls and the dialogues, and `stdout` what must be written; the gate compares the two.
+#![tactic(auto)]
+
+mod answers;
+mod asking;
+mod dialogues;
+mod edits;
+mod embedding;
+mod graphs;
+mod scripts;
+mod tellings;
+
+use std::alloc::AllocError;
+use std::process::ExitCode;
+use worked_lines::{LineFault, answer_lines, cut_at, work_input};
+
+fn main(rt: HostRuntime) -> ExitCode {
+    work_input(&rt, |text: &[u8]| -> Result<Vec<u8>, AllocError> {
+        let answer = |line: &[u8]| -> Result<Vec<u8>, LineFault> {
+            answers::answer(&rt, rt.alloc(), line)
+        };
+        let Some((lines, dialogues)) = cut_at(text, b'\x0c') else {
+            return answer_lines(rt.alloc(), text, b"\n  ", answer);
+        };
+        let mut out = answer_lines(rt.alloc(), lines, b"\n  ", answer)?;
+        embedding::show(&rt, &mut out)?;
+        scripts::work_all(&rt, dialogues, &mut out)?;
+        Ok(out)
+    })
+}

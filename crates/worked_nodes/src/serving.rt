@@ -1,0 +1,72 @@
+//! What an inbox says is done at a node.
+use crate::bench::Bench;
+use crate::edits::one_piece;
+use crossbeam_channel::{Receiver, unbounded};
+use node_histories::NodeName;
+use shared_node::{Message, Node, Served, serve};
+use std::alloc::Global;
+use std::sync::Wait;
+use worked_lines::{CountingGate, LineFault, Words, is};
+
+// The message that a word and those behind it write.
+fn message_of(word: &[u8], words: &mut Words) -> Result<Message, LineFault> {
+    if is(word, b"edit") {
+        let path = words.path()?;
+        Ok(Message::Edit(path, words.file()?))
+    } else if is(word, b"absorb") {
+        Ok(Message::Absorb(one_piece(words)?))
+    } else if is(word, b"end") {
+        Ok(Message::End)
+    } else {
+        Err(LineFault::Words)
+    }
+}
+
+// An inbox with the messages that a list of words writes. Its sender is gone.
+fn inbox_of<R: Wait>(
+    rt: &R,
+    alloc: Global,
+    words: &mut Words,
+) -> Result<Receiver<Message>, LineFault> {
+    let (sender, inbox) = unbounded(alloc)?;
+    for _ in 0..words.most() {
+        let Some(word) = words.listed() else {
+            break;
+        };
+        let message = message_of(word, words)?;
+        if sender.send(rt, message).is_err() {
+            return Err(LineFault::Memory);
+        }
+    }
+    Ok(inbox)
+}
+
+// Writes how an inbox was served, and how often the gate was asked for each message.
+fn tell_served<N: NodeName>(
+    bench: &mut Bench<N>,
+    served: Served,
+    gate: &CountingGate,
+) -> Result<(), LineFault> {
+    bench.tell_number("answered", served.answered as u64)?;
+    bench.tell_number("pending", served.pending as u64)?;
+    bench.tell_number("refused", served.refused as u64)?;
+    bench.tell("asked for")?;
+    Ok(gate.append_to(bench.alloc, &mut bench.out)?)
+}
+
+/// Serves an inbox from a seat, at a gate that turns each message away so often.
+pub fn work_inbox<N: NodeName, R: Wait>(
+    rt: &R,
+    node: &Node<N>,
+    bench: &mut Bench<N>,
+    words: &mut Words,
+) -> Result<(), LineFault> {
+    let place = words.place()?;
+    let gate = CountingGate::new(bench.alloc, words.place()?)?;
+    let inbox = inbox_of(rt, bench.alloc, words)?;
+    let Some(Some(seat)) = bench.seats.get_mut(place) else {
+        return bench.tell("no seat");
+    };
+    let served = serve(rt, node, seat, &inbox, &gate);
+    tell_served(bench, served, &gate)
+}
