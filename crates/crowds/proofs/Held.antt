@@ -15,8 +15,8 @@ use Rattle.edit_sums.specs.declared.entries.Edit.{Edit}
 use Rattle.edit_sums.specs.GreatestLaws.{tied}
 use Rattle.edit_sums.specs.Sums.{edits_of}
 use Rattle.replica_store.specs.Replicas.{Replicated}
-use Rattle.node_histories.specs.declared.events.Event.{Event}
-use Rattle.node_histories.specs.declared.events.Event.TheVariants.{Opening, Edited, Absorbed}
+use Rattle.node_histories.specs.declared.events.HistoryEvent.{HistoryEvent}
+use Rattle.node_histories.specs.declared.events.HistoryEvent.TheVariants.{Opening, Edited, Absorbed}
 use Rattle.node_histories.specs.Histories.{IsLegal, all_edits, edits_in, store_of, takes_in}
 use Rattle.shared_node.specs.Seats.{SeatNow, AllAgree}
 use Rattle.crowds.specs.Crowds.{crowd_path, crowd_paths, edit_at, paths_with}
@@ -27,7 +27,7 @@ use Rattle.crowds.proofs.Own.{own_grows}
 use Rattle.crowds.proofs.SamePaths.{AreAmongPaths, same_paths}
 
 -- the edits of an event of the crowd are at a worker's path
-edits_in_ours : (workers : ℕ) (x : Event) (e : Edit) → is_ours workers x ≡ true → IsAmong e (edits_in x) → (k : ℕ) × (k < workers) × (e.path ≡ crowd_path k)
+edits_in_ours : (workers : ℕ) (x : HistoryEvent) (e : Edit) → is_ours workers x ≡ true → IsAmong e (edits_in x) → (k : ℕ) × (k < workers) × (e.path ≡ crowd_path k)
 edits_in_ours workers (Opening r) e is a = cc
 edits_in_ours workers (Edited seat f) e is (inl same) =
     let parts = and_parts (nat_lt seat workers) (eq_by_cmp path_cmp f.path (crowd_path seat)) is in
@@ -35,25 +35,25 @@ edits_in_ours workers (Edited seat f) e is (inl same) =
 edits_in_ours workers (Edited seat f) e is (inr a) = absurd a
 edits_in_ours workers (Absorbed seat p) e is a = cc
 
-edits_step : (workers : ℕ) (x : Event) (t : List Event) (e : Edit) → is_ours workers x ≡ true → (IsAmong e (all_edits t) → (k : ℕ) × (k < workers) × (e.path ≡ crowd_path k))
+edits_step : (workers : ℕ) (x : HistoryEvent) (t : List HistoryEvent) (e : Edit) → is_ours workers x ≡ true → (IsAmong e (all_edits t) → (k : ℕ) × (k < workers) × (e.path ≡ crowd_path k))
     → IsAmong e (edits_in x) ⊎ IsAmong e (all_edits t) → (k : ℕ) × (k < workers) × (e.path ≡ crowd_path k)
 edits_step workers x t e is rest (inl a) = edits_in_ours workers x e is a
 edits_step workers x t e is rest (inr a) = rest a
 
-edits_ours : (workers : ℕ) (t : List Event) → ((x : Event) → IsAmong x t → is_ours workers x ≡ true) → (e : Edit) → IsAmong e (all_edits t) → (k : ℕ) × (k < workers) × (e.path ≡ crowd_path k)
+edits_ours : (workers : ℕ) (t : List HistoryEvent) → ((x : HistoryEvent) → IsAmong x t → is_ours workers x ≡ true) → (e : Edit) → IsAmong e (all_edits t) → (k : ℕ) × (k < workers) × (e.path ≡ crowd_path k)
 edits_ours workers [] ours e a = absurd a
 edits_ours workers (x ∷ t) ours e a =
     edits_step workers x t e (ours x (inl refl)) (λ b. edits_ours workers t (λ y h. ours y (inr h)) e b) (IsAmong-append_cases e (edits_in x) (all_edits t) a)
 
 -- a worker that has an edit of its own has it among all edits
-own_in : (k : ℕ) (x : Event) → is_own k x ≡ true → (e : Edit) × IsAmong e (edits_in x) × (e.path ≡ crowd_path k)
+own_in : (k : ℕ) (x : HistoryEvent) → is_own k x ≡ true → (e : Edit) × IsAmong e (edits_in x) × (e.path ≡ crowd_path k)
 own_in k (Opening r) is = cc
 own_in k (Edited seat e) is =
     let parts = and_parts (seat == k) (eq_by_cmp path_cmp e.path (crowd_path k)) is in
     (e, inl refl, tied e.path (crowd_path k) parts.1)
 own_in k (Absorbed seat p) is = cc
 
-own_step : (k : ℕ) (x : Event) (h : List Event) → 0 < own_edits k (x ∷ h) → (0 < own_edits k h → (e : Edit) × IsAmong e (all_edits h) × (e.path ≡ crowd_path k))
+own_step : (k : ℕ) (x : HistoryEvent) (h : List HistoryEvent) → 0 < own_edits k (x ∷ h) → (0 < own_edits k h → (e : Edit) × IsAmong e (all_edits h) × (e.path ≡ crowd_path k))
     → (b : Bool) → is_own k x ≡ b → (e : Edit) × IsAmong e (all_edits (x ∷ h)) × (e.path ≡ crowd_path k)
 own_step k x h some rest true is = let r = own_in k x is in (r.0, IsAmong-append_left r.0 (edits_in x) (all_edits h) r.1, r.2)
 own_step k x h some rest false is =
@@ -62,11 +62,11 @@ own_step k x h some rest false is =
     let r = rest (omega (arith, parts, none)) in
     (r.0, IsAmong-append_right r.0 (edits_in x) (all_edits h) r.1, r.2)
 
-own_there : (k : ℕ) (h : List Event) → 0 < own_edits k h → (e : Edit) × IsAmong e (all_edits h) × (e.path ≡ crowd_path k)
+own_there : (k : ℕ) (h : List HistoryEvent) → 0 < own_edits k h → (e : Edit) × IsAmong e (all_edits h) × (e.path ≡ crowd_path k)
 own_there k [] some = absurd (omega arith)
 own_there k (x ∷ h) some = own_step k x h some (λ more. own_there k h more) (is_own k x) refl
 
-none_among : (t : List Event) (e : Edit) → length t ≡ 0 → IsAmong e (all_edits t) → ⊥
+none_among : (t : List HistoryEvent) (e : Edit) → length t ≡ 0 → IsAmong e (all_edits t) → ⊥
 none_among [] e none a = absurd a
 none_among (x ∷ t) e none a = absurd (omega arith)
 
@@ -77,7 +77,7 @@ module _ (workers edits : ℕ) (seats : List SeatNow) (count : length seats ≡ 
   pub crowd_takes : sum_by (λ s. s.calls) seats ≡ workers * edits
   crowd_takes = sum_same (λ (s : SeatNow). s.calls) edits seats (λ k s is. (worked k s is).calls) ∙ ap (λ n. n * edits) count
 
-  module _ (start : Replicated) (h : List Event) (agree : AllAgree h seats) (sum : takes_in h ≡ sum_by (λ s. s.calls) seats) where
+  module _ (start : Replicated) (h : List HistoryEvent) (agree : AllAgree h seats) (sum : takes_in h ≡ sum_by (λ s. s.calls) seats) where
     own_all : (k : ℕ) → k < workers → edits ≤ own_edits k h
     own_all k lt =
         let is = slice_get-get_or seats k nobody (omega (arith, count)) in
@@ -87,15 +87,15 @@ module _ (workers edits : ℕ) (seats : List SeatNow) (count : length seats ≡ 
         omega (arith, own, grows)
 
     -- the takes behind the opening are all of the crowd
-    all_ours : (q : Replicated) (t : List Event) → h ≡ Opening q ∷ t → (x : Event) → IsAmong x t → is_ours workers x ≡ true
+    all_ours : (q : Replicated) (t : List HistoryEvent) → h ≡ Opening q ∷ t → (x : HistoryEvent) → IsAmong x t → is_ours workers x ≡ true
     all_ours q t is =
         let many = ours_many workers edits h own_all in
-        let parts = ap (λ (k : List Event). count_by (is_ours workers) k) is ∙ sum_by-cons (λ y. cond (is_ours workers y) 1 0) (Opening q) t in
+        let parts = ap (λ (k : List HistoryEvent). count_by (is_ours workers) k) is ∙ sum_by-cons (λ y. cond (is_ours workers y) 1 0) (Opening q) t in
         let long = ap takes_in is in
         let takes = crowd_takes in
         all_pass (is_ours workers) t (omega (arith, many, parts, long, sum, takes))
 
-    some_edits : (q : Replicated) (t : List Event) (e : Edit) → h ≡ Opening q ∷ t → IsAmong e (all_edits t) → 0 < edits
+    some_edits : (q : Replicated) (t : List HistoryEvent) (e : Edit) → h ≡ Opening q ∷ t → IsAmong e (all_edits t) → 0 < edits
     some_edits q t e is a = pick (leb_tells 1 edits)
       where
         pick : ((leb 1 edits ≡ true) × (1 ≤ edits)) ⊎ ((leb 1 edits ≡ false) × (edits < 1)) → 0 < edits
@@ -107,7 +107,7 @@ module _ (workers edits : ℕ) (seats : List SeatNow) (count : length seats ≡ 
             let long = ap takes_in is in
             absurd (none_among t e (omega (arith, sum, takes, nothing, long)) a)
 
-    there : (q : Replicated) (t : List Event) → q ≡ start → h ≡ Opening q ∷ t → AreAmongPaths (all_edits (Opening q ∷ t)) (edits_of start.store ++ map edit_at (crowd_paths workers edits))
+    there : (q : Replicated) (t : List HistoryEvent) → q ≡ start → h ≡ Opening q ∷ t → AreAmongPaths (all_edits (Opening q ∷ t)) (edits_of start.store ++ map edit_at (crowd_paths workers edits))
     there q t same is e a = by (IsAmong-append_cases e (edits_of q.store) (all_edits t) a)
       where
         by : IsAmong e (edits_of q.store) ⊎ IsAmong e (all_edits t) → (f : Edit) × IsAmong f (edits_of start.store ++ map edit_at (crowd_paths workers edits)) × (f.path ≡ e.path)
@@ -116,7 +116,7 @@ module _ (workers edits : ℕ) (seats : List SeatNow) (count : length seats ≡ 
             let r = edits_ours workers t (all_ours q t is) e b in
             (edit_at (crowd_path r.0), IsAmong-append_right (edit_at (crowd_path r.0)) (edits_of start.store) (map edit_at (crowd_paths workers edits)) (in_paths workers edits r.0 r.1 (some_edits q t e is b)), sym r.2)
 
-    back : (q : Replicated) (t : List Event) → q ≡ start → h ≡ Opening q ∷ t → AreAmongPaths (edits_of start.store ++ map edit_at (crowd_paths workers edits)) (all_edits (Opening q ∷ t))
+    back : (q : Replicated) (t : List HistoryEvent) → q ≡ start → h ≡ Opening q ∷ t → AreAmongPaths (edits_of start.store ++ map edit_at (crowd_paths workers edits)) (all_edits (Opening q ∷ t))
     back q t same is e a = by (IsAmong-append_cases e (edits_of start.store) (map edit_at (crowd_paths workers edits)) a)
       where
         by : IsAmong e (edits_of start.store) ⊎ IsAmong e (map edit_at (crowd_paths workers edits)) → (f : Edit) × IsAmong f (all_edits (Opening q ∷ t)) × (f.path ≡ e.path)
@@ -126,9 +126,9 @@ module _ (workers edits : ℕ) (seats : List SeatNow) (count : length seats ≡ 
             let own = own_all from.1.0 from.1.1 in
             let some = from.0 in
             let r = own_there from.1.0 h (omega (arith, own, some)) in
-            (r.0, subst (λ (k : List Event). IsAmong r.0 (all_edits k)) is r.1, r.2 ∙ from.1.2)
+            (r.0, subst (λ (k : List HistoryEvent). IsAmong r.0 (all_edits k)) is r.1, r.2 ∙ from.1.2)
 
-    of_history : (k : List Event) → h ≡ k → IsLegal start k → finmap.len (store_of k) ≡ paths_with start.store (crowd_paths workers edits)
+    of_history : (k : List HistoryEvent) → h ≡ k → IsLegal start k → finmap.len (store_of k) ≡ paths_with start.store (crowd_paths workers edits)
     of_history [] is legal = absurd legal
     of_history (Opening q ∷ t) is legal = same_paths (all_edits (Opening q ∷ t)) (edits_of start.store ++ map edit_at (crowd_paths workers edits)) (there q t legal.0 is) (back q t legal.0 is)
     of_history (Edited seat e ∷ t) is legal = absurd legal

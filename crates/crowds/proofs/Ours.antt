@@ -11,13 +11,13 @@ use Rattle.std.proofs.lemmas.List.Sums.{sum_by-cons, count_by-le-length}
 use Rattle.list_laws.specs.Members.{IsAmong}
 use Rattle.load_path.specs.Paths.{path_cmp}
 use Rattle.edit_sums.specs.declared.entries.Edit.{Edit}
-use Rattle.node_histories.specs.declared.events.Event.{Event}
-use Rattle.node_histories.specs.declared.events.Event.TheVariants.{Opening, Edited, Absorbed}
+use Rattle.node_histories.specs.declared.events.HistoryEvent.{HistoryEvent}
+use Rattle.node_histories.specs.declared.events.HistoryEvent.TheVariants.{Opening, Edited, Absorbed}
 use Rattle.crowds.specs.Crowds.{crowd_path}
 use Rattle.crowds.specs.Workers.{is_own, own_edits}
 
 -- an edit of a worker's own file, the worker one of so many
-abbrev pub is_ours : ℕ → Event → Bool
+abbrev pub is_ours : ℕ → HistoryEvent → Bool
 is_ours workers (Opening replica) = false
 is_ours workers (Edited seat e) = nat_lt seat workers && eq_by_cmp path_cmp e.path (crowd_path seat)
 is_ours workers (Absorbed seat piece) = false
@@ -48,12 +48,12 @@ edited_more n seat e (inr (inr gt)) =
     let d : (seat == n) ≡ false = ne_eqb seat n (λ same. absurd (omega arith)) in
     simp (a, b, d) (omega arith)
 
-one_worker_more : (n : ℕ) (x : Event) → cond (is_ours (suc n) x) 1 0 ≡ cond (is_ours n x) 1 0 + cond (is_own n x) 1 0
+one_worker_more : (n : ℕ) (x : HistoryEvent) → cond (is_ours (suc n) x) 1 0 ≡ cond (is_ours n x) 1 0 + cond (is_own n x) 1 0
 one_worker_more n (Opening r) = refl
 one_worker_more n (Edited seat e) = edited_more n seat e (three seat n)
 one_worker_more n (Absorbed seat p) = refl
 
-ours_more : (n : ℕ) (h : List Event) → count_by (is_ours (suc n)) h ≡ count_by (is_ours n) h + own_edits n h
+ours_more : (n : ℕ) (h : List HistoryEvent) → count_by (is_ours (suc n)) h ≡ count_by (is_ours n) h + own_edits n h
 ours_more n [] = refl
 ours_more n (x ∷ h) =
     let all = sum_by-cons (λ y. cond (is_ours (suc n) y) 1 0) x h in
@@ -63,7 +63,7 @@ ours_more n (x ∷ h) =
     let here = one_worker_more n x in
     omega (arith, all, some, own, rest, here)
 
-pub ours_many : (n edits : ℕ) (h : List Event) → ((k : ℕ) → k < n → edits ≤ own_edits k h) → n * edits ≤ count_by (is_ours n) h
+pub ours_many : (n edits : ℕ) (h : List HistoryEvent) → ((k : ℕ) → k < n → edits ≤ own_edits k h) → n * edits ≤ count_by (is_ours n) h
 ours_many zero edits h each = omega arith
 ours_many (suc n) edits h each =
     let rest = ours_many n edits h (λ k lt. each k (omega arith)) in

@@ -3,19 +3,19 @@
 use Rattle.std.specs.Prelude.{◌≡◌, ℕ, ◌≤◌, ◌==◌, Bool, false, ◌&&◌, List, map, count_by, slice_get, Some, Result, Ok}
 use Rattle.std.specs.Ordering.{eq_by_cmp}
 use Rattle.load_path.specs.Paths.{path_cmp}
-use Rattle.node_histories.specs.declared.events.Event.{Event}
-use Rattle.node_histories.specs.declared.events.Event.TheVariants.{Opening, Edited, Absorbed}
+use Rattle.node_histories.specs.declared.events.HistoryEvent.{HistoryEvent}
+use Rattle.node_histories.specs.declared.events.HistoryEvent.TheVariants.{Opening, Edited, Absorbed}
 use Rattle.shared_node.specs.Seats.{SeatNow}
 use Rattle.crowds.specs.Crowds.{crowd_path}
 
 -- the event is an edit of the worker's own file, from the seat of its number
-abbrev pub is_own : ℕ → Event → Bool
+abbrev pub is_own : ℕ → HistoryEvent → Bool
 is_own worker (Opening replica) = false
 is_own worker (Edited seat edit) = seat == worker && eq_by_cmp path_cmp edit.path (crowd_path worker)
 is_own worker (Absorbed seat piece) = false
 
 -- how many events are that
-abbrev pub own_edits : ℕ → List Event → ℕ
+abbrev pub own_edits : ℕ → List HistoryEvent → ℕ
 own_edits worker h = count_by (λ x. is_own worker x) h
 
 -- the worker made so many takes from the seat of its number, and has seen as many edits of its own file

@@ -10,7 +10,7 @@ use Rattle.unit_graph.specs.Graphs.{AreDepths, GraphMap, IsKnown}
 use Rattle.start_plan.specs.declared.requests.Request.{Request}
 use Rattle.start_plan.specs.Requests.{HasTemplate, IsOfGraph}
 use Rattle.fleet_answers.specs.AnswerLaws.{own_are_known}
-use Rattle.fleet_answers.specs.Answers.{AreKnown, IsAnswer, IsSnapshot, IsTold, asked, names_of}
+use Rattle.fleet_answers.specs.Answers.{AreKnown, IsAnswer, IsSnapshot, IsTold, asked, names_asked}
 use Rattle.fleet_answers.specs.declared.questions.Answer.{Answer}
 use Rattle.fleet_answers.specs.declared.questions.Question.{Question}
 
@@ -43,7 +43,7 @@ module _ (s : EntryMap) (extra : List Name) (question : Question) (found : Optio
   all_asked : IsSnapshot s (asked extra question) graph
   all_asked = subst (λ (ns : List Name). IsSnapshot s ns graph) (same ∙ of_some (λ (ns : Vec Name Global). ns.items ≡ asked extra question) found names is all) made
 
-  pub own_known : AreKnown graph.load (names_of question)
+  pub own_known : AreKnown graph.load (names_asked question)
   own_known = own_are_known s extra question graph.load all_asked.is_load
 
   pub answers : MatchOption found (HasTemplate (asked extra question)) (λ _. ¬ HasTemplate (asked extra question)) → (answer : Answer) → IsTold graph question answer

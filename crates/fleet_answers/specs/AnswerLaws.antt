@@ -28,7 +28,7 @@ use Rattle.start_plan.specs.declared.requests.Refusal.TheVariants.{Template, Not
 use Rattle.start_plan.specs.declared.requests.Request.{Request}
 use Rattle.start_plan.specs.Outcomes.{IsFault, IsPlanned, IsRefused, IsRefusalOf}
 use Rattle.start_plan.specs.PlanLaws.{one_case, one_plan, one_refusal_told, plan_or_refusal}
-use Rattle.fleet_answers.specs.Answers.{AreKnown, IsAnswer, IsLinkedUnit, IsPlanTold, IsTold, IsToldFrom, IsWholeAnswer, asked, edge_lists, names_of}
+use Rattle.fleet_answers.specs.Answers.{AreKnown, IsAnswer, IsLinkedUnit, IsPlanTold, IsTold, IsToldFrom, IsWholeAnswer, asked, edge_lists, names_asked}
 use Rattle.fleet_answers.specs.declared.questions.Answer.{Answer}
 use Rattle.fleet_answers.specs.declared.questions.Answer.TheVariants as answer
 use Rattle.fleet_answers.specs.declared.questions.LinkedUnit.{LinkedUnit}
@@ -44,8 +44,8 @@ OneAnswer = (s : EntryMap) (extra : List Name) (question : Question) (a b : Answ
 pub names_are_known : (s : EntryMap) (names : List Name) (load : LoadMap) → IsLoad s names load → AreKnown load names
 names_are_known s names load is n a = (known_names s names load n is).1 (record { steps = 0; chain = inl a })
 
-pub own_are_known : (s : EntryMap) (extra : List Name) (question : Question) (load : LoadMap) → IsLoad s (asked extra question) load → AreKnown load (names_of question)
-own_are_known s extra question load is n a = names_are_known s (asked extra question) load is n (IsAmong-append_right n extra (names_of question) a)
+pub own_are_known : (s : EntryMap) (extra : List Name) (question : Question) (load : LoadMap) → IsLoad s (asked extra question) load → AreKnown load (names_asked question)
+own_are_known s extra question load is n a = names_are_known s (asked extra question) load is n (IsAmong-append_right n extra (names_asked question) a)
 
 -- ---- units
 
@@ -134,13 +134,13 @@ module _ (load : LoadMap) (request : Request) (x y : EdgeMap) (p : AreEdges load
 
 -- ---- answers
 
-one_told : (load : LoadMap) (x y : EdgeMap) → AreEdges load x → AreEdges load y → (question : Question) → AreKnown load (names_of question) → (a b : Answer)
+one_told : (load : LoadMap) (x y : EdgeMap) → AreEdges load x → AreEdges load y → (question : Question) → AreKnown load (names_asked question) → (a b : Answer)
     → IsTold (graph_of load x) question a → IsTold (graph_of load y) question b → a ≡ b
 one_told load x y p q (OfUnit name) known a b f g = f.2 ∙ ap answer.Unit (one_linked load x y p q name f.0 g.0 f.1 g.1) ∙ sym g.2
 one_told load x y p q (OfPulled name) known a b f g = f.2 ∙ ap answer.Pulled (one_pulled load x y p q name f.0 g.0 (known name (inl refl)) f.1 g.1) ∙ sym g.2
 one_told load x y p q (OfPlan request) known a b f g = one_plan_told load request x y p q a b f g
 
-module _ (s : EntryMap) (names : List Name) (question : Question) (own : (load : LoadMap) → IsLoad s names load → AreKnown load (names_of question)) (a b : Answer) where
+module _ (s : EntryMap) (names : List Name) (question : Question) (own : (load : LoadMap) → IsLoad s names load → AreKnown load (names_asked question)) (a b : Answer) where
   one_from : IsToldFrom s names question a → IsToldFrom s names question b → a ≡ b
   one_from f g =
       let same : f.graph.load ≡ g.graph.load = one_load s names f.graph.load g.graph.load f.snapshot.is_load g.snapshot.is_load in

@@ -26,14 +26,14 @@ use Rattle.fleet_answers.specs.declared.questions.Question.TheVariants.{Unit as 
 -- ---- names
 
 -- the names of a question
-abbrev pub names_of : Question → List Name
-names_of (OfUnit name) = name ∷ []
-names_of (OfPulled name) = name ∷ []
-names_of (OfPlan request) = request.target ∷ request.running
+abbrev pub names_asked : Question → List Name
+names_asked (OfUnit name) = name ∷ []
+names_asked (OfPulled name) = name ∷ []
+names_asked (OfPlan request) = request.target ∷ request.running
 
 -- all names that are asked for
 abbrev pub asked : List Name → Question → List Name
-asked extra question = extra ++ names_of question
+asked extra question = extra ++ names_asked question
 
 -- each of the names stands for a unit of the load
 abbrev pub AreKnown : LoadMap → List Name → Type 0

@@ -2,7 +2,7 @@
 ghost use Rattle.std.specs.Prelude.{◌≡◌, [], ◌∷◌, ◌++◌, IfOk, MatchOption, OnOk};
 ghost use Rattle.std.specs.Option.{IfSome};
 ghost use Rattle.start_plan.specs.Requests.{HasTemplate};
-ghost use Rattle.fleet_answers.specs.Answers.{asked, names_of};
+ghost use Rattle.fleet_answers.specs.Answers.{asked, names_asked};
 
 use crate::questions::Question;
 use start_plan::has_template;
@@ -42,7 +42,7 @@ fn asked_names(
 
 // Appends the names of a question.
 fn append_own(names: &mut Vec<UnitName>, question: &Question) -> Result<(), AllocError>
-    ensures appended { OnOk result (names.new.items ≡ names.old.items ++ names_of question.now) }
+    ensures appended { OnOk result (names.new.items ≡ names.old.items ++ names_asked question.now) }
 {
     match question {
         Question::Unit(name) | Question::Pulled(name) => append_copy(names, name),

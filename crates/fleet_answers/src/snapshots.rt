@@ -7,7 +7,7 @@ ghost use Rattle.parallel_load.specs.Loads.{main_in};
 ghost use Rattle.unit_graph.specs.Graphs.{AreDepths, IsKnown};
 ghost use Rattle.start_plan.specs.Outcomes.{IsPlanned, IsRefusalOf};
 ghost use Rattle.start_plan.specs.Requests.{IsOfGraph};
-ghost use Rattle.fleet_answers.specs.Answers.{AreKnown, IsLinkedUnit, IsPlanTold, IsSnapshot, IsTold, edge_lists, names_of};
+ghost use Rattle.fleet_answers.specs.Answers.{AreKnown, IsLinkedUnit, IsPlanTold, IsSnapshot, IsTold, edge_lists, names_asked};
 
 use crate::questions::{Answer, LinkedUnit, Question};
 use inverse_deps::{Edges, edges};
@@ -101,7 +101,7 @@ impl Snapshot {
 
     /// Answers a question all of whose names stand for units. It fails for want of memory alone.
     pub fn answer(self, alloc: Global, question: &Question) -> Result<Answer, AllocError>
-        requires known { AreKnown self.load (names_of question.now) }
+        requires known { AreKnown self.load (names_asked question.now) }
         ensures told { IfOk result (IsTold self question.now) }
     {
         match question {

@@ -19,7 +19,7 @@ use Rattle.edit_sums.specs.Sums.{EntryMap, changed_paths, edit_of, entry_of, is_
 use Rattle.replica_store.specs.Replicas.{Replicated}
 use Rattle.world_law.specs.declared.events.Event.TheVariants.{Give}
 use Rattle.world_law.specs.Cuts.{VersionMap, cut, digest_of}
-use Rattle.script_commands.specs.declared.commands.Refusal.TheVariants.{UnknownNode, UnknownPiece}
+use Rattle.script_commands.specs.declared.commands.LineRefusal.TheVariants.{UnknownNode, UnknownPiece}
 use Rattle.script_answers.specs.Texts.{changed_line, entries_line}
 use Rattle.script_worlds.specs.Worlds.{ScriptWorld, held, happened, merged, merged_all, numbers_from, parted, piece_named}
 use Rattle.fleet_script.specs.Does.{AtNode, Gives, Refuses, Sends, SendsTo, Sweeps, if_any}

@@ -24,8 +24,8 @@ use Rattle.replica_store.specs.Replicas.{Replicated, next_version, with_put}
 use Rattle.world_law.specs.declared.events.Event.TheVariants.{Put}
 use Rattle.script_commands.specs.declared.commands.Fault.{Fault}
 use Rattle.script_commands.specs.declared.commands.Fault.TheVariants.{Refused, Memory}
-use Rattle.script_commands.specs.declared.commands.Refusal.{Refusal}
-use Rattle.script_commands.specs.declared.commands.Refusal.TheVariants.{UnknownNode, BadText, Directory, Depth, Component, FileTooLarge, BadLink, VersionsSpent, Nothing, NodeTaken, WriterTaken}
+use Rattle.script_commands.specs.declared.commands.LineRefusal.{LineRefusal}
+use Rattle.script_commands.specs.declared.commands.LineRefusal.TheVariants.{UnknownNode, BadText, Directory, Depth, Component, FileTooLarge, BadLink, VersionsSpent, Nothing, NodeTaken, WriterTaken}
 use Rattle.script_commands.specs.Faults.{fault_of_edit, fault_of_path}
 use Rattle.script_commands.specs.Files.{IsFileOf, IsLinkTo, IsNoFile, IsNoLink, without_memory, bad_text, too_large}
 use Rattle.script_commands.specs.Outcomes.{IsSaid, Outcome}
@@ -56,7 +56,7 @@ pub match_false : (b : Bool) (P Q : Type 0) → b ≡ false → Q → MatchBool 
 match_false true P Q e q = absurd (true≢false e)
 match_false false P Q e q = q
 
-pub refuses : (world : ScriptWorld) (refusal : Refusal) → Refuses world refusal (Err refusal) world
+pub refuses : (world : ScriptWorld) (refusal : LineRefusal) → Refuses world refusal (Err refusal) world
 refuses world refusal = record { outcome_is = refl; world_is = refl }
 
 -- a step that follows from another
@@ -66,7 +66,7 @@ weaker shell after (Err (Refused refusal)) S T f go = λ world h. (let next = go
 weaker shell after (Err Memory) S T f go = tt
 
 -- a fault that is a refusal, or want of memory
-pub refused : (shell : Keeps) (refusal : Refusal) (fault : Fault) (S : Step) → fault ≡ Refused refusal → ((old : ScriptWorld) → Holds shell old → S old (Err refusal) old) → Goes shell shell S (Err fault)
+pub refused : (shell : Keeps) (refusal : LineRefusal) (fault : Fault) (S : Step) → fault ≡ Refused refusal → ((old : ScriptWorld) → Holds shell old → S old (Err refusal) old) → Goes shell shell S (Err fault)
 refused shell refusal fault S e f = subst (λ (g : Fault). Goes shell shell S (Err g)) (sym e) (λ world h. (world, h, f world h))
 
 pub no_memory : (shell after : Keeps) (fault : Fault) (S : Step) → fault ≡ Memory → Goes shell after S (Err fault)

@@ -4,7 +4,7 @@ use Rattle.std.specs.Prelude.{MatchResult}
 use Rattle.std.proofs.lemmas.Bool.Decides.{nat_tests}
 use Rattle.script_words.specs.Lines.{is_passed_over}
 use Rattle.script_commands.specs.declared.commands.Command.{Command}
-use Rattle.script_commands.specs.declared.commands.Refusal.{Refusal}
+use Rattle.script_commands.specs.declared.commands.LineRefusal.{LineRefusal}
 use Rattle.script_commands.specs.Commands.{command_of}
 use Rattle.script_commands.specs.Outcomes.{Outcome}
 use Rattle.script_answers.specs.Texts.{outcome_text}
@@ -20,7 +20,7 @@ IsDone line old outcome new = MatchResult (command_of line) (λ command. Does ol
 
 pub executed : (shell now : Keeps) (line : List ℕ) (command : Command) (r : Told) → Ok command ≡ command_of line
     → Goes shell now (λ old outcome new. Does old command outcome new) r → Goes shell now (λ old outcome new. IsDone line old outcome new) r
-executed shell now line command r is = weaker shell now r _ _ (λ old h outcome new d. subst (λ (m : Result Command Refusal). MatchResult m (λ command. Does old command outcome new) (λ refusal. Refuses old refusal outcome new)) is d)
+executed shell now line command r is = weaker shell now r _ _ (λ old h outcome new d. subst (λ (m : Result Command LineRefusal). MatchResult m (λ command. Does old command outcome new) (λ refusal. Refuses old refusal outcome new)) is d)
 
 short : (line : List ℕ) → length line ≤ 300000 → nat_lt 300000 (length line) ≡ false
 short line lt = grind (arith, nat_tests)

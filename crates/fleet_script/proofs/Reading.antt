@@ -8,7 +8,7 @@ use Rattle.world_law.specs.Worlds.{AreSameEdits, took}
 use Rattle.world_law.specs.WorldLaws.{stores_are_sums}
 use Rattle.script_commands.specs.declared.commands.Command.{Command}
 use Rattle.script_commands.specs.declared.commands.Command.TheVariants.{Node, Put, Link, Remove, Merge, Part, Send, Sweep, Files, Cat, Show, List as ListUnits, Plan, Workers, Same, Crowd}
-use Rattle.script_commands.specs.declared.commands.Refusal.TheVariants.{UnknownNode}
+use Rattle.script_commands.specs.declared.commands.LineRefusal.TheVariants.{UnknownNode}
 use Rattle.script_commands.specs.Outcomes.{Outcome}
 use Rattle.script_worlds.specs.Worlds.{ScriptWorld, blank, held, node_named, state}
 use Rattle.script_worlds.specs.LawfulLaws.{lawful_blank}

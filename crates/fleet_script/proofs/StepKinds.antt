@@ -17,8 +17,8 @@ use Rattle.world_law.specs.Cuts.{cut, digest_of}
 use Rattle.script_words.specs.TextLaws.{spells_one}
 use Rattle.script_commands.specs.declared.commands.Command.{Command}
 use Rattle.script_commands.specs.declared.commands.Command.TheVariants.{Node, Put, Link, Remove, Merge, Part, Send, Sweep, Files, Cat, Show, List as ListUnits, Plan, Workers, Same, Crowd}
-use Rattle.script_commands.specs.declared.commands.Refusal.{Refusal}
-use Rattle.script_commands.specs.declared.commands.Refusal.TheVariants.{BadLink, BadText, Component, Depth, Directory, FileTooLarge, NodeTaken, Nothing, UnknownNode, UnknownPiece, VersionsSpent, Workers as NoCrew, WriterTaken}
+use Rattle.script_commands.specs.declared.commands.LineRefusal.{LineRefusal}
+use Rattle.script_commands.specs.declared.commands.LineRefusal.TheVariants.{BadLink, BadText, Component, Depth, Directory, FileTooLarge, NodeTaken, Nothing, UnknownNode, UnknownPiece, VersionsSpent, Workers as NoCrew, WriterTaken}
 use Rattle.script_commands.specs.Outcomes.{Outcome, is_spent}
 use Rattle.script_commands.specs.Paths.{paths_of}
 use Rattle.script_answers.specs.Texts.{changed_line, entries_line, ok_line}
@@ -93,10 +93,10 @@ module _ (old : ScriptWorld) where
     unspent = λ free outcome new g. ap is_spent g.outcome_is;
   }
 
-  pub refused_once : (refusal : Refusal) (a b : Outcome) (x y : ScriptWorld) → Refuses old refusal a x → Refuses old refusal b y → (a ≡ b) × (x ≡ y)
+  pub refused_once : (refusal : LineRefusal) (a b : Outcome) (x y : ScriptWorld) → Refuses old refusal a x → Refuses old refusal b y → (a ≡ b) × (x ≡ y)
   refused_once refusal a b x y p q = (p.outcome_is ∙ sym q.outcome_is, p.world_is ∙ sym q.world_is)
 
-  refuses : (refusal : Refusal) → is_spent (Err refusal) ≡ false → IsStep old (λ outcome new. Refuses old refusal outcome new)
+  refuses : (refusal : LineRefusal) → is_spent (Err refusal) ≡ false → IsStep old (λ outcome new. Refuses old refusal outcome new)
   refuses refusal other = record {
     one = refused_once refusal;
     follows = λ outcome new r. stays new r.world_is;
@@ -209,7 +209,7 @@ module _ (old : ScriptWorld) where
       unspent free outcome new (inr p) = ap is_spent p.1.outcome_is
 
   -- a word is given where a fact holds, and a refusal where it doesn't
-  gives_or_refuses : (P : Type 0) (words : List ℕ) (refusal : Refusal) → is_spent (Err refusal) ≡ false → IsStep old (λ outcome new. (P × Gives words old outcome new) ⊎ ((P → ⊥) × Refuses old refusal outcome new))
+  gives_or_refuses : (P : Type 0) (words : List ℕ) (refusal : LineRefusal) → is_spent (Err refusal) ≡ false → IsStep old (λ outcome new. (P × Gives words old outcome new) ⊎ ((P → ⊥) × Refuses old refusal outcome new))
   gives_or_refuses P words refusal other = record { one = one; follows = follows; unspent = unspent }
     where
       C : Outcome → ScriptWorld → Type 0

@@ -12,8 +12,8 @@ use Rattle.edit_sums.specs.Sums.{high_of}
 use Rattle.script_words.specs.Lines.{lines_of, is_passed_over}
 use Rattle.script_words.specs.Words.{words_of}
 use Rattle.script_commands.specs.declared.commands.Command.{Command}
-use Rattle.script_commands.specs.declared.commands.Refusal.{Refusal}
-use Rattle.script_commands.specs.declared.commands.Refusal.TheVariants.{Arguments, LineTooLong, UnknownCommand, VersionsSpent}
+use Rattle.script_commands.specs.declared.commands.LineRefusal.{LineRefusal}
+use Rattle.script_commands.specs.declared.commands.LineRefusal.TheVariants.{Arguments, LineTooLong, UnknownCommand, VersionsSpent}
 use Rattle.script_commands.specs.Commands.{command_of}
 use Rattle.script_commands.specs.WrittenLaws.{BeginsWithVerb}
 use Rattle.script_commands.specs.ReadLaws.{others_are_refused}
@@ -41,7 +41,7 @@ module _ (old : ScriptWorld) where
     follows = λ answer new s. stays old new s.world_is;
   }
 
-  asked : (r : Result Command Refusal) → IsLine {X = Outcome} old (λ outcome new. MatchResult r (λ command. Does old command outcome new) (λ refusal. Refuses old refusal outcome new))
+  asked : (r : Result Command LineRefusal) → IsLine {X = Outcome} old (λ outcome new. MatchResult r (λ command. Does old command outcome new) (λ refusal. Refuses old refusal outcome new))
   asked (Ok command) = let step = does old command in record { one = step.one; follows = step.follows }
   asked (Err refusal) = record { one = refused_once old refusal; follows = λ outcome new r. stays old new r.world_is }
 
@@ -140,7 +140,7 @@ versions_are_never_spent script k written world command new short r spent =
 pub no_line_is_refused_for_versions : NoLineIsRefusedForVersions
 no_line_is_refused_for_versions script k written world line answer new short r answered same = by (command_of line) refl answered.2
   where
-    by : (c : Result Command Refusal) → command_of line ≡ c → MatchResult c (λ command. Does world command answered.0 new) (λ refusal. Refuses world refusal answered.0 new) → ⊥
+    by : (c : Result Command LineRefusal) → command_of line ≡ c → MatchResult c (λ command. Does world command answered.0 new) (λ refusal. Refuses world refusal answered.0 new) → ⊥
     by (Ok command) is d = versions_are_never_spent script k written world command new short r (subst (λ (o : Outcome). Does world command o new) same d)
     by (Err refusal) is d = other (others_are_refused line refusal is)
       where
@@ -148,5 +148,5 @@ no_line_is_refused_for_versions script k written world line answer new short r a
         spent = sym (ap is_spent d.outcome_is) ∙ ap is_spent same
 
         other : (BeginsWithVerb (words_of line) × (refusal ≡ Arguments)) ⊎ ((BeginsWithVerb (words_of line) → ⊥) × (refusal ≡ UnknownCommand)) → ⊥
-        other (inl why) = true≢false (sym spent ∙ ap (λ (f : Refusal). is_spent (Err f)) why.1)
-        other (inr why) = true≢false (sym spent ∙ ap (λ (f : Refusal). is_spent (Err f)) why.1)
+        other (inl why) = true≢false (sym spent ∙ ap (λ (f : LineRefusal). is_spent (Err f)) why.1)
+        other (inr why) = true≢false (sym spent ∙ ap (λ (f : LineRefusal). is_spent (Err f)) why.1)

@@ -14,9 +14,9 @@ use Rattle.world_law.specs.Cuts.{cut, digest_of}
 use Rattle.script_words.specs.Text.{Spells, IsBadText}
 use Rattle.script_commands.specs.declared.commands.Command.{Command}
 use Rattle.script_commands.specs.declared.commands.Command.TheVariants as command
-use Rattle.script_commands.specs.declared.commands.Refusal.{Refusal}
+use Rattle.script_commands.specs.declared.commands.LineRefusal.{LineRefusal}
 use Rattle.script_commands.specs.Paths.{paths_of}
-use Rattle.script_commands.specs.declared.commands.Refusal.TheVariants.{UnknownNode, BadText, UnknownPiece, NodeTaken, WriterTaken, Directory, Depth, Component, FileTooLarge, BadLink, VersionsSpent, Nothing, Workers}
+use Rattle.script_commands.specs.declared.commands.LineRefusal.TheVariants.{UnknownNode, BadText, UnknownPiece, NodeTaken, WriterTaken, Directory, Depth, Component, FileTooLarge, BadLink, VersionsSpent, Nothing, Workers}
 use Rattle.script_commands.specs.Outcomes.{Outcome}
 use Rattle.worker_rounds.specs.Crews.{IsCrew}
 use Rattle.script_answers.specs.Crowds.{TellsCrowd}
@@ -31,7 +31,7 @@ pub record Gives (words : List ℕ) (world : ScriptWorld) (outcome : Outcome) (n
   pub world_is : new ≡ world
 
 -- it is refused, and the world stays
-pub record Refuses (old : ScriptWorld) (refusal : Refusal) (outcome : Outcome) (new : ScriptWorld) : Type 0 where
+pub record Refuses (old : ScriptWorld) (refusal : LineRefusal) (outcome : Outcome) (new : ScriptWorld) : Type 0 where
   pub outcome_is : outcome ≡ Err refusal
   pub world_is : new ≡ old
 

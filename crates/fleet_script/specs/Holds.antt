@@ -12,7 +12,7 @@ use Rattle.world_law.specs.Worlds as worlds
 use Rattle.script_commands.specs.declared.commands.Command.{Command}
 use Rattle.script_commands.specs.declared.commands.Fault.{Fault}
 use Rattle.script_commands.specs.declared.commands.Fault.TheVariants.{Refused, Memory}
-use Rattle.script_commands.specs.declared.commands.Refusal.TheVariants.{UnknownNode}
+use Rattle.script_commands.specs.declared.commands.LineRefusal.TheVariants.{UnknownNode}
 use Rattle.script_commands.specs.Outcomes.{Outcome, IsSaid}
 use Rattle.script_worlds.specs.Worlds.{ScriptWorld, state, held, has_writer, node_named, piece_named, writer_at}
 use Rattle.script_worlds.specs.Lawful.{IsLawful}

@@ -2,7 +2,7 @@
 use Rattle.std.specs.Prelude.{◌≡◌, ◌≤◌, ℕ, List, length, take, Err}
 use Rattle.script_words.specs.Lines.{lines_of}
 use Rattle.script_commands.specs.declared.commands.Command.{Command}
-use Rattle.script_commands.specs.declared.commands.Refusal.TheVariants.{VersionsSpent}
+use Rattle.script_commands.specs.declared.commands.LineRefusal.TheVariants.{VersionsSpent}
 use Rattle.script_worlds.specs.Counts.{IsCountedTo}
 use Rattle.script_worlds.specs.Worlds.{ScriptWorld, blank}
 use Rattle.fleet_script.specs.Does.{Does}

@@ -2,7 +2,7 @@
 -- Source: this project's own.
 use Rattle.std.specs.Prelude.{◌≡◌, ℕ, nat_lt, List, [], ◌∷◌, ◌++◌, take, length, MatchResult, MatchBool}
 use Rattle.script_words.specs.Lines.{lines_of, is_passed_over}
-use Rattle.script_commands.specs.declared.commands.Refusal.TheVariants.{LineTooLong}
+use Rattle.script_commands.specs.declared.commands.LineRefusal.TheVariants.{LineTooLong}
 use Rattle.script_commands.specs.Commands.{command_of}
 use Rattle.fleet_script.specs.Does.{Does, Refuses}
 use Rattle.script_commands.specs.Outcomes.{Outcome}

@@ -8,7 +8,7 @@ use delta_pieces::Piece;
 use plain_values::Bytes;
 use replica_store::Replica;
 use script_answers::Crew;
-use script_commands::{Fault, Refusal};
+use script_commands::{Fault, LineRefusal};
 use std::alloc::Global;
 use std::collections::{BTreeMap, BTreeSet};
 
@@ -59,7 +59,7 @@ impl Shell {
         let name = Bytes::from_slice(alloc, name)?;
         match self.numbers.get(&name) {
             Some(at) => Ok(*at),
-            None => Err(Fault::Refused(Refusal::UnknownNode)),
+            None => Err(Fault::Refused(LineRefusal::UnknownNode)),
         }
     }
 

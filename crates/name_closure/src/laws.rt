@@ -90,7 +90,7 @@ pub fn closures_of_same_steps<N: Ord, S: NodeSet<N>, T: NodeSet<N>, E: StepSet<N
 /// and one list of sources there is one load, however it is made: two lists of all that is reached,
 /// each with what is loaded for it, are equal. One of no more than a limit and the refusal that more
 /// is reached exclude each other.
-pub fn one_load<K: Key, L: Loads<K>>(loader: &L, sources: &[K])
+pub fn loaded_closures<K: Key, L: Loads<K>>(loader: &L, sources: &[K])
     ensures leads { (node : K) (one : L.Loaded) → L.is_loaded loader.now node one
         → (name : K) → LeadsByLoad (L.is_loaded loader.now) (L.named loader.now) node name
         ↔ IsAmong name (L.named loader.now one) }

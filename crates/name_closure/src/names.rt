@@ -23,14 +23,14 @@ pub(crate) fn load_round<K: Key, L: Loads<K>>(
         fresh.items round.pairs.items round.names.items) }
 {
     let pairs = load_each(alloc, loader, fresh)?;
-    let names = names_of(alloc, loader, &pairs, &pairs)?;
+    let names = others_named(alloc, loader, &pairs, &pairs)?;
     Ok(Round { pairs, names })
 }
 
 /// The nodes that are named in a part of what a round loaded and aren't the round's own, each once, in order; where its
 /// nodes don't rise, maybe some of its own too. `AllocError` for want of memory. A search for each node that is named, and
 /// O(m log m) for m that are given.
-pub fn names_of<K: Key, L: Loads<K>>(
+pub fn others_named<K: Key, L: Loads<K>>(
     alloc: Global,
     loader: &L,
     pairs: &[(K, L::Loaded)],

@@ -2,11 +2,11 @@
 -- Source: this project's own.
 use Rattle.std.specs.Prelude.{ℕ, ◌≡◌, ◌==◌, true, List, [], ◌∷◌, ◌++◌, MatchBool}
 use Rattle.logbook.specs.Pages.{Cell, Step, View, Book, Named}
-use Rattle.node_histories.specs.declared.events.Event.{Event}
+use Rattle.node_histories.specs.declared.events.HistoryEvent.{HistoryEvent}
 use Rattle.node_histories.specs.Histories.{IsLegal, takes_in, opening_of}
 
 -- the first word is the number of takes of the history, which is legal. A book has two words, of which this one leaves the second at 0
-pub record IsKept (cells : List Cell) (log : List Event) : Type 0 where
+pub record IsKept (cells : List Cell) (log : List HistoryEvent) : Type 0 where
   pub words : cells ≡ (takes_in log, true) ∷ (0, true) ∷ []
   pub legal : IsLegal (opening_of log) log
 
@@ -15,10 +15,10 @@ abbrev pub head_of : Book → Named
 head_of b = record { tracked = true; key = 0; book = b }
 
 -- the event was added to all that had been seen; or the history was longer, and was seen
-abbrev pub Adds : Step Event → View Event ℕ → ℕ → View Event ℕ → Type 0
+abbrev pub Adds : Step HistoryEvent → View HistoryEvent ℕ → ℕ → View HistoryEvent ℕ → Type 0
 Adds s v found w = MatchBool (found == s.old) (w.0 ≡ v.0 ++ s.ask ∷ []) (takes_in w.0 ≡ found)
 
 -- what was seen, and the event that is to come next
 pub record TurnNow : Type 0 where
-  pub seen : List Event
-  pub ask : Event
+  pub seen : List HistoryEvent
+  pub ask : HistoryEvent

@@ -8,20 +8,20 @@ use Rattle.edit_sums.specs.EntryCodes.{coded_entry}
 use Rattle.edit_sums.specs.declared.entries.Edit.{Edit}
 use Rattle.edit_sums.specs.Sums.{EntryMap, edits_of}
 use Rattle.replica_store.specs.Replicas.{Replicated, coded_replicated}
-use Rattle.node_histories.specs.declared.events.Event.{Event}
-use Rattle.node_histories.specs.declared.events.Event.TheVariants.{Opening, Edited, Absorbed}
-use Rattle.node_histories.specs.contracts.events.Event as event
+use Rattle.node_histories.specs.declared.events.HistoryEvent.{HistoryEvent}
+use Rattle.node_histories.specs.declared.events.HistoryEvent.TheVariants.{Opening, Edited, Absorbed}
+use Rattle.node_histories.specs.contracts.events.HistoryEvent as event
 use Rattle.node_histories.specs.Books.{TurnNow}
 use Rattle.node_histories.specs.Histories.{IsNext, IsLegalAfter, IsLegal, edits_in}
 
 abbrev pub coded_store : Coded EntryMap
 coded_store = finmap.code coded_path coded_entry
 
-abbrev pub coded_history : Coded (List Event)
+abbrev pub coded_history : Coded (List HistoryEvent)
 coded_history = coded_list (event.the_row).coded
 
 abbrev pub coded_turn : Coded TurnNow
-coded_turn = code_by (List Event × Event) (coded× coded_history (event.the_row).coded) (λ t. (t.seen, t.ask)) (λ p. record { seen = p.0; ask = p.1 }) (λ _. refl)
+coded_turn = code_by (List HistoryEvent × HistoryEvent) (coded× coded_history (event.the_row).coded) (λ t. (t.seen, t.ask)) (λ p. record { seen = p.0; ask = p.1 }) (λ _. refl)
 
 pub store-prop : (s t : EntryMap) → IsProp (s ≡ t)
 store-prop s t = Coded-set coded_store s t
@@ -29,20 +29,20 @@ store-prop s t = Coded-set coded_store s t
 pub replica-prop : (s t : Replicated) → IsProp (s ≡ t)
 replica-prop s t = Coded-set coded_replicated s t
 
-pub history-prop : (h k : List Event) → IsProp (h ≡ k)
+pub history-prop : (h k : List HistoryEvent) → IsProp (h ≡ k)
 history-prop h k = Coded-set coded_history h k
 
-IsNext-prop : (w : ℕ) (before : List Edit) (x : Event) → IsProp (IsNext w before x)
+IsNext-prop : (w : ℕ) (before : List Edit) (x : HistoryEvent) → IsProp (IsNext w before x)
 IsNext-prop w before (Opening r) = λ h. absurd h
 IsNext-prop w before (Edited seat e) = ×_prop (Coded-set coded_ℕ _ _) le_prop
 IsNext-prop w before (Absorbed seat p) = Unit-prop
 
-IsLegalAfter-prop : (w : ℕ) (before : List Edit) (h : List Event) → IsProp (IsLegalAfter w before h)
+IsLegalAfter-prop : (w : ℕ) (before : List Edit) (h : List HistoryEvent) → IsProp (IsLegalAfter w before h)
 IsLegalAfter-prop w before [] = Unit-prop
 IsLegalAfter-prop w before (x ∷ h) = ×_prop (IsNext-prop w before x) (IsLegalAfter-prop w (before ++ edits_in x) h)
 
 -- a history is legal in one way
-pub IsLegal-prop : (start : Replicated) (h : List Event) → IsProp (IsLegal start h)
+pub IsLegal-prop : (start : Replicated) (h : List HistoryEvent) → IsProp (IsLegal start h)
 IsLegal-prop start [] = λ l. absurd l
 IsLegal-prop start (Opening r ∷ h) = ×_prop (replica-prop r start) (IsLegalAfter-prop start.writer (edits_of start.store) h)
 IsLegal-prop start (Edited seat e ∷ h) = λ l. absurd l

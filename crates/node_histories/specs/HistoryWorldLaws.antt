@@ -16,8 +16,8 @@ use Rattle.world_law.specs.Cuts.{digest_of, is_newer, is_wanted, at_paths, cut}
 use Rattle.world_law.specs.CutLaws.{get-digest_of}
 use Rattle.world_law.specs.Worlds.{Node, Asked, Piece, EventWorld, taken, changed_at, asked_by, cut_for, given_to, edits_with, happens, after, blank}
 use Rattle.world_law.specs.WorldLaws.{slice_get_last}
-use Rattle.node_histories.specs.declared.events.Event.{Event}
-use Rattle.node_histories.specs.declared.events.Event.TheVariants.{Opening, Edited, Absorbed}
+use Rattle.node_histories.specs.declared.events.HistoryEvent.{HistoryEvent}
+use Rattle.node_histories.specs.declared.events.HistoryEvent.TheVariants.{Opening, Edited, Absorbed}
 use Rattle.node_histories.specs.Histories.{all_edits, store_of}
 use Rattle.node_histories.specs.HistoryWorlds.{double, puts_at, brings, world_from, world_of, stores_in, nodes_of}
 
@@ -137,7 +137,7 @@ abbrev pub Holds : EventWorld → List Edit → Type 0
 Holds w es = slice_get w.nodes 0 ≡ Some (node_of es)
 
 -- after a store that is brought the rest goes on
-brings_holds : (h : List Event) (es : List Edit) (used : List Node) (m : ℕ) (s : EntryMap) (asks : List Asked) (pieces : List Piece) → length used ≡ double m → length asks ≡ m → length pieces ≡ m
+brings_holds : (h : List HistoryEvent) (es : List Edit) (used : List Node) (m : ℕ) (s : EntryMap) (asks : List Asked) (pieces : List Piece) → length used ≡ double m → length asks ≡ m → length pieces ≡ m
     → ((used' : List Node) (asks' : List Asked) (pieces' : List Piece) → length used' ≡ double (suc m) → length asks' ≡ suc m → length pieces' ≡ suc m
     → Holds (after (world_from (suc m) h) (ready (es ++ edits_of s) used' (spare (stores_in h)) asks' pieces')) ((es ++ edits_of s) ++ all_edits h))
     → Holds (after (brings m s ++ world_from (suc m) h) (ready es used (spare (suc (stores_in h))) asks pieces)) (es ++ (edits_of s ++ all_edits h))
@@ -157,7 +157,7 @@ brings_holds h es used m s asks pieces a b c goes_on =
     ∙ goes_on (used ++ own) (asks ++ ask_of m ∷ []) (pieces ++ piece_of m s ∷ []) (omega (arith, length-append used own, a)) (omega (arith, length-append asks (ask_of m ∷ []), b)) (omega (arith, length-append pieces (piece_of m s ∷ []), c))
     ∙ ap (λ (fs : List Edit). Some (node_of fs)) (append_assoc es (edits_of s) (all_edits h))
 
-world_holds : (h : List Event) (es : List Edit) (used : List Node) (m : ℕ) (asks : List Asked) (pieces : List Piece) → length used ≡ double m → length asks ≡ m → length pieces ≡ m
+world_holds : (h : List HistoryEvent) (es : List Edit) (used : List Node) (m : ℕ) (asks : List Asked) (pieces : List Piece) → length used ≡ double m → length asks ≡ m → length pieces ≡ m
     → Holds (after (world_from m h) (ready es used (spare (stores_in h)) asks pieces)) (es ++ all_edits h)
 world_holds [] es used m asks pieces a b c = ap (λ (fs : List Edit). Some (node_of fs)) (sym (append-nil es))
 world_holds (Opening r ∷ h) es used m asks pieces a b c =
@@ -170,6 +170,6 @@ world_holds (Absorbed seat p ∷ h) es used m asks pieces a b c =
     brings_holds h es used m p asks pieces a b c (λ used' asks' pieces' a' b' c'. world_holds h (es ++ edits_of p) used' (suc m) asks' pieces' a' b' c')
 
 -- node 0 took the edits of the history, and holds the store that the history gives
-pub worlds_hold : (h : List Event) → slice_get (after (world_of h) (blank (nodes_of h))).nodes 0 ≡ Some (record { store = store_of h; took = all_edits h })
+pub worlds_hold : (h : List HistoryEvent) → slice_get (after (world_of h) (blank (nodes_of h))).nodes 0 ≡ Some (record { store = store_of h; took = all_edits h })
 worlds_hold h =
     ap (λ (ns : List Node). slice_get (after (world_of h) (record { nodes = node_of [] ∷ ns; asks = []; pieces = [] })).nodes 0) (replicate_spare (stores_in h)) ∙ world_holds h [] [] 0 [] [] refl refl refl

@@ -5,8 +5,8 @@ use Rattle.edit_sums.specs.declared.entries.Edit.{Edit}
 use Rattle.edit_sums.specs.Sums.{EntryMap, edits_of}
 use Rattle.world_law.specs.declared.events.Event as world_events
 use Rattle.world_law.specs.declared.events.Event.TheVariants.{Put, Ask, Cut, Give}
-use Rattle.node_histories.specs.declared.events.Event.{Event}
-use Rattle.node_histories.specs.declared.events.Event.TheVariants.{Opening, Edited, Absorbed}
+use Rattle.node_histories.specs.declared.events.HistoryEvent.{HistoryEvent}
+use Rattle.node_histories.specs.declared.events.HistoryEvent.TheVariants.{Opening, Edited, Absorbed}
 
 -- twice a number
 abbrev pub double : ℕ → ℕ
@@ -24,22 +24,22 @@ abbrev pub brings : ℕ → EntryMap → List world_events.Event
 brings before s = puts_at (suc (double before)) (edits_of s) ++ Ask (suc (suc (double before))) ∷ Cut (suc (double before)) before None ∷ Give before 0 ∷ []
 
 -- the events of a history behind so many stores: node 0 puts each edit, and is given each piece, and first the opening
-abbrev pub world_from : ℕ → List Event → List world_events.Event
+abbrev pub world_from : ℕ → List HistoryEvent → List world_events.Event
 world_from before [] = []
 world_from before (Opening replica ∷ h) = brings before replica.store ++ world_from (suc before) h
 world_from before (Edited seat edit ∷ h) = Put 0 edit ∷ world_from before h
 world_from before (Absorbed seat piece ∷ h) = brings before piece ++ world_from (suc before) h
 
-abbrev pub world_of : List Event → List world_events.Event
+abbrev pub world_of : List HistoryEvent → List world_events.Event
 world_of h = world_from 0 h
 
 -- how many stores a history brings
-abbrev pub stores_in : List Event → ℕ
+abbrev pub stores_in : List HistoryEvent → ℕ
 stores_in [] = 0
 stores_in (Opening replica ∷ h) = suc (stores_in h)
 stores_in (Edited seat edit ∷ h) = stores_in h
 stores_in (Absorbed seat piece ∷ h) = suc (stores_in h)
 
 -- how many nodes its world has
-abbrev pub nodes_of : List Event → ℕ
+abbrev pub nodes_of : List HistoryEvent → ℕ
 nodes_of h = suc (double (stores_in h))

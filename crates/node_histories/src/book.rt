@@ -1,9 +1,9 @@
 //! The book that keeps the history of a node, and the name of a node.
 ghost use Rattle.std.specs.Prelude.{◌≡◌, ◌∷◌, []};
-ghost use Rattle.node_histories.specs.declared.events.Event.TheVariants.{Opening};
+ghost use Rattle.node_histories.specs.declared.events.HistoryEvent.TheVariants.{Opening};
 ghost use Rattle.node_histories.specs.Books.{head_of};
 
-use crate::events::{Asked, Event};
+use crate::events::{Asked, HistoryEvent};
 use logbook::{Gain, Offer, Opening as Opens, Plain, Play, Rule, Seen, Start, Word};
 use replica_store::Replica;
 use std::marker::Brand;
@@ -11,7 +11,7 @@ use std::marker::Brand;
 /// The rule of the book: one word is the number of takes, and the history is legal.
 pub struct Law;
 
-impl Rule<Event, u64> for Law {
+impl Rule<HistoryEvent, u64> for Law {
     ghost use Rattle.std.specs.Prelude.{[]};
     ghost use base.Fml.{ftrue};
     ghost use Rattle.node_histories.specs.Books.{IsKept};
@@ -32,7 +32,7 @@ impl Rule<Event, u64> for Law {
 // Callers trade nothing.
 pub(crate) struct Nothing;
 
-impl Gain<Event, u64> for Nothing {
+impl Gain<HistoryEvent, u64> for Nothing {
     ghost use base.Fml.{ftrue};
 
     ghost after = { λ names about answer. ftrue };
@@ -41,13 +41,13 @@ impl Gain<Event, u64> for Nothing {
 // A step that adds an event.
 pub(crate) struct Add;
 
-impl Play<Event, u64> for Add {
+impl Play<HistoryEvent, u64> for Add {
     ghost use Rattle.node_histories.specs.Books.{Adds};
 
     ghost then = { Adds };
 }
 
-impl<A: Asked> Plain<A, Event, u64> for Add {
+impl<A: Asked> Plain<A, HistoryEvent, u64> for Add {
     ghost use Rattle.std.specs.Prelude.{None};
 
     ghost ask = { A.event };
@@ -58,20 +58,20 @@ impl<A: Asked> Plain<A, Event, u64> for Add {
 // A history opens with the replica.
 pub(crate) struct Opened;
 
-impl Opens<Replica, Event> for Opened {
+impl Opens<Replica, HistoryEvent> for Opened {
     ghost use Rattle.std.specs.Prelude.{◌∷◌, []};
-    ghost use Rattle.node_histories.specs.declared.events.Event.TheVariants.{Opening};
+    ghost use Rattle.node_histories.specs.declared.events.HistoryEvent.TheVariants.{Opening};
 
     ghost log = { λ count replica. Opening replica ∷ [] };
 }
 
 /// A token of a beginning of a history. It has no bytes.
-pub type History = Seen<Event, u64, Law>;
+pub type History = Seen<HistoryEvent, u64, Law>;
 
 /// The word of a node's book: how many takes its history has.
-pub type Head = Word<Event, u64, Law>;
+pub type Head = Word<HistoryEvent, u64, Law>;
 
-pub(crate) type Asking = Offer<Event, u64, Law, Nothing>;
+pub(crate) type Asking = Offer<HistoryEvent, u64, Law, Nothing>;
 
 /// Which node it is: its book, how many seats it has, and what it opened over. It has no functions. Code over a
 /// node is generic over its name, and is called with `std::marker::Brand`, so that a seat or a token of another

@@ -5,7 +5,7 @@ use replica_store::Replica;
 
 /// What a history has: first what the node opened over, and then takes, each with the number of the seat
 /// that made it. The code makes no value of it: it stands in contracts alone.
-pub enum Event {
+pub enum HistoryEvent {
     /// The replica that the node opened over.
     Opening(Replica),
     /// A seat's edit.
@@ -16,9 +16,9 @@ pub enum Event {
 
 // What a seat asks to take, and the event that it then is.
 pub(crate) trait Asked {
-    ghost use Rattle.node_histories.specs.declared.events.Event.{Event};
+    ghost use Rattle.node_histories.specs.declared.events.HistoryEvent.{HistoryEvent};
 
-    ghost event: { Self → Event };
+    ghost event: { Self → HistoryEvent };
 }
 
 // An edit, with the seat that asks for it.
@@ -29,7 +29,7 @@ pub(crate) struct AskedEdit {
 }
 
 impl Asked for AskedEdit {
-    ghost use Rattle.node_histories.specs.declared.events.Event.TheVariants.{Edited};
+    ghost use Rattle.node_histories.specs.declared.events.HistoryEvent.TheVariants.{Edited};
 
     ghost event = { λ a. Edited a.seat a.edit };
 }
@@ -42,7 +42,7 @@ pub(crate) struct AskedPiece {
 }
 
 impl Asked for AskedPiece {
-    ghost use Rattle.node_histories.specs.declared.events.Event.TheVariants.{Absorbed};
+    ghost use Rattle.node_histories.specs.declared.events.HistoryEvent.TheVariants.{Absorbed};
 
     ghost event = { λ a. Absorbed a.seat a.piece };
 }

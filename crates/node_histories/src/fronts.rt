@@ -19,11 +19,11 @@ pub struct Front<N: NodeName> {
 
 impl<N: NodeName> Model for Front<N> {
     ghost use Rattle.std.specs.Prelude.{◌≡◌, List};
-    ghost use Rattle.node_histories.specs.declared.events.Event.{Event};
+    ghost use Rattle.node_histories.specs.declared.events.HistoryEvent.{HistoryEvent};
     ghost use Rattle.node_histories.specs.Codes.{coded_history};
     ghost use Rattle.node_histories.specs.Histories.{IsLegal, takes_in};
 
-    ghost Value = { List Event };
+    ghost Value = { List HistoryEvent };
 
     ghost coded = { coded_history };
 

@@ -4,26 +4,26 @@ ghost use Rattle.list_laws.specs.Members.{IsAmong};
 ghost use Rattle.edit_sums.specs.declared.entries.Edit.{Edit};
 ghost use Rattle.replica_store.specs.Replicas.{Replicated};
 ghost use Rattle.world_law.specs.Worlds.{after, blank};
-ghost use Rattle.node_histories.specs.declared.events.Event.{Event};
-ghost use Rattle.node_histories.specs.declared.events.Event.TheVariants.{Edited};
+ghost use Rattle.node_histories.specs.declared.events.HistoryEvent.{HistoryEvent};
+ghost use Rattle.node_histories.specs.declared.events.HistoryEvent.TheVariants.{Edited};
 ghost use Rattle.node_histories.specs.Histories.{IsLegal, IsAbove, opening_of, all_edits, store_of};
 ghost use Rattle.node_histories.specs.HistoryWorlds.{world_of, nodes_of};
 
 /// In a legal history the node's own number is on each edit, whose counter is greater than those of all edits before it,
 /// those of the opening and of pieces too. So edits of nodes with different numbers have different versions.
 pub fn legal_histories()
-    ensures opening { (start : Replicated) (h : List Event) → IsLegal start h → opening_of h ≡ start }
-    ensures above { (start : Replicated) (before after : List Event) (seat : ℕ) (e : Edit)
+    ensures opening { (start : Replicated) (h : List HistoryEvent) → IsLegal start h → opening_of h ≡ start }
+    ensures above { (start : Replicated) (before after : List HistoryEvent) (seat : ℕ) (e : Edit)
         → IsLegal start (before ++ Edited seat e ∷ after) → IsAbove start.writer (all_edits before) e }
-    ensures apart { (r q : Replicated) (before after : List Event) (seat : ℕ) (e : Edit)
-        (others later : List Event) (other : ℕ) (f : Edit)
+    ensures apart { (r q : Replicated) (before after : List HistoryEvent) (seat : ℕ) (e : Edit)
+        (others later : List HistoryEvent) (other : ℕ) (f : Edit)
         → IsLegal r (before ++ Edited seat e ∷ after) → IsLegal q (others ++ Edited other f ∷ later)
         → r.writer ≢ q.writer → e.version ≢ f.version }
 {}
 
 /// Two histories of the same edits, in whatever order, give the same store, whichever nodes they are of.
 pub fn stores_of_histories()
-    ensures same { (h k : List Event) → ((e : Edit) → IsAmong e (all_edits h) → IsAmong e (all_edits k))
+    ensures same { (h k : List HistoryEvent) → ((e : Edit) → IsAmong e (all_edits h) → IsAmong e (all_edits k))
         → ((e : Edit) → IsAmong e (all_edits k) → IsAmong e (all_edits h)) → store_of h ≡ store_of k }
 {}
 
@@ -31,6 +31,6 @@ pub fn stores_of_histories()
 /// order.
 /// It took the edits of the history, and holds the store that the history gives.
 pub fn worlds_of_histories()
-    ensures stands { (h : List Event) → slice_get (after (world_of h) (blank (nodes_of h))).nodes 0
+    ensures stands { (h : List HistoryEvent) → slice_get (after (world_of h) (blank (nodes_of h))).nodes 0
         ≡ Some (record { store = store_of h; took = all_edits h }) }
 {}

@@ -16,7 +16,7 @@ mod laws;
 mod page;
 
 pub use book::{Head, History, Law, Name, NodeName};
-pub use events::Event;
+pub use events::HistoryEvent;
 pub use fronts::Front;
 pub use laws::{legal_histories, stores_of_histories, worlds_of_histories};
 pub use page::Page;

@@ -4,7 +4,7 @@ ghost use mathlib.Core.List.{IsPrefix};
 ghost use Rattle.std.specs.Arc.{arc_value};
 ghost use Rattle.edit_sums.specs.Sums.{changed_paths};
 ghost use Rattle.replica_store.specs.Replicas.{next_version};
-ghost use Rattle.node_histories.specs.declared.events.Event.TheVariants.{Opening, Edited, Absorbed};
+ghost use Rattle.node_histories.specs.declared.events.HistoryEvent.TheVariants.{Opening, Edited, Absorbed};
 ghost use Rattle.node_histories.specs.Histories.{store_of, counter_of, replica_of, takes_in, opening_of, all_edits, IsLegal, IsNext};
 ghost use Rattle.node_histories.specs.Books.{head_of};
 ghost use Rattle.node_histories.specs.Codes.{replica-prop, IsLegal-prop};

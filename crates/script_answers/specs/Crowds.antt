@@ -2,7 +2,7 @@
 -- Source: this project's own.
 use Rattle.std.specs.Prelude.{◌≡◌, ◌⊎◌, ℕ, ◌*◌, ◌<◌, ◌≤◌, Ok, Err}
 use Rattle.edit_sums.specs.Sums.{EntryMap}
-use Rattle.script_commands.specs.declared.commands.Refusal.TheVariants.{Seats}
+use Rattle.script_commands.specs.declared.commands.LineRefusal.TheVariants.{Seats}
 use Rattle.script_commands.specs.Outcomes.{Outcome}
 use Rattle.script_answers.specs.Texts.{crowd_line}
 use Rattle.crowds.specs.Crowds.{crowd_paths, paths_with}

@@ -16,7 +16,7 @@ use Rattle.fragment_choice.specs.declared.choices.Choice.TheVariants as choice
 use Rattle.fragment_choice.specs.Resolutions.{resolution}
 use Rattle.fragment_choice.specs.UnitNames.{AreNames}
 use Rattle.dropins.specs.Taken.{IsDropIn, file_name}
-use Rattle.script_commands.specs.declared.commands.Refusal.TheVariants.{Length, Kind, EmptyPrefix, BadByte, NotFound, Masked, Bad}
+use Rattle.script_commands.specs.declared.commands.LineRefusal.TheVariants.{Length, Kind, EmptyPrefix, BadByte, NotFound, Masked, Bad}
 use Rattle.script_commands.specs.Outcomes.{Outcome}
 
 -- a line feed, where the last byte is none

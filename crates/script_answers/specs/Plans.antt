@@ -5,8 +5,8 @@ use Rattle.std.specs.List.{flat_map}
 use Rattle.unit_name.specs.Names.{Name}
 use Rattle.script_commands.specs.declared.commands.Fault.{Fault}
 use Rattle.script_commands.specs.declared.commands.Fault.TheVariants as fault
-use Rattle.script_commands.specs.declared.commands.Refusal.{Refusal}
-use Rattle.script_commands.specs.declared.commands.Refusal.TheVariants.{Template, NotFound, Masked, Bad, ManualStart, Requisite, Conflict, Cycle}
+use Rattle.script_commands.specs.declared.commands.LineRefusal.{LineRefusal}
+use Rattle.script_commands.specs.declared.commands.LineRefusal.TheVariants.{Template, NotFound, Masked, Bad, ManualStart, Requisite, Conflict, Cycle}
 use Rattle.script_commands.specs.Outcomes.{Outcome}
 use Rattle.start_plan.specs.declared.requests.Plan.{Plan}
 use Rattle.start_plan.specs.declared.requests.Refusal.{Refusal as PlanRefusal}
@@ -44,6 +44,6 @@ fault_of_plan plan.Memory = fault.Memory
 
 -- the outcome is that a plan is refused so
 pub record RefusesPlan (cause : PlanRefusal) (outcome : Outcome) : Type 0 where
-  pub refusal : Refusal
+  pub refusal : LineRefusal
   pub told : fault_of_plan cause ≡ fault.Refused refusal
   pub outcome_is : outcome ≡ Err refusal

@@ -14,9 +14,9 @@ name_then (Ok name) (Err fault) = Err fault
 name_then (Ok name) (Ok names) = Ok (name ∷ names)
 
 -- the unit names that some words are, or the first thing wrong with the first that is none
-abbrev pub names_of : List (List ℕ) → Result (List Name) NameFault
-names_of [] = Ok []
-names_of (word ∷ words) = name_then (name_of word) (names_of words)
+abbrev pub names_in : List (List ℕ) → Result (List Name) NameFault
+names_in [] = Ok []
+names_in (word ∷ words) = name_then (name_of word) (names_in words)
 
 abbrev pub request_with : Result Name NameFault → Result (List Name) NameFault → Result Request NameFault
 request_with (Err fault) running = Err fault
@@ -25,7 +25,7 @@ request_with (Ok target) (Ok running) = Ok (record { target = target; running = 
 
 -- the request to start the unit of one word while those of the others run, or the first thing wrong with the first that is none
 abbrev pub request_of : List ℕ → List (List ℕ) → Result Request NameFault
-request_of unit running = request_with (name_of unit) (names_of running)
+request_of unit running = request_with (name_of unit) (names_in running)
 
 -- the fault of words that are no unit names, or want of memory
 abbrev pub IsNameFault : {T : Type 0} → Result T NameFault → Fault → Type 0

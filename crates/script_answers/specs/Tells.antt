@@ -4,7 +4,7 @@ use Rattle.std.specs.Prelude.{◌≡◌, ℕ, List, [], Result, Ok, Err, MatchRe
 use Rattle.edit_sums.specs.Sums.{EntryMap}
 use Rattle.unit_name.specs.declared.names.NameFault.{NameFault}
 use Rattle.unit_name.specs.Names.{name_of}
-use Rattle.script_commands.specs.declared.commands.Refusal.TheVariants as refusal
+use Rattle.script_commands.specs.declared.commands.LineRefusal.TheVariants as refusal
 use Rattle.script_commands.specs.Outcomes.{Outcome}
 use Rattle.fleet_answers.specs.Answers.{IsAnswer}
 use Rattle.fleet_answers.specs.declared.questions.Answer.{Answer}

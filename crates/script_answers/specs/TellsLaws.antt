@@ -3,7 +3,7 @@ use Rattle.std.proofs.Common.{◌≡◌, false, [], Result, Ok, Err, sym, ap, �
 use Rattle.edit_sums.specs.Sums.{EntryMap}
 use Rattle.unit_name.specs.declared.names.NameFault.{NameFault}
 use Rattle.script_commands.specs.declared.commands.Fault.TheVariants as fault
-use Rattle.script_commands.specs.declared.commands.Refusal.{Refusal}
+use Rattle.script_commands.specs.declared.commands.LineRefusal.{LineRefusal}
 use Rattle.script_commands.specs.Outcomes.{Outcome, is_spent}
 use Rattle.start_plan.specs.declared.requests.Refusal.{Refusal as PlanRefusal}
 use Rattle.start_plan.specs.declared.requests.Refusal.TheVariants as plan
@@ -21,27 +21,27 @@ QuestionsAreToldOnce = (read : Result Question NameFault) (s : EntryMap) (a b : 
 
 -- ---- refusals of plans
 
-same_refusal : (x r : Refusal) → fault.Refused x ≡ fault.Refused r → x ≡ r
+same_refusal : (x r : LineRefusal) → fault.Refused x ≡ fault.Refused r → x ≡ r
 same_refusal x r e = cc
 
-memory_is_not_told : (r : Refusal) → fault.Memory ≡ fault.Refused r → ⊥
+memory_is_not_told : (r : LineRefusal) → fault.Memory ≡ fault.Refused r → ⊥
 memory_is_not_told r e = cc
 
 told_alike : (cause : PlanRefusal) (a b : Outcome) → RefusesPlan cause a → RefusesPlan cause b → a ≡ b
 told_alike cause a b one other =
     one.outcome_is
-    ∙ ap (λ (r : Refusal). Err r) (same_refusal one.refusal other.refusal (sym one.told ∙ other.told))
+    ∙ ap (λ (r : LineRefusal). Err r) (same_refusal one.refusal other.refusal (sym one.told ∙ other.told))
     ∙ sym other.outcome_is
 
-refusal_unspent : (cause : PlanRefusal) (r : Refusal) → fault_of_plan cause ≡ fault.Refused r → is_spent (Err r) ≡ false
-refusal_unspent plan.Template r e = ap (λ (x : Refusal). is_spent (Err x)) (sym (same_refusal _ r e))
-refusal_unspent (plan.NotFound u) r e = ap (λ (x : Refusal). is_spent (Err x)) (sym (same_refusal _ r e))
-refusal_unspent (plan.Masked u) r e = ap (λ (x : Refusal). is_spent (Err x)) (sym (same_refusal _ r e))
-refusal_unspent (plan.Bad u) r e = ap (λ (x : Refusal). is_spent (Err x)) (sym (same_refusal _ r e))
-refusal_unspent plan.ManualStart r e = ap (λ (x : Refusal). is_spent (Err x)) (sym (same_refusal _ r e))
-refusal_unspent (plan.Requisite u v) r e = ap (λ (x : Refusal). is_spent (Err x)) (sym (same_refusal _ r e))
-refusal_unspent (plan.Conflict u v) r e = ap (λ (x : Refusal). is_spent (Err x)) (sym (same_refusal _ r e))
-refusal_unspent (plan.Cycle units) r e = ap (λ (x : Refusal). is_spent (Err x)) (sym (same_refusal _ r e))
+refusal_unspent : (cause : PlanRefusal) (r : LineRefusal) → fault_of_plan cause ≡ fault.Refused r → is_spent (Err r) ≡ false
+refusal_unspent plan.Template r e = ap (λ (x : LineRefusal). is_spent (Err x)) (sym (same_refusal _ r e))
+refusal_unspent (plan.NotFound u) r e = ap (λ (x : LineRefusal). is_spent (Err x)) (sym (same_refusal _ r e))
+refusal_unspent (plan.Masked u) r e = ap (λ (x : LineRefusal). is_spent (Err x)) (sym (same_refusal _ r e))
+refusal_unspent (plan.Bad u) r e = ap (λ (x : LineRefusal). is_spent (Err x)) (sym (same_refusal _ r e))
+refusal_unspent plan.ManualStart r e = ap (λ (x : LineRefusal). is_spent (Err x)) (sym (same_refusal _ r e))
+refusal_unspent (plan.Requisite u v) r e = ap (λ (x : LineRefusal). is_spent (Err x)) (sym (same_refusal _ r e))
+refusal_unspent (plan.Conflict u v) r e = ap (λ (x : LineRefusal). is_spent (Err x)) (sym (same_refusal _ r e))
+refusal_unspent (plan.Cycle units) r e = ap (λ (x : LineRefusal). is_spent (Err x)) (sym (same_refusal _ r e))
 refusal_unspent plan.Memory r e = absurd (memory_is_not_told r e)
 
 -- ---- one outcome

@@ -11,9 +11,9 @@ use Rattle.edit_sums.specs.declared.contents.Content.TheVariants.{Gone, Link, Fi
 use Rattle.edit_sums.specs.Entries.{Entry}
 use Rattle.edit_sums.specs.Sums.{EntryMap}
 use Rattle.unit_name.specs.Names.{Name}
-use Rattle.script_commands.specs.declared.commands.Refusal.{Refusal}
+use Rattle.script_commands.specs.declared.commands.LineRefusal.{LineRefusal}
 use Rattle.script_commands.specs.Outcomes.{Outcome}
-use Rattle.script_commands.specs.declared.commands.Refusal.TheVariants.{UnknownCommand, Arguments, UnknownNode, BadText, UnknownPiece, NodeTaken, WriterTaken, LineTooLong, Directory, Depth, Component, FileTooLarge, BadLink, VersionsSpent, Nothing, Length, Kind, EmptyPrefix, BadByte, NotFound, Masked, Bad, Template, Workers, TooManyUnits, ManualStart, Requisite, Conflict, Cycle, Seats}
+use Rattle.script_commands.specs.declared.commands.LineRefusal.TheVariants.{UnknownCommand, Arguments, UnknownNode, BadText, UnknownPiece, NodeTaken, WriterTaken, LineTooLong, Directory, Depth, Component, FileTooLarge, BadLink, VersionsSpent, Nothing, Length, Kind, EmptyPrefix, BadByte, NotFound, Masked, Bad, Template, Workers, TooManyUnits, ManualStart, Requisite, Conflict, Cycle, Seats}
 
 -- the counter, a dot, the writer
 abbrev pub version_text : Version → List ℕ
@@ -45,7 +45,7 @@ abbrev pub files_text : EntryMap → List ℕ
 files_text s = flat_map entry_line (finmap.entries s) ++ codes "end\n"
 
 -- the code and the name of a refusal
-abbrev pub refusal_name : Refusal → List ℕ
+abbrev pub refusal_name : LineRefusal → List ℕ
 refusal_name UnknownCommand = codes "X1 UnknownCommand"
 refusal_name Arguments = codes "X2 Arguments"
 refusal_name UnknownNode = codes "X3 UnknownNode"
@@ -86,7 +86,7 @@ abbrev pub spaced_names : List Name → List ℕ
 spaced_names names = flat_map spaced_name names
 
 -- the values of a refusal, each behind a space
-abbrev pub refusal_values : Refusal → List ℕ
+abbrev pub refusal_values : LineRefusal → List ℕ
 refusal_values (BadByte place) = codes " " ++ decimal place
 refusal_values (NotFound unit) = spaced_name unit
 refusal_values (Masked unit) = spaced_name unit
@@ -96,7 +96,7 @@ refusal_values (Conflict unit rival) = spaced_name unit ++ spaced_name rival
 refusal_values (Cycle units) = spaced_names units
 refusal_values other = []
 
-abbrev pub error_line : Refusal → List ℕ
+abbrev pub error_line : LineRefusal → List ℕ
 error_line refusal = codes "error: " ++ refusal_name refusal ++ refusal_values refusal ++ codes "\n"
 
 -- how an outcome is written

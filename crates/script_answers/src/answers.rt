@@ -8,71 +8,71 @@ use crate::names::{append_name, append_names};
 use edit_sums::Content;
 use join_law::Version;
 use replica_store::{Placed, Store};
-use script_commands::Refusal;
+use script_commands::LineRefusal;
 use std::alloc::{AllocError, Global};
 use std::fmt::Write;
 
 // The code and the name of a refusal.
-fn code_and_name(refusal: &Refusal) -> &'static [u8]
+fn code_and_name(refusal: &LineRefusal) -> &'static [u8]
     ensures name { result.now ≡ refusal_name refusal.now }
 {
     match refusal {
-        Refusal::UnknownCommand => b"X1 UnknownCommand",
-        Refusal::Arguments => b"X2 Arguments",
-        Refusal::UnknownNode => b"X3 UnknownNode",
-        Refusal::BadText => b"X4 BadText",
-        Refusal::UnknownPiece => b"X5 UnknownPiece",
-        Refusal::NodeTaken => b"X6 NodeTaken",
-        Refusal::WriterTaken => b"X7 WriterTaken",
-        Refusal::LineTooLong => b"X8 LineTooLong",
-        Refusal::Directory => b"F1 Directory",
-        Refusal::Depth => b"F2 Depth",
-        Refusal::Component => b"F3 Component",
-        Refusal::FileTooLarge => b"C1 FileTooLarge",
-        Refusal::BadLink => b"C2 BadLink",
-        Refusal::VersionsSpent => b"E1 VersionsSpent",
-        Refusal::Nothing => b"E2 Nothing",
-        Refusal::Length => b"N1 Length",
-        Refusal::Kind => b"N2 Kind",
-        Refusal::EmptyPrefix => b"N3 EmptyPrefix",
-        Refusal::BadByte(_) => b"N4 BadByte",
-        Refusal::NotFound(_) => b"P2 NotFound",
-        Refusal::Masked(_) => b"P3 Masked",
-        Refusal::Bad(_) => b"P4 Bad",
-        Refusal::Template => b"P1 Template",
-        Refusal::Workers => b"L1 Workers",
-        Refusal::TooManyUnits => b"L2 TooManyUnits",
-        Refusal::ManualStart => b"P5 ManualStart",
-        Refusal::Requisite(_, _) => b"P6 Requisite",
-        Refusal::Conflict(_, _) => b"P7 Conflict",
-        Refusal::Cycle(_) => b"P8 Cycle",
-        Refusal::Seats => b"A1 Seats",
+        LineRefusal::UnknownCommand => b"X1 UnknownCommand",
+        LineRefusal::Arguments => b"X2 Arguments",
+        LineRefusal::UnknownNode => b"X3 UnknownNode",
+        LineRefusal::BadText => b"X4 BadText",
+        LineRefusal::UnknownPiece => b"X5 UnknownPiece",
+        LineRefusal::NodeTaken => b"X6 NodeTaken",
+        LineRefusal::WriterTaken => b"X7 WriterTaken",
+        LineRefusal::LineTooLong => b"X8 LineTooLong",
+        LineRefusal::Directory => b"F1 Directory",
+        LineRefusal::Depth => b"F2 Depth",
+        LineRefusal::Component => b"F3 Component",
+        LineRefusal::FileTooLarge => b"C1 FileTooLarge",
+        LineRefusal::BadLink => b"C2 BadLink",
+        LineRefusal::VersionsSpent => b"E1 VersionsSpent",
+        LineRefusal::Nothing => b"E2 Nothing",
+        LineRefusal::Length => b"N1 Length",
+        LineRefusal::Kind => b"N2 Kind",
+        LineRefusal::EmptyPrefix => b"N3 EmptyPrefix",
+        LineRefusal::BadByte(_) => b"N4 BadByte",
+        LineRefusal::NotFound(_) => b"P2 NotFound",
+        LineRefusal::Masked(_) => b"P3 Masked",
+        LineRefusal::Bad(_) => b"P4 Bad",
+        LineRefusal::Template => b"P1 Template",
+        LineRefusal::Workers => b"L1 Workers",
+        LineRefusal::TooManyUnits => b"L2 TooManyUnits",
+        LineRefusal::ManualStart => b"P5 ManualStart",
+        LineRefusal::Requisite(_, _) => b"P6 Requisite",
+        LineRefusal::Conflict(_, _) => b"P7 Conflict",
+        LineRefusal::Cycle(_) => b"P8 Cycle",
+        LineRefusal::Seats => b"A1 Seats",
     }
 }
 
 // Appends the values of a refusal, each behind a space.
-fn append_values(alloc: Global, out: &mut Vec<u8>, refusal: &Refusal) -> Result<(), AllocError>
+fn append_values(alloc: Global, out: &mut Vec<u8>, refusal: &LineRefusal) -> Result<(), AllocError>
     ensures appended { OnOk result (out.new.items ≡ out.old.items ++ refusal_values refusal.now) }
 {
     match refusal {
-        Refusal::BadByte(place) => {
+        LineRefusal::BadByte(place) => {
             let place = *place;
             out.extend_from_slice(format!(in alloc; " {place}")?.as_bytes())
         }
-        Refusal::NotFound(name) | Refusal::Masked(name) | Refusal::Bad(name) => {
+        LineRefusal::NotFound(name) | LineRefusal::Masked(name) | LineRefusal::Bad(name) => {
             append_name(out, name)
         }
-        Refusal::Requisite(unit, other) | Refusal::Conflict(unit, other) => {
+        LineRefusal::Requisite(unit, other) | LineRefusal::Conflict(unit, other) => {
             append_name(out, unit)?;
             append_name(out, other)
         }
-        Refusal::Cycle(units) => append_names(out, units.as_slice()),
+        LineRefusal::Cycle(units) => append_names(out, units.as_slice()),
         _ => Ok(()),
     }
 }
 
 // The line of a refusal that is kept.
-fn refusal_line(alloc: Global, refusal: &Refusal) -> Result<Vec<u8>, AllocError>
+fn refusal_line(alloc: Global, refusal: &LineRefusal) -> Result<Vec<u8>, AllocError>
     ensures line { IfOk result (λ line. line.items ≡ error_line refusal.now) }
 {
     let mut line = Vec::from_slice(alloc, b"error: ")?;
@@ -83,7 +83,7 @@ fn refusal_line(alloc: Global, refusal: &Refusal) -> Result<Vec<u8>, AllocError>
 }
 
 /// The line of a refusal.
-pub fn refused(alloc: Global, refusal: Refusal) -> Result<Vec<u8>, AllocError>
+pub fn refused(alloc: Global, refusal: LineRefusal) -> Result<Vec<u8>, AllocError>
     ensures line { IfOk result (λ line. line.items ≡ error_line refusal) }
 {
     refusal_line(alloc, &refusal)

@@ -10,7 +10,7 @@ use crate::requests::{read_name, read_request};
 use crate::unit_lines::unit_text;
 use fleet_answers::{Answer, AnswerFault, Question, answer_question};
 use replica_store::Store;
-use script_commands::{Fault, Refusal, Words};
+use script_commands::{Fault, LineRefusal, Words};
 use std::alloc::Global;
 use std::thread::Threads;
 use worker_rounds::OpenGate;
@@ -91,8 +91,8 @@ fn answer_text(alloc: Global, answer: Answer) -> Result<Vec<u8>, Fault>
     ensures told { IsSaid (λ text. text.items) result (IsOutcomeOf answer) }
 {
     match answer {
-        Answer::Template => Err(Fault::Refused(Refusal::Template)),
-        Answer::TooManyUnits => Err(Fault::Refused(Refusal::TooManyUnits)),
+        Answer::Template => Err(Fault::Refused(LineRefusal::Template)),
+        Answer::TooManyUnits => Err(Fault::Refused(LineRefusal::TooManyUnits)),
         Answer::Unit(linked) => Ok(unit_text(alloc, &linked)?),
         Answer::Pulled(pairs) => Ok(pulled_text(alloc, pairs.as_slice())?),
         Answer::Planned(plan) => Ok(plan_text(alloc, &plan)?),

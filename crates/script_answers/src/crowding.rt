@@ -7,7 +7,7 @@ ghost use Rattle.script_answers.specs.Crowds.{TellsCrowd};
 use crate::answers::crowd_done;
 use crowds::{CrowdFault, ROOM, crowd};
 use replica_store::Replica;
-use script_commands::{EditCount, Fault, Refusal};
+use script_commands::{EditCount, Fault, LineRefusal};
 use std::alloc::Global;
 use std::sync::Wait;
 use std::thread::Threads;
@@ -28,7 +28,7 @@ pub fn tell_crowd<R: Threads + Wait + Sync>(
     let edits = u64::from(edits.count());
     match crowd(rt, alloc, replica, seats as usize, edits, &OpenGate) {
         Ok(counted) => Ok(crowd_done(alloc, counted.takes, counted.paths)?),
-        Err(CrowdFault::Seats) => Err(Fault::Refused(Refusal::Seats)),
+        Err(CrowdFault::Seats) => Err(Fault::Refused(LineRefusal::Seats)),
         Err(CrowdFault::Memory) => Err(Fault::Memory),
     }
 }

@@ -11,7 +11,7 @@ use edit_sums::Content;
 use fragment_choice::{Choice, Resolution, names_of, resolve};
 use load_path::Path;
 use replica_store::{Placed, Store};
-use script_commands::{Fault, Refusal};
+use script_commands::{Fault, LineRefusal};
 use std::alloc::{AllocError, Global};
 use unit_name::UnitName;
 
@@ -100,10 +100,10 @@ pub fn tell_files(alloc: Global, store: &Store, unit: &[u8]) -> Result<Vec<u8>, 
     };
     let Resolution { main, choice } = resolve(alloc, store, &name)?;
     match choice {
-        Choice::NotFound => Err(Fault::Refused(Refusal::NotFound(main))),
-        Choice::Masked => Err(Fault::Refused(Refusal::Masked(main))),
+        Choice::NotFound => Err(Fault::Refused(LineRefusal::NotFound(main))),
+        Choice::Masked => Err(Fault::Refused(LineRefusal::Masked(main))),
         Choice::Fragment(path) => Ok(files_of_unit(alloc, store, &main, &path)?),
         Choice::Alias(_) => unreachable!(),
-        Choice::Bad(_) => Err(Fault::Refused(Refusal::Bad(main))),
+        Choice::Bad(_) => Err(Fault::Refused(LineRefusal::Bad(main))),
     }
 }

@@ -2,7 +2,7 @@
 ghost use Rattle.std.specs.Prelude.{◌≡◌};
 ghost use Rattle.script_answers.specs.Plans.{fault_of_plan};
 
-use script_commands::{Fault, Refusal};
+use script_commands::{Fault, LineRefusal};
 use start_plan::Refusal as PlanRefusal;
 
 /// A refusal of a plan, as a fault of a command.
@@ -10,14 +10,14 @@ pub(crate) fn fault_of_plan(refusal: PlanRefusal) -> Fault
     ensures fault { result ≡ fault_of_plan refusal }
 {
     match refusal {
-        PlanRefusal::Template => Fault::Refused(Refusal::Template),
-        PlanRefusal::NotFound(unit) => Fault::Refused(Refusal::NotFound(unit)),
-        PlanRefusal::Masked(unit) => Fault::Refused(Refusal::Masked(unit)),
-        PlanRefusal::Bad(unit) => Fault::Refused(Refusal::Bad(unit)),
-        PlanRefusal::ManualStart => Fault::Refused(Refusal::ManualStart),
-        PlanRefusal::Requisite(unit, needs) => Fault::Refused(Refusal::Requisite(unit, needs)),
-        PlanRefusal::Conflict(unit, rival) => Fault::Refused(Refusal::Conflict(unit, rival)),
-        PlanRefusal::Cycle(units) => Fault::Refused(Refusal::Cycle(units)),
+        PlanRefusal::Template => Fault::Refused(LineRefusal::Template),
+        PlanRefusal::NotFound(unit) => Fault::Refused(LineRefusal::NotFound(unit)),
+        PlanRefusal::Masked(unit) => Fault::Refused(LineRefusal::Masked(unit)),
+        PlanRefusal::Bad(unit) => Fault::Refused(LineRefusal::Bad(unit)),
+        PlanRefusal::ManualStart => Fault::Refused(LineRefusal::ManualStart),
+        PlanRefusal::Requisite(unit, needs) => Fault::Refused(LineRefusal::Requisite(unit, needs)),
+        PlanRefusal::Conflict(unit, rival) => Fault::Refused(LineRefusal::Conflict(unit, rival)),
+        PlanRefusal::Cycle(units) => Fault::Refused(LineRefusal::Cycle(units)),
         PlanRefusal::Memory => Fault::Memory,
     }
 }

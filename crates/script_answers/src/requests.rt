@@ -1,7 +1,7 @@
 //! The request that words make.
 ghost use Rattle.std.specs.Prelude.{◌≡◌, Ok, MatchResult};
 ghost use Rattle.unit_name.specs.Names.{name_of};
-ghost use Rattle.script_answers.specs.Requests.{IsNameFault, names_of, request_of};
+ghost use Rattle.script_answers.specs.Requests.{IsNameFault, names_in, request_of};
 
 use plain_values::Items;
 use script_commands::{Fault, Words};
@@ -32,8 +32,8 @@ pub(crate) fn read_name(alloc: Global, word: &[u8]) -> Result<UnitName, Fault>
 
 // The unit names that words are.
 fn read_names(alloc: Global, mut words: Words<'_>) -> Result<Vec<UnitName>, Fault>
-    ensures read { MatchResult result (λ names. names_of words.entry ≡ Ok names.items)
-        (IsNameFault (names_of words.entry)) }
+    ensures read { MatchResult result (λ names. names_in words.entry ≡ Ok names.items)
+        (IsNameFault (names_in words.entry)) }
 {
     let mut names = Vec::new(alloc);
     while let Some(word) = words.take_first() {

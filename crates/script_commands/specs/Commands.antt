@@ -7,92 +7,92 @@ use Rattle.script_words.specs.Names.{is_name}
 use Rattle.script_words.specs.Numbers.{number_of}
 use Rattle.script_commands.specs.declared.commands.Command.{Command}
 use Rattle.script_commands.specs.declared.commands.Command.TheVariants.{Node, Put, Link, Remove, Merge, Part, Send, Sweep, Files, Cat, Show, List as ListUnits, Plan, Workers, Same, Crowd}
-use Rattle.script_commands.specs.declared.commands.Refusal.{Refusal}
-use Rattle.script_commands.specs.declared.commands.Refusal.TheVariants.{UnknownCommand, Arguments}
+use Rattle.script_commands.specs.declared.commands.LineRefusal.{LineRefusal}
+use Rattle.script_commands.specs.declared.commands.LineRefusal.TheVariants.{UnknownCommand, Arguments}
 
-abbrev pub node_with : List ℕ → Option ℕ → Result Command Refusal
+abbrev pub node_with : List ℕ → Option ℕ → Result Command LineRefusal
 node_with name None = Err Arguments
 node_with name (Some writer) = if is_name name then Ok (Node name writer) else Err Arguments
 
-abbrev pub node_command : List (List ℕ) → Result Command Refusal
+abbrev pub node_command : List (List ℕ) → Result Command LineRefusal
 node_command (name ∷ writer ∷ []) = node_with name (number_of writer)
 node_command words = Err Arguments
 
 -- the text is what follows the path and one space
-abbrev pub put_command : List (List ℕ) → List ℕ → Result Command Refusal
+abbrev pub put_command : List (List ℕ) → List ℕ → Result Command LineRefusal
 put_command (node ∷ path ∷ words) text = if is_name node then Ok (Put node path text) else Err Arguments
 put_command words text = Err Arguments
 
-abbrev pub link_command : List (List ℕ) → Result Command Refusal
+abbrev pub link_command : List (List ℕ) → Result Command LineRefusal
 link_command (node ∷ path ∷ target ∷ []) = if is_name node then Ok (Link node path target) else Err Arguments
 link_command words = Err Arguments
 
-abbrev pub remove_command : List (List ℕ) → Result Command Refusal
+abbrev pub remove_command : List (List ℕ) → Result Command LineRefusal
 remove_command (node ∷ path ∷ []) = if is_name node then Ok (Remove node path) else Err Arguments
 remove_command words = Err Arguments
 
-abbrev pub merge_command : List (List ℕ) → Result Command Refusal
+abbrev pub merge_command : List (List ℕ) → Result Command LineRefusal
 merge_command (from ∷ to ∷ []) = if is_name from && is_name to then Ok (Merge from to) else Err Arguments
 merge_command words = Err Arguments
 
 -- the paths are the words that follow; there may be none
-abbrev pub part_command : List (List ℕ) → Result Command Refusal
+abbrev pub part_command : List (List ℕ) → Result Command LineRefusal
 part_command (piece ∷ from ∷ to ∷ paths) = if is_name piece && is_name from && is_name to then Ok (Part piece from to paths) else Err Arguments
 part_command words = Err Arguments
 
-abbrev pub send_command : List (List ℕ) → Result Command Refusal
+abbrev pub send_command : List (List ℕ) → Result Command LineRefusal
 send_command (piece ∷ node ∷ []) = if is_name piece && is_name node then Ok (Send piece node) else Err Arguments
 send_command words = Err Arguments
 
-abbrev pub sweep_command : List (List ℕ) → Result Command Refusal
+abbrev pub sweep_command : List (List ℕ) → Result Command LineRefusal
 sweep_command [] = Ok Sweep
 sweep_command words = Err Arguments
 
-abbrev pub files_command : List (List ℕ) → Result Command Refusal
+abbrev pub files_command : List (List ℕ) → Result Command LineRefusal
 files_command (node ∷ []) = if is_name node then Ok (Files node) else Err Arguments
 files_command words = Err Arguments
 
-abbrev pub cat_command : List (List ℕ) → Result Command Refusal
+abbrev pub cat_command : List (List ℕ) → Result Command LineRefusal
 cat_command (node ∷ unit ∷ []) = if is_name node then Ok (Cat node unit) else Err Arguments
 cat_command words = Err Arguments
 
-abbrev pub show_command : List (List ℕ) → Result Command Refusal
+abbrev pub show_command : List (List ℕ) → Result Command LineRefusal
 show_command (node ∷ unit ∷ []) = if is_name node then Ok (Show node unit) else Err Arguments
 show_command words = Err Arguments
 
-abbrev pub list_command : List (List ℕ) → Result Command Refusal
+abbrev pub list_command : List (List ℕ) → Result Command LineRefusal
 list_command (node ∷ unit ∷ []) = if is_name node then Ok (ListUnits node unit) else Err Arguments
 list_command words = Err Arguments
 
 -- the units that run are the words that follow; there may be none
-abbrev pub plan_command : List (List ℕ) → Result Command Refusal
+abbrev pub plan_command : List (List ℕ) → Result Command LineRefusal
 plan_command (node ∷ unit ∷ running) = if is_name node then Ok (Plan node unit running) else Err Arguments
 plan_command words = Err Arguments
 
-abbrev pub workers_with : Option ℕ → Result Command Refusal
+abbrev pub workers_with : Option ℕ → Result Command LineRefusal
 workers_with None = Err Arguments
 workers_with (Some count) = Ok (Workers count)
 
-abbrev pub workers_command : List (List ℕ) → Result Command Refusal
+abbrev pub workers_command : List (List ℕ) → Result Command LineRefusal
 workers_command (count ∷ []) = workers_with (number_of count)
 workers_command words = Err Arguments
 
-abbrev pub same_command : List (List ℕ) → Result Command Refusal
+abbrev pub same_command : List (List ℕ) → Result Command LineRefusal
 same_command (left ∷ right ∷ []) = if is_name left && is_name right then Ok (Same left right) else Err Arguments
 same_command words = Err Arguments
 
 -- a number of 32 bits, and at most 1,000 edits
-abbrev pub crowd_with : List ℕ → Option ℕ → Option ℕ → Result Command Refusal
+abbrev pub crowd_with : List ℕ → Option ℕ → Option ℕ → Result Command LineRefusal
 crowd_with node None edits = Err Arguments
 crowd_with node (Some seats) None = Err Arguments
 crowd_with node (Some seats) (Some edits) = if is_name node && nat_le edits 1000 then Ok (Crowd node seats edits) else Err Arguments
 
-abbrev pub crowd_command : List (List ℕ) → Result Command Refusal
+abbrev pub crowd_command : List (List ℕ) → Result Command LineRefusal
 crowd_command (node ∷ seats ∷ edits ∷ []) = crowd_with node (number_of seats) (number_of edits)
 crowd_command words = Err Arguments
 
 -- the first word names the command, which changes no node
-abbrev pub question_of : List ℕ → List (List ℕ) → Result Command Refusal
+abbrev pub question_of : List ℕ → List (List ℕ) → Result Command LineRefusal
 question_of verb words =
     if bytes_eq verb (codes "files") then files_command words
     else (if bytes_eq verb (codes "cat") then cat_command words
@@ -105,7 +105,7 @@ question_of verb words =
     else Err UnknownCommand)))))))
 
 -- the first word names the command; the text is what follows two further words and one space
-abbrev pub change_of : List ℕ → List (List ℕ) → List ℕ → Result Command Refusal
+abbrev pub change_of : List ℕ → List (List ℕ) → List ℕ → Result Command LineRefusal
 change_of verb words text =
     if bytes_eq verb (codes "node") then node_command words
     else (if bytes_eq verb (codes "put") then put_command words text
@@ -118,10 +118,10 @@ change_of verb words text =
     else question_of verb words)))))))
 
 -- the command of a line with these words
-abbrev pub command_of_words : List (List ℕ) → List ℕ → Result Command Refusal
+abbrev pub command_of_words : List (List ℕ) → List ℕ → Result Command LineRefusal
 command_of_words [] line = Err UnknownCommand
 command_of_words (verb ∷ words) line = change_of verb words (text_after 3 line)
 
 -- the command of a line, or why it is none
-abbrev pub command_of : List ℕ → Result Command Refusal
+abbrev pub command_of : List ℕ → Result Command LineRefusal
 command_of line = command_of_words (words_of line) line

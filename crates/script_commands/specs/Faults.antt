@@ -6,7 +6,7 @@ use Rattle.load_path.specs.declared.paths.PathFault.{PathFault}
 use Rattle.load_path.specs.declared.paths.PathFault.TheVariants as path
 use Rattle.replica_store.specs.declared.replicas.EditFault.{EditFault}
 use Rattle.replica_store.specs.declared.replicas.EditFault.TheVariants as edit
-use Rattle.script_commands.specs.declared.commands.Refusal.TheVariants.{Directory, Depth, Component, FileTooLarge, BadLink, VersionsSpent, Nothing, Length, Kind, EmptyPrefix, BadByte}
+use Rattle.script_commands.specs.declared.commands.LineRefusal.TheVariants.{Directory, Depth, Component, FileTooLarge, BadLink, VersionsSpent, Nothing, Length, Kind, EmptyPrefix, BadByte}
 use Rattle.unit_name.specs.declared.names.NameFault.{NameFault}
 use Rattle.unit_name.specs.declared.names.NameFault.TheVariants as name
 use Rattle.script_commands.specs.declared.commands.Fault.{Fault}

@@ -7,7 +7,7 @@ use Rattle.edit_sums.specs.Limits.{is_file, is_target}
 use Rattle.script_words.specs.Text.{Spells, IsBadText}
 use Rattle.script_commands.specs.declared.commands.Fault.{Fault}
 use Rattle.script_commands.specs.declared.commands.Fault.TheVariants.{Refused, Memory}
-use Rattle.script_commands.specs.declared.commands.Refusal.TheVariants.{BadText, BadLink, FileTooLarge}
+use Rattle.script_commands.specs.declared.commands.LineRefusal.TheVariants.{BadText, BadLink, FileTooLarge}
 
 -- the content is the file that a text spells, which isn't too large
 pub record IsFileOf (text : List ℕ) (content : Content) : Type 0 where

@@ -9,21 +9,21 @@ use Rattle.script_words.specs.Numbers.{number_of}
 use Rattle.script_words.specs.Words.{text_after, words_of}
 use Rattle.script_commands.specs.declared.commands.Command.TheVariants.{Node, Put, Link, Remove, Merge, Part, Send, Sweep, Files, Cat, Show, List as ListUnits, Plan, Workers, Same, Crowd}
 use Rattle.script_commands.specs.declared.commands.Command.{Command}
-use Rattle.script_commands.specs.declared.commands.Refusal.{Refusal}
-use Rattle.script_commands.specs.declared.commands.Refusal.TheVariants.{Arguments, UnknownCommand}
+use Rattle.script_commands.specs.declared.commands.LineRefusal.{LineRefusal}
+use Rattle.script_commands.specs.declared.commands.LineRefusal.TheVariants.{Arguments, UnknownCommand}
 use Rattle.script_commands.specs.Commands.{cat_command, command_of_words, crowd_command, crowd_with, files_command, link_command, list_command, merge_command, node_command, node_with, part_command, plan_command, put_command, remove_command, same_command, send_command, show_command, sweep_command, workers_command, workers_with}
 use Rattle.script_commands.specs.WrittenLaws.{AreWordsOf, BeginsWithVerb, IsOneOf, JustItsWordsAreRead, OthersAreRefused, verbs}
 
 -- ---- no other words
 
-one_command : (a b : Command) → ◌≡◌ {A = Result Command Refusal} (Ok a) (Ok b) → a ≡ b
+one_command : (a b : Command) → ◌≡◌ {A = Result Command LineRefusal} (Ok a) (Ok b) → a ≡ b
 one_command a b e = cc
 
-never : (refusal : Refusal) (c : Command) → ◌≡◌ {A = Result Command Refusal} (Err refusal) (Ok c) → ⊥
+never : (refusal : LineRefusal) (c : Command) → ◌≡◌ {A = Result Command LineRefusal} (Err refusal) (Ok c) → ⊥
 never refusal c e = cc
 
 -- a command that is read only where a test holds
-read_where : (t : Bool) (command c : Command) → ◌≡◌ {A = Result Command Refusal} (cond t (Ok command) (Err Arguments)) (Ok c) → (t ≡ true) × (command ≡ c)
+read_where : (t : Bool) (command c : Command) → ◌≡◌ {A = Result Command LineRefusal} (cond t (Ok command) (Err Arguments)) (Ok c) → (t ≡ true) × (command ≡ c)
 read_where true command c e = (refl, one_command command c e)
 read_where false command c e = absurd (never Arguments c e)
 
@@ -168,11 +168,11 @@ module _ (c : Command) (line : List ℕ) where
   crowd_read (node ∷ first ∷ second ∷ word ∷ words) e = absurd (never Arguments c e)
 
   -- the first word is the verb that is tested, or the next test decides
-  verb_or : (verb name : List ℕ) (words : List (List ℕ)) (here later : Result Command Refusal) → ◌≡◌ {A = Result Command Refusal} (cond (bytes_eq verb name) here later) (Ok c)
+  verb_or : (verb name : List ℕ) (words : List (List ℕ)) (here later : Result Command LineRefusal) → ◌≡◌ {A = Result Command LineRefusal} (cond (bytes_eq verb name) here later) (Ok c)
       → (here ≡ Ok c → AreWordsOf c (name ∷ words) line) → (later ≡ Ok c → AreWordsOf c (verb ∷ words) line) → AreWordsOf c (verb ∷ words) line
   verb_or verb name words here later e is other = by (bytes_eq verb name) refl e
     where
-      by : (b : Bool) → bytes_eq verb name ≡ b → ◌≡◌ {A = Result Command Refusal} (cond b here later) (Ok c) → AreWordsOf c (verb ∷ words) line
+      by : (b : Bool) → bytes_eq verb name ≡ b → ◌≡◌ {A = Result Command LineRefusal} (cond b here later) (Ok c) → AreWordsOf c (verb ∷ words) line
       by true same e = subst (λ (v : List ℕ). AreWordsOf c (v ∷ words) line) (sym ((bytes_eq-Decides verb name).0 same)) (is e)
       by false same e = other e
 
@@ -224,17 +224,17 @@ just_its_words_are_read line command = (λ e. read_words_of command line (words_
 
 -- ---- why a line is no command
 
-same_refusal : (r other : Refusal) → ◌≡◌ {A = Result Command Refusal} (Err other) (Err r) → r ≡ other
+same_refusal : (r other : LineRefusal) → ◌≡◌ {A = Result Command LineRefusal} (Err other) (Err r) → r ≡ other
 same_refusal r other e = cc
 
-done : (c : Command) (r : Refusal) → ◌≡◌ {A = Result Command Refusal} (Ok c) (Err r) → ⊥
+done : (c : Command) (r : LineRefusal) → ◌≡◌ {A = Result Command LineRefusal} (Ok c) (Err r) → ⊥
 done c r e = cc
 
-refused_where : (t : Bool) (command : Command) (r : Refusal) → ◌≡◌ {A = Result Command Refusal} (cond t (Ok command) (Err Arguments)) (Err r) → r ≡ Arguments
+refused_where : (t : Bool) (command : Command) (r : LineRefusal) → ◌≡◌ {A = Result Command LineRefusal} (cond t (Ok command) (Err Arguments)) (Err r) → r ≡ Arguments
 refused_where true command r e = absurd (done command r e)
 refused_where false command r e = same_refusal r Arguments e
 
-module _ (r : Refusal) (line : List ℕ) where
+module _ (r : LineRefusal) (line : List ℕ) where
   node_refused : (words : List (List ℕ)) → node_command words ≡ Err r → r ≡ Arguments
   node_refused [] e = same_refusal r Arguments e
   node_refused (name ∷ []) e = same_refusal r Arguments e
@@ -343,7 +343,7 @@ module _ (r : Refusal) (line : List ℕ) where
   abbrev IsWhy : List ℕ → List (List ℕ) → Type 0
   IsWhy verb names = (IsOneOf verb names × (r ≡ Arguments)) ⊎ ((IsOneOf verb names → ⊥) × (r ≡ UnknownCommand))
 
-  refused_at : (verb name : List ℕ) (names : List (List ℕ)) (here later : Result Command Refusal) → ◌≡◌ {A = Result Command Refusal} (cond (bytes_eq verb name) here later) (Err r)
+  refused_at : (verb name : List ℕ) (names : List (List ℕ)) (here later : Result Command LineRefusal) → ◌≡◌ {A = Result Command LineRefusal} (cond (bytes_eq verb name) here later) (Err r)
       → (here ≡ Err r → r ≡ Arguments) → (later ≡ Err r → IsWhy verb names) → IsWhy verb (name ∷ names)
   refused_at verb name names here later e is other = by (bytes_eq verb name) refl e
     where
@@ -355,7 +355,7 @@ module _ (r : Refusal) (line : List ℕ) where
           none (inl same) = true≢false (sym ((bytes_eq-Decides verb name).1 same) ∙ apart)
           none (inr one) = why.0 one
 
-      by : (b : Bool) → bytes_eq verb name ≡ b → ◌≡◌ {A = Result Command Refusal} (cond b here later) (Err r) → IsWhy verb (name ∷ names)
+      by : (b : Bool) → bytes_eq verb name ≡ b → ◌≡◌ {A = Result Command LineRefusal} (cond b here later) (Err r) → IsWhy verb (name ∷ names)
       by true same e = inl (inl ((bytes_eq-Decides verb name).0 same), is e)
       by false apart e = more apart (other e)
 

@@ -16,8 +16,8 @@ use Rattle.script_words.specs.Words.{IsWord, spaced, text_after, words_of}
 use Rattle.script_words.specs.WordsLaws.{text_after-last, text_after-spaced, words_of-nil, words_of-spaced, words_of-word, words_of-word_space}
 use Rattle.script_commands.specs.declared.commands.Command.TheVariants.{Node, Put, Link, Remove, Merge, Part, Send, Sweep, Files, Cat, Show, List as ListUnits, Plan, Workers, Same, Crowd}
 use Rattle.script_commands.specs.declared.commands.Command.{Command}
-use Rattle.script_commands.specs.declared.commands.Refusal.{Refusal}
-use Rattle.script_commands.specs.declared.commands.Refusal.TheVariants.{Arguments, UnknownCommand}
+use Rattle.script_commands.specs.declared.commands.LineRefusal.{LineRefusal}
+use Rattle.script_commands.specs.declared.commands.LineRefusal.TheVariants.{Arguments, UnknownCommand}
 use Rattle.script_commands.specs.Commands.{command_of, command_of_words, crowd_with, node_with, workers_with}
 
 -- words, with one space between each two
@@ -147,7 +147,7 @@ BeginsWithVerb (word ∷ words) = IsOneOf word verbs
 
 -- a line that is no command is refused for what follows a word that names one, or because its first word names none
 abbrev pub OthersAreRefused : Type 0
-OthersAreRefused = (line : List ℕ) (refusal : Refusal) → command_of line ≡ Err refusal
+OthersAreRefused = (line : List ℕ) (refusal : LineRefusal) → command_of line ≡ Err refusal
     → (BeginsWithVerb (words_of line) × (refusal ≡ Arguments)) ⊎ ((BeginsWithVerb (words_of line) → ⊥) × (refusal ≡ UnknownCommand))
 
 -- ---- words of a line

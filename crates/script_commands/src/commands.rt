@@ -164,7 +164,7 @@ pub enum Command<'a> {
 
 /// Why a line is refused. The nodes are then as they were.
 #[derive(Debug, Drop)]
-pub enum Refusal {
+pub enum LineRefusal {
     UnknownCommand,
     Arguments,
     UnknownNode,
@@ -213,18 +213,18 @@ pub enum Refusal {
 #[derive(Debug, Drop)]
 pub enum Fault {
     /// It is refused.
-    Refused(Refusal),
+    Refused(LineRefusal),
     /// Memory was refused.
     Memory,
 }
 
-impl From<Refusal> for Fault {
+impl From<LineRefusal> for Fault {
     ghost use Rattle.std.specs.Prelude.{◌≡◌};
     ghost use Rattle.script_commands.specs.declared.commands.Fault.TheVariants.{Refused};
 
     ghost from_gives = { λ refusal fault. fault ≡ Refused refusal };
 
-    fn from(refusal: Refusal) -> Fault {
+    fn from(refusal: LineRefusal) -> Fault {
         Fault::Refused(refusal)
     }
 }
@@ -259,9 +259,9 @@ impl From<PathFault> for Fault {
 
     fn from(refused: PathFault) -> Fault {
         match refused {
-            PathFault::Directory => Fault::Refused(Refusal::Directory),
-            PathFault::Depth => Fault::Refused(Refusal::Depth),
-            PathFault::Component => Fault::Refused(Refusal::Component),
+            PathFault::Directory => Fault::Refused(LineRefusal::Directory),
+            PathFault::Depth => Fault::Refused(LineRefusal::Depth),
+            PathFault::Component => Fault::Refused(LineRefusal::Component),
             PathFault::Memory => Fault::Memory,
         }
     }
@@ -275,8 +275,8 @@ impl From<ContentFault> for Fault {
 
     fn from(refused: ContentFault) -> Fault {
         match refused {
-            ContentFault::FileTooLarge => Fault::Refused(Refusal::FileTooLarge),
-            ContentFault::BadLink => Fault::Refused(Refusal::BadLink),
+            ContentFault::FileTooLarge => Fault::Refused(LineRefusal::FileTooLarge),
+            ContentFault::BadLink => Fault::Refused(LineRefusal::BadLink),
             ContentFault::Memory => Fault::Memory,
         }
     }
@@ -290,10 +290,10 @@ impl From<NameFault> for Fault {
 
     fn from(refused: NameFault) -> Fault {
         match refused {
-            NameFault::Length => Fault::Refused(Refusal::Length),
-            NameFault::Kind => Fault::Refused(Refusal::Kind),
-            NameFault::EmptyPrefix => Fault::Refused(Refusal::EmptyPrefix),
-            NameFault::BadByte(place) => Fault::Refused(Refusal::BadByte(place)),
+            NameFault::Length => Fault::Refused(LineRefusal::Length),
+            NameFault::Kind => Fault::Refused(LineRefusal::Kind),
+            NameFault::EmptyPrefix => Fault::Refused(LineRefusal::EmptyPrefix),
+            NameFault::BadByte(place) => Fault::Refused(LineRefusal::BadByte(place)),
             NameFault::Memory => Fault::Memory,
         }
     }
@@ -307,8 +307,8 @@ impl From<EditFault> for Fault {
 
     fn from(refused: EditFault) -> Fault {
         match refused {
-            EditFault::VersionsSpent => Fault::Refused(Refusal::VersionsSpent),
-            EditFault::Nothing => Fault::Refused(Refusal::Nothing),
+            EditFault::VersionsSpent => Fault::Refused(LineRefusal::VersionsSpent),
+            EditFault::Nothing => Fault::Refused(LineRefusal::Nothing),
             EditFault::Memory => Fault::Memory,
         }
     }

@@ -2,10 +2,10 @@
 ghost use Rattle.std.specs.Prelude.{◌≡◌, ◌≢◌, ◌≤◌, [], ◌∷◌, true, OnOk, MatchResult};
 ghost use Rattle.script_words.specs.Names.{is_name};
 ghost use Rattle.script_words.specs.Words.{words_of, after_word, text_after};
-ghost use Rattle.script_commands.specs.declared.commands.Refusal.TheVariants.{Arguments};
+ghost use Rattle.script_commands.specs.declared.commands.LineRefusal.TheVariants.{Arguments};
 ghost use Rattle.script_commands.specs.Fields.{AreNotOne, AreNotOneEditCount, AreNotOneName, AreNotOneNumber, BeginsWithNoName, BeginsWithNoNumber, BeginsWithNumber};
 
-use crate::commands::{Refusal, Word, Words};
+use crate::commands::{LineRefusal, Word, Words};
 use crate::edit_counts::EditCount;
 use script_words::{cut_word, is_name, parse_number, text_of_rest};
 use std::marker::Model;
@@ -33,20 +33,20 @@ impl<'a> Fields<'a> {
     }
 
     /// The next word.
-    pub(crate) fn word(&mut self) -> Result<Word<'a>, Refusal>
+    pub(crate) fn word(&mut self) -> Result<Word<'a>, LineRefusal>
         ensures word { MatchResult result (λ word. words_of self.old ≡ word ∷ words_of self.new)
             (λ refusal. (refusal ≡ Arguments) × (words_of self.old ≡ [])) }
         ensures rest { OnOk result (self.new ≡ after_word self.old) }
     {
         let Some((word, rest)) = cut_word(self.rest) else {
-            return Err(Refusal::Arguments);
+            return Err(LineRefusal::Arguments);
         };
         self.rest = rest;
         Ok(Word::new(word))
     }
 
     /// The next word, which is a name.
-    pub(crate) fn name(&mut self) -> Result<Word<'a>, Refusal>
+    pub(crate) fn name(&mut self) -> Result<Word<'a>, LineRefusal>
         ensures name { MatchResult result
             (λ name. (words_of self.old ≡ name ∷ words_of self.new) × (is_name name ≡ true))
             (λ refusal. (refusal ≡ Arguments) × BeginsWithNoName (words_of self.old)) }
@@ -54,24 +54,24 @@ impl<'a> Fields<'a> {
     {
         let name = self.word()?;
         if !is_name(name.as_slice()) {
-            return Err(Refusal::Arguments);
+            return Err(LineRefusal::Arguments);
         }
         Ok(name)
     }
 
     /// Nothing more.
-    pub(crate) fn end(self) -> Result<(), Refusal>
+    pub(crate) fn end(self) -> Result<(), LineRefusal>
         ensures end { MatchResult result (λ _. words_of self.entry ≡ [])
             (λ refusal. (refusal ≡ Arguments) × (words_of self.entry ≢ [])) }
     {
         match cut_word(self.rest) {
             None => Ok(()),
-            Some(_) => Err(Refusal::Arguments),
+            Some(_) => Err(LineRefusal::Arguments),
         }
     }
 
     /// The one word that is left.
-    pub(crate) fn last_word(mut self) -> Result<Word<'a>, Refusal>
+    pub(crate) fn last_word(mut self) -> Result<Word<'a>, LineRefusal>
         ensures word { MatchResult result (λ word. words_of self.entry ≡ word ∷ [])
             (λ refusal. (refusal ≡ Arguments) × AreNotOne (words_of self.entry)) }
     {
@@ -81,7 +81,7 @@ impl<'a> Fields<'a> {
     }
 
     /// The one word that is left, which is a name.
-    pub(crate) fn last_name(mut self) -> Result<Word<'a>, Refusal>
+    pub(crate) fn last_name(mut self) -> Result<Word<'a>, LineRefusal>
         ensures name { MatchResult result
             (λ name. (words_of self.entry ≡ name ∷ []) × (is_name name ≡ true))
             (λ refusal. (refusal ≡ Arguments) × AreNotOneName (words_of self.entry)) }
@@ -92,17 +92,17 @@ impl<'a> Fields<'a> {
     }
 
     /// The number that the next word writes.
-    pub(crate) fn number(&mut self) -> Result<u32, Refusal>
+    pub(crate) fn number(&mut self) -> Result<u32, LineRefusal>
         ensures number { MatchResult result
             (λ number. BeginsWithNumber number (words_of self.old) (words_of self.new))
             (λ refusal. (refusal ≡ Arguments) × BeginsWithNoNumber (words_of self.old)) }
     {
         let word = self.word()?;
-        parse_number(word.as_slice()).ok_or(Refusal::Arguments)
+        parse_number(word.as_slice()).ok_or(LineRefusal::Arguments)
     }
 
     /// The number that the one word that is left writes.
-    pub(crate) fn last_number(mut self) -> Result<u32, Refusal>
+    pub(crate) fn last_number(mut self) -> Result<u32, LineRefusal>
         ensures number { MatchResult result
             (λ number. BeginsWithNumber number (words_of self.entry) [])
             (λ refusal. (refusal ≡ Arguments) × AreNotOneNumber (words_of self.entry)) }
@@ -113,12 +113,12 @@ impl<'a> Fields<'a> {
     }
 
     /// The number of edits that the one word that is left writes.
-    pub(crate) fn last_edit_count(self) -> Result<EditCount, Refusal>
+    pub(crate) fn last_edit_count(self) -> Result<EditCount, LineRefusal>
         ensures edits { MatchResult result
             (λ edits. BeginsWithNumber edits (words_of self.entry) [] × (edits ≤ 1000))
             (λ refusal. (refusal ≡ Arguments) × AreNotOneEditCount (words_of self.entry)) }
     {
-        EditCount::of(self.last_number()?).ok_or(Refusal::Arguments)
+        EditCount::of(self.last_number()?).ok_or(LineRefusal::Arguments)
     }
 
     /// All words that are left.

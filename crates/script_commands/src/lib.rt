@@ -13,7 +13,7 @@ mod laws;
 mod parsing;
 mod path_words;
 
-pub use commands::{Command, Fault, Refusal, Word, Words};
+pub use commands::{Command, Fault, LineRefusal, Word, Words};
 pub use edit_counts::EditCount;
 pub use laws::commands_read_back;
 pub use parsing::parse;

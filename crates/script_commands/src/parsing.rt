@@ -4,22 +4,22 @@ ghost use Rattle.std.specs.Str.{bytes_eq};
 ghost use Rattle.script_words.specs.Words.{words_of, text_after};
 ghost use Rattle.script_commands.specs.Commands.{change_of, command_of, question_of};
 
-use crate::commands::{Command, Refusal};
+use crate::commands::{Command, LineRefusal};
 use crate::fields::Fields;
 
 /// The command of a line, or why it is none. Linear in the line, without memory.
-pub fn parse(line: &[u8]) -> Result<Command<'_>, Refusal>
+pub fn parse(line: &[u8]) -> Result<Command<'_>, LineRefusal>
     ensures command { result ≡ command_of line.now }
 {
     let mut fields = Fields::new(line);
     let Ok(verb) = fields.word() else {
-        return Err(Refusal::UnknownCommand);
+        return Err(LineRefusal::UnknownCommand);
     };
     change(verb.as_slice(), fields)
 }
 
 // The command that this word begins.
-fn change<'a>(verb: &[u8], mut fields: Fields<'a>) -> Result<Command<'a>, Refusal>
+fn change<'a>(verb: &[u8], mut fields: Fields<'a>) -> Result<Command<'a>, LineRefusal>
     ensures command { result ≡ change_of verb.now (words_of fields.entry) (text_after 2 fields.entry) }
 {
     if is_same(verb, b"node") {
@@ -70,7 +70,7 @@ fn change<'a>(verb: &[u8], mut fields: Fields<'a>) -> Result<Command<'a>, Refusa
 }
 
 // The command that this word begins, if it changes no node.
-fn question<'a>(verb: &[u8], mut fields: Fields<'a>) -> Result<Command<'a>, Refusal>
+fn question<'a>(verb: &[u8], mut fields: Fields<'a>) -> Result<Command<'a>, LineRefusal>
     ensures command { result ≡ question_of verb.now (words_of fields.entry) }
 {
     if is_same(verb, b"files") {
@@ -114,7 +114,7 @@ fn question<'a>(verb: &[u8], mut fields: Fields<'a>) -> Result<Command<'a>, Refu
             edits: fields.last_edit_count()?,
         })
     } else {
-        Err(Refusal::UnknownCommand)
+        Err(LineRefusal::UnknownCommand)
     }
 }
 

@@ -4,7 +4,7 @@ ghost use Rattle.load_path.specs.Paths.{path_of};
 ghost use Rattle.script_commands.specs.Files.{IsFileOf, IsLinkTo, IsNoFile, IsNoLink};
 ghost use Rattle.script_commands.specs.Paths.{IsPathFault, paths_of};
 
-use crate::commands::{Fault, Refusal, Words};
+use crate::commands::{Fault, LineRefusal, Words};
 use edit_sums::Content;
 use load_path::Path;
 use script_words::unescape;
@@ -39,7 +39,7 @@ pub fn read_file(alloc: Global, text: &[u8]) -> Result<Content, Fault>
     ensures read { MatchResult result (IsFileOf text.now) (IsNoFile text.now) }
 {
     let Some(bytes) = unescape(alloc, text)? else {
-        return Err(Fault::Refused(Refusal::BadText));
+        return Err(Fault::Refused(LineRefusal::BadText));
     };
     match Content::file(bytes) {
         Ok(content) => Ok(content),

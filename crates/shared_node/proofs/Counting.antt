@@ -4,11 +4,11 @@ use Rattle.std.proofs.lemmas.List.{get_or-set_other, get_or-set_same, length-set
 use Rattle.std.proofs.lemmas.Bool.{ne_eqb}
 use Rattle.std.proofs.Math.Decide.{ℕ_discrete}
 use mathlib.Core.Logic.{dite}
-use Rattle.node_histories.specs.declared.events.Event.{Event}
+use Rattle.node_histories.specs.declared.events.HistoryEvent.{HistoryEvent}
 use Rattle.node_histories.specs.Histories.{takes_of, is_take_of}
 use Rattle.node_histories.specs.HistoryLaws.{takes_of-snoc}
 
-pub counted : (counts : List ℕ) (h : List Event) (x : Event) (seat : ℕ) → ((s : ℕ) → is_take_of s x ≡ (seat == s)) → seat < length counts → ((s : ℕ) → s < length counts → slice_index counts s ≡ takes_of s h)
+pub counted : (counts : List ℕ) (h : List HistoryEvent) (x : HistoryEvent) (seat : ℕ) → ((s : ℕ) → is_take_of s x ≡ (seat == s)) → seat < length counts → ((s : ℕ) → s < length counts → slice_index counts s ≡ takes_of s h)
     → (s : ℕ) → s < length (slice_set counts seat (slice_index counts seat + 1)) → slice_index (slice_set counts seat (slice_index counts seat + 1)) s ≡ takes_of s (h ++ x ∷ [])
 counted counts h x seat own here all s below =
     let n : ℕ = slice_index counts seat + 1 in

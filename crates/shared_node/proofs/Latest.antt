@@ -3,7 +3,7 @@ use Rattle.std.proofs.Common.{◌≡◌, ℕ, List, [], ◌∷◌, ◌++◌, ref
 use mathlib.Core.List.{IsPrefix}
 use Rattle.logbook.specs.Pages.{Book}
 use Rattle.logbook.specs.declared.tokens.Seen.{Seen}
-use Rattle.node_histories.specs.declared.events.Event.{Event}
+use Rattle.node_histories.specs.declared.events.HistoryEvent.{HistoryEvent}
 use Rattle.replica_store.specs.Replicas.{Replicated}
 use Rattle.node_histories.specs.declared.book.Law.{Law}
 use Rattle.node_histories.specs.Histories.{opening_of}
@@ -12,7 +12,7 @@ use Rattle.shared_node.specs.Sights.{latest, sight_of}
 use Rattle.node_histories.specs.PrefixLaws.{prefix_self}
 
 abbrev pub History : Type 0
-History = Seen Event ℕ Law
+History = Seen HistoryEvent ℕ Law
 
 pub latest_snoc : {P S : Type 0} (seen : P → S) (s : S) (pages : List P) (p : P) → latest seen s (pages ++ p ∷ []) ≡ seen p
 latest_snoc seen s [] p = refl
@@ -36,7 +36,7 @@ sent b o (Ok _) s s' l l' v v' old same seen =
       ap (λ (x : History). x.book) same.1 ∙ book,
       opening,
       ap (λ (x : History). opening_of x.log) same.1 ∙ opening,
-      subst (λ (k : List Event). IsPrefix s'.log k) (sym (ap (λ (x : History). x.log) same.1)) (prefix_self s'.log),
+      subst (λ (k : List HistoryEvent). IsPrefix s'.log k) (sym (ap (λ (x : History). x.log) same.1)) (prefix_self s'.log),
     )
 sent b o (Err _) s s' l l' v v' old same seen = (
   seen ∙ (old.0 ∙ ap (λ (x : History). sight_of b x.log) (sym same.0)),
@@ -44,5 +44,5 @@ sent b o (Err _) s s' l l' v v' old same seen = (
   ap (λ (x : History). x.book) same.1 ∙ old.2,
   ap (λ (x : History). opening_of x.log) same.0 ∙ old.3,
   ap (λ (x : History). opening_of x.log) same.1 ∙ old.4,
-  subst (λ (k : List Event). IsPrefix k l'.log) (sym (ap (λ (x : History). x.log) same.0)) (subst (λ (k : List Event). IsPrefix s.log k) (sym (ap (λ (x : History). x.log) same.1)) old.5),
+  subst (λ (k : List HistoryEvent). IsPrefix k l'.log) (sym (ap (λ (x : History). x.log) same.0)) (subst (λ (k : List HistoryEvent). IsPrefix s.log k) (sym (ap (λ (x : History). x.log) same.1)) old.5),
 )

@@ -6,7 +6,7 @@ use lib.ListN.{get_elem?}
 use Rattle.left_right.specs.Register.{Admits, TurnsAt, Turns, Forks, Merges}
 use Rattle.atomic_table.proofs.Lists.{at_set, at_snoc}
 use Rattle.logbook.specs.Pages.{Book}
-use Rattle.node_histories.specs.declared.events.Event.{Event}
+use Rattle.node_histories.specs.declared.events.HistoryEvent.{HistoryEvent}
 use Rattle.shared_node.specs.declared.sight.Sight.{Sight}
 use Rattle.node_histories.specs.declared.page.Page.{Page}
 use Rattle.shared_node.specs.Sights.{nothing, sight_of, Fits, Knows, Shows}
@@ -18,17 +18,17 @@ holds p = Knows p.seen.book p.seen.log
 abbrev shows : Sight → Page → Page → Sight → Type 0
 shows v x y w = Shows v y.seen.book y.seen.log w
 
-fits_nothing : (b : Book) (h : List Event) → Fits b h nothing
+fits_nothing : (b : Book) (h : List HistoryEvent) → Fits b h nothing
 fits_nothing b h e = absurd (cc e)
 
-fits_same : (b : Book) (h : List Event) → Fits b h (sight_of b h)
+fits_same : (b : Book) (h : List HistoryEvent) → Fits b h (sight_of b h)
 fits_same b h e = (refl, prefix_self h)
 
 -- a history that goes on fits what was seen of it
-fits_more : (b c : Book) (h k : List Event) (v : Sight) → c ≡ b → IsPrefix h k → Fits b h v → Fits c k v
+fits_more : (b c : Book) (h k : List HistoryEvent) (v : Sight) → c ≡ b → IsPrefix h k → Fits b h v → Fits c k v
 fits_more b c h k v same more f e = let p = f e in (p.0 ∙ sym same, prefix_trans v.seen h k p.1 more)
 
-set_fits : (b : Book) (h : List Event) (views : List Sight) (seat : ℕ) (w : Sight) → Knows b h views → Fits b h w → Knows b h (set views seat w)
+set_fits : (b : Book) (h : List HistoryEvent) (views : List Sight) (seat : ℕ) (w : Sight) → Knows b h views → Fits b h w → Knows b h (set views seat w)
 set_fits b h views seat w all f j u at =
     ⊎_elim (λ (t : (j ≡ seat) × (w ≡ u)). subst (Fits b h) t.1 f) (λ (t : (j ≢ seat) × (get_elem? views j ≡ some u)). all j u t.1) (at_set views seat j w u at)
 

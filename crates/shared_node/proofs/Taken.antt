@@ -2,7 +2,7 @@
 use Rattle.std.proofs.Common.{◌≡◌, ℕ, ◌+◌, List, [], ◌∷◌, ◌++◌, Result, Ok, Err, IfOk, IfErr, refl, sym, ap, subst, arith}
 use mathlib.Core.List.{IsPrefix}
 use Rattle.replica_store.specs.Replicas.{Replicated}
-use Rattle.node_histories.specs.declared.events.Event.{Event}
+use Rattle.node_histories.specs.declared.events.HistoryEvent.{HistoryEvent}
 use Rattle.node_histories.specs.Histories.{EndsWith, EndsChanging}
 use Rattle.node_histories.specs.PrefixLaws.{prefix_trans, prefix_self}
 use Rattle.shared_node.specs.declared.faults.NodeFault.{NodeFault}
@@ -12,15 +12,15 @@ use Rattle.shared_node.specs.Seats.{SeatNow}
 use Rattle.shared_node.specs.Steps.{calls_of, step_at, step_at_fault}
 
 -- a history that ends with a take goes on from what was seen before it
-pub goes_on : (seen before h : List Event) (x : Event) → IsPrefix seen before → h ≡ before ++ x ∷ [] → IsPrefix seen h
+pub goes_on : (seen before h : List HistoryEvent) (x : HistoryEvent) → IsPrefix seen before → h ≡ before ++ x ∷ [] → IsPrefix seen h
 goes_on seen before h x begun is =
-    subst (λ (l : List Event). IsPrefix seen l) (sym is) (prefix_trans seen before (before ++ x ∷ []) begun (x ∷ [], refl))
+    subst (λ (l : List HistoryEvent). IsPrefix seen l) (sym is) (prefix_trans seen before (before ++ x ∷ []) begun (x ∷ [], refl))
 
 -- so does one whose seat has seen it
-pub ends_seen : (seen h k : List Event) (x : Event) → EndsWith seen h x → k ≡ h → IsPrefix seen k
-ends_seen seen h k x ends same = subst (λ (l : List Event). IsPrefix seen l) (sym same) (goes_on seen ends.0 h x ends.1 ends.2)
+pub ends_seen : (seen h k : List HistoryEvent) (x : HistoryEvent) → EndsWith seen h x → k ≡ h → IsPrefix seen k
+ends_seen seen h k x ends same = subst (λ (l : List HistoryEvent). IsPrefix seen l) (sym same) (goes_on seen ends.0 h x ends.1 ends.2)
 
-pub changing_seen : (seen h k : List Event) (x : Event) (n : ℕ) → EndsChanging seen h x n → k ≡ h → IsPrefix seen k
+pub changing_seen : (seen h k : List HistoryEvent) (x : HistoryEvent) (n : ℕ) → EndsChanging seen h x n → k ≡ h → IsPrefix seen k
 changing_seen seen h k x n ends same = ends_seen seen h k x (ends.0, ends.1, ends.2) same
 
 same_calls : (s t : SeatNow) → t ≡ s → t.calls ≡ s.calls + 0
@@ -42,7 +42,7 @@ module _ {N : Type 0} where
   -- and leaves seen what was seen
   refused_seen : (o : Replicated) (f : NodeFault N) (s t : SeatNow) → AtFault o f s t → IsPrefix s.seen t.seen
   refused_seen o NoSeat s t e = absurd e
-  refused_seen o (Pending version) s t e = subst (λ (l : List Event). IsPrefix s.seen l) (sym e.0) (prefix_self s.seen)
+  refused_seen o (Pending version) s t e = subst (λ (l : List HistoryEvent). IsPrefix s.seen l) (sym e.0) (prefix_self s.seen)
   refused_seen o (TakesSpent told) s t e = same_seen s t e.0
   refused_seen o (Disagree seen held) s t e = same_seen s t e.0
   refused_seen o VersionsSpent s t e = same_seen s t e

@@ -5,8 +5,8 @@ use Rattle.load_path.specs.Paths.{PathParts}
 use Rattle.edit_sums.specs.declared.contents.Content.{Content}
 use Rattle.edit_sums.specs.Sums.{EntryMap}
 use Rattle.replica_store.specs.Replicas.{Replicated}
-use Rattle.node_histories.specs.declared.events.Event.{Event}
-use Rattle.node_histories.specs.declared.events.Event.TheVariants.{Edited, Absorbed}
+use Rattle.node_histories.specs.declared.events.HistoryEvent.{HistoryEvent}
+use Rattle.node_histories.specs.declared.events.HistoryEvent.TheVariants.{Edited, Absorbed}
 use Rattle.node_histories.specs.Histories.{IsLegal, takes_in}
 use Rattle.shared_node.specs.declared.faults.NodeFault.{NodeFault}
 use Rattle.shared_node.specs.declared.faults.NodeFault.TheVariants.{NoSeat, Pending, TakesSpent, Disagree, VersionsSpent, Memory}
@@ -75,7 +75,7 @@ IsSeatFault VersionsSpent = ⊥
 IsSeatFault Memory = ⊥
 
 -- what is accepted after a refused edit: the edit, where its publish was refused, and else nothing more
-abbrev pub AcceptsEdit : {N : Type 0} → NodeFault N → ℕ → PathParts → Content → List Event → List Event → Type 0
+abbrev pub AcceptsEdit : {N : Type 0} → NodeFault N → ℕ → PathParts → Content → List HistoryEvent → List HistoryEvent → Type 0
 AcceptsEdit NoSeat seat path content old new = ⊥
 AcceptsEdit (Pending None) seat path content old new = ⊥
 AcceptsEdit (Pending (Some version)) seat path content old new = new ≡ old ++ Edited seat (record { path = path; version = version; content = content }) ∷ []
@@ -85,7 +85,7 @@ AcceptsEdit VersionsSpent seat path content old new = new ≡ old
 AcceptsEdit Memory seat path content old new = new ≡ old
 
 -- and after a refused piece
-abbrev pub AcceptsPiece : {N : Type 0} → NodeFault N → ℕ → EntryMap → List Event → List Event → Type 0
+abbrev pub AcceptsPiece : {N : Type 0} → NodeFault N → ℕ → EntryMap → List HistoryEvent → List HistoryEvent → Type 0
 AcceptsPiece NoSeat seat piece old new = ⊥
 AcceptsPiece (Pending None) seat piece old new = new ≡ old ++ Absorbed seat piece ∷ []
 AcceptsPiece (Pending (Some version)) seat piece old new = ⊥

@@ -2,18 +2,18 @@
 -- Source: this project's own.
 use Rattle.std.specs.Prelude.{◌≡◌, ℕ, List, slice_get, Some}
 use mathlib.Core.List.{IsPrefix}
-use Rattle.node_histories.specs.declared.events.Event.{Event}
+use Rattle.node_histories.specs.declared.events.HistoryEvent.{HistoryEvent}
 use Rattle.node_histories.specs.Histories.{takes_of}
 
 -- what it has seen of the node's history, how many takes it made, and its number at the node
 pub record SeatNow : Type 0 where
-  pub seen : List Event
+  pub seen : List HistoryEvent
   pub calls : ℕ
   pub number : ℕ
 
 -- the history begins with what the seat has seen, and has just as many takes of it as it made
-abbrev pub Agrees : List Event → SeatNow → Type 0
+abbrev pub Agrees : List HistoryEvent → SeatNow → Type 0
 Agrees h s = IsPrefix s.seen h × (takes_of s.number h ≡ s.calls)
 
-abbrev pub AllAgree : List Event → List SeatNow → Type 0
+abbrev pub AllAgree : List HistoryEvent → List SeatNow → Type 0
 AllAgree h seats = (k : ℕ) (s : SeatNow) → slice_get seats k ≡ Some s → Agrees h s

@@ -1,7 +1,7 @@
 //! What a node is opened over.
 ghost use Rattle.std.specs.Prelude.{◌≡◌, ℕ, ◌<◌, ◌≤◌, ◌∷◌, [], length, drop, slice_index, IfOk, IfErr};
 ghost use Rattle.left_right.specs.Sides.{view};
-ghost use Rattle.node_histories.specs.declared.events.Event.TheVariants.{Opening};
+ghost use Rattle.node_histories.specs.declared.events.HistoryEvent.TheVariants.{Opening};
 ghost use Rattle.shared_node.specs.Sights.{latest, sight_of};
 ghost use Rattle.shared_node.specs.BlankFaults.{AtBlankFault};
 
@@ -30,7 +30,7 @@ pub struct Blank {
 impl Model for Blank {
     ghost use Rattle.std.specs.Prelude.{◌≡◌, ℕ, ◌<◌, ◌∷◌, [], length, drop, slice_index};
     ghost use Rattle.left_right.specs.Sides.{view as sight};
-    ghost use Rattle.node_histories.specs.declared.events.Event.TheVariants.{Opening};
+    ghost use Rattle.node_histories.specs.declared.events.HistoryEvent.TheVariants.{Opening};
     ghost use Rattle.node_histories.specs.Books.{head_of};
     ghost use Rattle.node_histories.specs.Histories.{opening_of};
     ghost use Rattle.shared_node.specs.Blanks.{BlankNow};

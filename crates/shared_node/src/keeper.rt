@@ -1,6 +1,6 @@
 //! The keeper of a node, as it lies under the lock.
 ghost use Rattle.std.specs.Prelude.{◌≡◌, ◌+◌, ◌<◌, ◌∷◌, [], IfOk, IfSome, IfNone, MatchResult};
-ghost use Rattle.node_histories.specs.declared.events.Event.TheVariants.{Opening};
+ghost use Rattle.node_histories.specs.declared.events.HistoryEvent.TheVariants.{Opening};
 ghost use Rattle.node_histories.specs.Histories.{IsLegal, opening_of, replica_of};
 
 use crate::account::Account;

@@ -27,7 +27,7 @@ pub use blank::{Blank, BlankFault, MOST_SEATS};
 pub use faults::{CloseCause, NodeFault};
 pub use laws::views_of_same_edits;
 pub use node::{CloseFault, Closed, Node};
-pub use node_histories::{Event, NodeName};
+pub use node_histories::{HistoryEvent, NodeName};
 pub use post::Told;
 pub use seat::{NoEntry, Seat, View};
 pub use serving::{Message, Served, serve};

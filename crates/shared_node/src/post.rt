@@ -58,10 +58,10 @@ pub struct Told<N: NodeName> {
 
 impl<N: NodeName> Model for Told<N> {
     ghost use Rattle.std.specs.Prelude.{List};
-    ghost use Rattle.node_histories.specs.declared.events.Event.{Event};
+    ghost use Rattle.node_histories.specs.declared.events.HistoryEvent.{HistoryEvent};
     ghost use Rattle.node_histories.specs.Codes.{coded_history};
 
-    ghost Value = { List Event };
+    ghost Value = { List HistoryEvent };
 
     ghost coded = { coded_history };
 

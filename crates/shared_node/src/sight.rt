@@ -6,7 +6,7 @@ use atomic_table::{Join, Split};
 use crossbeam_utils::rule::{Outcome, Protocol};
 use left_right::reader::{Reader, Reading};
 use left_right::writer::Writer;
-use node_histories::{Event, Page};
+use node_histories::{HistoryEvent, Page};
 use std::collections::LinkedList;
 
 /// What a seat at the published pair knows: whose history it is, and what it has seen of it. No value of it is made.
@@ -15,7 +15,7 @@ pub struct Sight {
     pub number: u64,
     pub log_name: u64,
     pub cells_name: u64,
-    pub seen: LinkedList<Event>,
+    pub seen: LinkedList<HistoryEvent>,
 }
 
 /// What is published belongs to the book that each seat knows, and begins with what it has seen.

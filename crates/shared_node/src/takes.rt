@@ -2,7 +2,7 @@
 ghost use Rattle.std.specs.Prelude.{◌≡◌, ◌+◌, ◌-◌, ◌^◌, ◌<◌, ◌++◌, ◌∷◌, [], IfOk, IfErr, MatchResult, MatchOption};
 ghost use mathlib.Core.List.{IsPrefix};
 ghost use Rattle.edit_sums.specs.Sums.{changed_paths};
-ghost use Rattle.node_histories.specs.declared.events.Event.TheVariants.{Edited, Absorbed};
+ghost use Rattle.node_histories.specs.declared.events.HistoryEvent.TheVariants.{Edited, Absorbed};
 ghost use Rattle.node_histories.specs.Histories.{IsLegal, EndsWith, EndsChanging, store_of, counter_of, opening_of, takes_in};
 ghost use Rattle.shared_node.specs.Accounts.{IsTakenAfter};
 ghost use Rattle.shared_node.specs.Faults.{AtFault, AtCheck, IsEarly, IsEditFault, IsPieceFault, AcceptsEdit, AcceptsPiece};

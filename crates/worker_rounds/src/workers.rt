@@ -7,7 +7,7 @@ ghost use Rattle.name_closure.specs.Loading.{AreLoaded, AreLoads, AreOthers, IsR
 
 use crate::gates::{Gate, pass_gate};
 use crate::shares::{Share, put_together, work_by_shares};
-use name_closure::{Loads, Round, load_each, names_of};
+use name_closure::{Loads, Round, load_each, others_named};
 use plain_values::Key;
 use std::alloc::{AllocError, Global};
 use std::thread;
@@ -54,7 +54,7 @@ where
         ensures others { IfOk result (λ names. AreOthers (keys_of pairs.entry.now)
             (flat_map (λ pair. L.named loader.entry.now pair.1) part.entry.now) names.items) }
         ensures nodes { IfOk result (λ names. All (L.is_node loader.entry.now) names.items) }
-    { names_of(alloc, loader, pairs, part) };
+    { others_named(alloc, loader, pairs, part) };
     thread::map_chunks(rt, alloc, pairs, size, &name)
 }
 

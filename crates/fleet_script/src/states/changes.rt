@@ -10,7 +10,7 @@ use load_path::Path;
 use plain_values::Bytes;
 use replica_store::Replica;
 use script_answers::{Crew, put_done};
-use script_commands::{Fault, Refusal, read_file, read_link, read_path};
+use script_commands::{Fault, LineRefusal, read_file, read_link, read_path};
 use std::alloc::Global;
 
 impl Shell {
@@ -20,10 +20,10 @@ impl Shell {
     {
         let name = Bytes::from_slice(alloc, name)?;
         if self.numbers.contains_key(&name) {
-            return Err(Fault::Refused(Refusal::NodeTaken));
+            return Err(Fault::Refused(LineRefusal::NodeTaken));
         }
         if self.writers.contains(&writer) {
-            return Err(Fault::Refused(Refusal::WriterTaken));
+            return Err(Fault::Refused(LineRefusal::WriterTaken));
         }
         let text = Vec::from_slice(alloc, b"ok\n")?;
         let number = self.nodes.len();
@@ -89,7 +89,7 @@ impl Shell {
         ensures same_crew { OnErr result (self.new.workers ≡ self.old.workers) }
     {
         let Some(workers) = Crew::of(count) else {
-            return Err(Fault::Refused(Refusal::Workers));
+            return Err(Fault::Refused(LineRefusal::Workers));
         };
         let text = Vec::from_slice(alloc, b"ok\n")?;
         self.workers = workers;

@@ -14,7 +14,7 @@ use load_path::Path;
 use plain_values::Bytes;
 use replica_store::Replica;
 use script_answers::{merge_done, part_done};
-use script_commands::{Fault, Refusal, Words, read_paths};
+use script_commands::{Fault, LineRefusal, Words, read_paths};
 use std::alloc::{AllocError, Global};
 use std::mem;
 
@@ -64,7 +64,7 @@ impl Shell {
         let name = Bytes::from_slice(alloc, piece)?;
         let to = self.node_at(alloc, node);
         let Some(piece) = self.pieces.get(&name) else {
-            return Err(Fault::Refused(Refusal::UnknownPiece));
+            return Err(Fault::Refused(LineRefusal::UnknownPiece));
         };
         let changed = self.nodes[to?].merge(piece.store())?;
         Ok(merge_done(alloc, changed)?)

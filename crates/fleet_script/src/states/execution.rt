@@ -7,7 +7,7 @@ ghost use Rattle.fleet_script.specs.Scripts.{AnswersLine};
 
 use crate::states::Shell;
 use script_answers::refused;
-use script_commands::{Command, Fault, Refusal, parse};
+use script_commands::{Command, Fault, LineRefusal, parse};
 use script_words::is_passed_over;
 use std::alloc::AllocError;
 use std::sync::Wait;
@@ -88,7 +88,7 @@ impl Shell {
     {
         let alloc = rt.alloc();
         if line.len() > LINE_LIMIT {
-            return refused(alloc, Refusal::LineTooLong);
+            return refused(alloc, LineRefusal::LineTooLong);
         }
         if is_passed_over(line) {
             return Ok(Vec::new(alloc));

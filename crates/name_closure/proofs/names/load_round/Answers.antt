@@ -3,8 +3,8 @@ use Rattle.std.specs.List.{flat_map}
 use Rattle.name_closure.specs.Loading.{AreOthers}
 use Rattle.name_closure.proofs.names.load_round.Goals as goal
 
-pub names_of-requires : goal.names_of-requires
-names_of-requires g c = record {
+pub others_named-requires : goal.others_named-requires
+others_named-requires g c = record {
   nodes = rw (c.deref-2.ensures.value, c.in_ok-pairs.ensures.pairs.in_order) c.requires.nodes;
   loaded = rw c.deref-2.ensures.value c.in_ok-pairs.ensures.pairs.loaded;
 }

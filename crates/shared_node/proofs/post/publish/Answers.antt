@@ -1,6 +1,6 @@
 use Rattle.std.proofs.Common.{List, sym, ◌∙◌, ap, subst}
 use mathlib.Core.List.{IsPrefix}
-use Rattle.node_histories.specs.declared.events.Event.{Event}
+use Rattle.node_histories.specs.declared.events.HistoryEvent.{HistoryEvent}
 use Rattle.shared_node.proofs.Seeing.{shows_on}
 use Rattle.shared_node.proofs.post.publish.Goals as goal
 
@@ -9,4 +9,4 @@ publish_as-requires g c next is =
     let w = c.args.writer in
     shows_on w.desk.place.id _ w.desk.shown.value next
     (ap (λ s. s.book) is ∙ c.requires.book)
-    (subst (λ (l : List Event). IsPrefix w.desk.shown.value.seen.log l) (sym (ap (λ s. s.log) is)) c.requires.goes_on)
+    (subst (λ (l : List HistoryEvent). IsPrefix w.desk.shown.value.seen.log l) (sym (ap (λ s. s.log) is)) c.requires.goes_on)

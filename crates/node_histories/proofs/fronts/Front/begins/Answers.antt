@@ -1,6 +1,6 @@
 use Rattle.std.proofs.Common.{◌≤◌, ap, subst, arith, length, List}
 use mathlib.Core.List.{IsPrefix}
-use Rattle.node_histories.specs.declared.events.Event.{Event}
+use Rattle.node_histories.specs.declared.events.HistoryEvent.{HistoryEvent}
 use Rattle.node_histories.specs.Histories.{takes_in}
 use Rattle.node_histories.specs.PrefixLaws.{prefix_shorter}
 use Rattle.node_histories.specs.HistoryLaws.{legal_filled}
@@ -11,7 +11,7 @@ returns g c =
     let both = c.learn.new.self.log in
     let one = c.self.inside.seen.log in
     let two = c.other.inside.seen.log in
-    let this : IsPrefix one both = subst (λ (l : List Event). IsPrefix l both) (ap (λ s. s.log) c.again-both.ensures) c.learn.ensures.2 in
+    let this : IsPrefix one both = subst (λ (l : List HistoryEvent). IsPrefix l both) (ap (λ s. s.log) c.again-both.ensures) c.learn.ensures.2 in
     let fewer : takes_in one ≤ takes_in two = rw (c.self.view_is, c.other.view_is) c.requires.shorter in
     let first = legal_filled g.N.NodeName.opening one c.self.invariant.2 in
     let second = legal_filled g.N.NodeName.opening two c.other.invariant.2 in

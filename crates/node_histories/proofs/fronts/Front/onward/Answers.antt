@@ -1,6 +1,6 @@
 use Rattle.std.proofs.Common.{◌≤◌, sym, ap, subst, arith, length, List}
 use mathlib.Core.List.{IsPrefix}
-use Rattle.node_histories.specs.declared.events.Event.{Event}
+use Rattle.node_histories.specs.declared.events.HistoryEvent.{HistoryEvent}
 use Rattle.node_histories.specs.Histories.{opening_of}
 use Rattle.node_histories.specs.PrefixLaws.{prefix_shorter}
 use Rattle.node_histories.specs.HistoryLaws.{legal_filled}
@@ -11,9 +11,9 @@ returns-clause-goes_on g c =
     let both = c.learn.new.self.log in
     let one = c.self.inside.seen.log in
     let two = c.args.seen.now.log in
-    let this : IsPrefix one both = subst (λ (l : List Event). IsPrefix l both) (ap (λ s. s.log) c.again-both.ensures) c.learn.ensures.2 in
+    let this : IsPrefix one both = subst (λ (l : List HistoryEvent). IsPrefix l both) (ap (λ s. s.log) c.again-both.ensures) c.learn.ensures.2 in
     let first = legal_filled g.N.NodeName.opening one c.self.invariant.2 in
     let second = legal_filled (opening_of two) two c.requires.legal in
     let less : length one ≤ length two = omega (arith, c.if-takes-self.false, c.self.invariant.0, c.requires.counted) in
     let on : IsPrefix one two = prefix_shorter one two both this c.learn.ensures.3 less in
-    subst (λ (l : List Event). IsPrefix c.args.self.now l) (sym c.of.ensures.log) (subst (λ (l : List Event). IsPrefix l two) c.self.view_is on)
+    subst (λ (l : List HistoryEvent). IsPrefix c.args.self.now l) (sym c.of.ensures.log) (subst (λ (l : List HistoryEvent). IsPrefix l two) c.self.view_is on)

@@ -1,5 +1,5 @@
 use Rattle.std.proofs.Common.{rules, ◌≡◌, ◌++◌, ◌∷◌, [], List, sym, ◌∙◌, ap, subst, arith}
-use Rattle.node_histories.specs.declared.events.Event.{Event}
+use Rattle.node_histories.specs.declared.events.HistoryEvent.{HistoryEvent}
 use Rattle.node_histories.specs.Books.{TurnNow}
 use Rattle.node_histories.specs.Histories.{IsNext, IsLegal, all_edits, takes_in}
 use Rattle.node_histories.specs.HistoryLaws.{legal_snoc, legal_filled, takes_in-snoc}
@@ -32,5 +32,5 @@ invariant_of-result g c =
     let more = takes_in-snoc t.seen.log t.offer.ask filled in (
       omega (arith, c.self.invariant.0, ap takes_in e, more),
       c.compare_exchange-found.ensures.0 ∙ c.self.invariant.1,
-      subst (λ (l : List Event). IsLegal o l) (sym e) longer,
+      subst (λ (l : List HistoryEvent). IsLegal o l) (sym e) longer,
     )

@@ -1,6 +1,6 @@
 use Rattle.std.proofs.Common.{◌≡◌, ◌∷◌, [], List, refl, sym, ◌∙◌, ap, subst}
-use Rattle.node_histories.specs.declared.events.Event.{Event}
-use Rattle.node_histories.specs.declared.events.Event.TheVariants.{Opening}
+use Rattle.node_histories.specs.declared.events.HistoryEvent.{HistoryEvent}
+use Rattle.node_histories.specs.declared.events.HistoryEvent.TheVariants.{Opening}
 use Rattle.node_histories.specs.Histories.{replica_of, opening_of, takes_in, IsLegal}
 use Rattle.node_histories.specs.HistoryLaws.{replica_of-opening}
 use Rattle.node_histories.proofs.page.Page.opening.Goals as goal
@@ -12,5 +12,5 @@ invariant_of-result c =
     record {
       kept = c.in_ok-new.ensures.ok ∙ sym (ap replica_of log ∙ replica_of-opening r);
       counted = sym (ap takes_in log);
-      legal = subst (λ (h : List Event). IsLegal (opening_of h) h) (sym log) (refl, tt);
+      legal = subst (λ (h : List HistoryEvent). IsLegal (opening_of h) h) (sym log) (refl, tt);
     }

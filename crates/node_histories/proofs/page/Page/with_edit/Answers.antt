@@ -2,7 +2,7 @@ use Rattle.std.proofs.Common.{◌≡◌, ◌+◌, ◌++◌, ◌∷◌, [], refl,
 use Rattle.edit_sums.specs.declared.entries.Edit.{Edit}
 use Rattle.edit_sums.specs.Sums.{with_edit, high_of}
 use Rattle.replica_store.specs.Replicas.{next_version}
-use Rattle.node_histories.specs.declared.events.Event.TheVariants.{Edited}
+use Rattle.node_histories.specs.declared.events.HistoryEvent.TheVariants.{Edited}
 use Rattle.node_histories.specs.Histories.{replica_of, opening_of}
 use Rattle.node_histories.specs.HistoryLaws.{legal_filled, high_of-store_of, opening_of-snoc}
 use Rattle.node_histories.proofs.Turned.{turned_edit}

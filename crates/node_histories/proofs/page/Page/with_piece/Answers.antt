@@ -1,6 +1,6 @@
 use Rattle.std.proofs.Common.{refl, ◌≡◌, ◌++◌, ◌∷◌, [], ◌∙◌, ap}
 use Rattle.edit_sums.specs.Sums.{EntryMap, join, changed_paths}
-use Rattle.node_histories.specs.declared.events.Event.TheVariants.{Absorbed}
+use Rattle.node_histories.specs.declared.events.HistoryEvent.TheVariants.{Absorbed}
 use Rattle.node_histories.specs.Histories.{replica_of, store_of, opening_of}
 use Rattle.node_histories.specs.HistoryLaws.{legal_filled, opening_of-snoc}
 use Rattle.node_histories.proofs.Turned.{turned_piece}

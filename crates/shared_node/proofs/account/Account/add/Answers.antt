@@ -1,6 +1,6 @@
 use Rattle.std.proofs.Common.{rules, ◌≡◌, ℕ, ◌+◌, ◌<◌, ◌≤◌, ◌++◌, ◌∷◌, [], List, length, slice_index, slice_set, get_or, sym, ◌∙◌, subst, ap, arith}
 use Rattle.std.proofs.lemmas.List.{get_or_read}
-use Rattle.node_histories.specs.declared.events.Event.{Event}
+use Rattle.node_histories.specs.declared.events.HistoryEvent.{HistoryEvent}
 use Rattle.node_histories.specs.Histories.{takes_of, takes_in, counter_of}
 use Rattle.node_histories.specs.HistoryLaws.{takes_of-within}
 use Rattle.shared_node.proofs.Counting.{counted}
@@ -11,13 +11,13 @@ invariant_of-self g c =
     let seat = c.args.seat in
     let old = c.self.inside in
     let taken = c.requires.taken in
-    let x : Event = taken.0 in
-    let h : List Event = c.front.result in
+    let x : HistoryEvent = taken.0 in
+    let h : List HistoryEvent = c.front.result in
     let was = c.index_mut.result.now in
     let more : List ℕ = slice_set old.counts.items seat (was + 1) in
-    let front : h ≡ old.front ++ x ∷ [] = c.front.ensures.seen ∙ taken.1 ∙ ap (λ (k : List Event). k ++ x ∷ []) (sym (ap (λ a. a.takes) c.self.view_is)) in
+    let front : h ≡ old.front ++ x ∷ [] = c.front.ensures.seen ∙ taken.1 ∙ ap (λ (k : List HistoryEvent). k ++ x ∷ []) (sym (ap (λ a. a.takes) c.self.view_is)) in
     let there : seat < length old.counts.items = omega (arith, c.requires.seat, ap (λ a. a.seats) c.self.view_is) in
-    let Q : List Event → Type 0 = λ k. (s : ℕ) → s < length more → slice_index more s ≡ takes_of s k in
+    let Q : List HistoryEvent → Type 0 = λ k. (s : ℕ) → s < length more → slice_index more s ≡ takes_of s k in
     let counter : c.counter-self-inside.result ≡ counter_of h = search rules in
     let read : was ≡ get_or old.counts.items seat was = search rules in
     let is : was ≡ slice_index old.counts.items seat = get_or_read old.counts.items seat was there read 0 in

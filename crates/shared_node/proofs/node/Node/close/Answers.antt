@@ -1,8 +1,8 @@
 use Rattle.std.proofs.Common.{List, sym, subst}
-use Rattle.node_histories.specs.declared.events.Event.{Event}
+use Rattle.node_histories.specs.declared.events.HistoryEvent.{HistoryEvent}
 use Rattle.shared_node.specs.Seats.{AllAgree}
 use Rattle.shared_node.proofs.node.Node.close.Goals as goal
 
 pub returns-in-Ok-clause-agree : goal.returns-in-Ok-clause-agree
 returns-in-Ok-clause-agree g c =
-    subst (λ (l : List Event). AllAgree l c.args.seats.items) (sym c.wind_up.ensures.log) c.in-Ok.ensures.agree
+    subst (λ (l : List HistoryEvent). AllAgree l c.args.seats.items) (sym c.wind_up.ensures.log) c.in-Ok.ensures.agree

@@ -3,7 +3,7 @@ use Rattle.name_closure.specs.LimitLaws.{not_over}
 use Rattle.name_closure.specs.ListedLaws.{Listed}
 use Rattle.name_closure.specs.Loading.{LeadsByLoad}
 use Rattle.name_closure.specs.LoadingLaws.{leads_by_one, one_load_of_nodes}
-use Rattle.name_closure.proofs.laws.one_load.Goals as goal
+use Rattle.name_closure.proofs.laws.loaded_closures.Goals as goal
 
 pub returns-clause-leads : goal.returns-clause-leads
 returns-clause-leads g c =

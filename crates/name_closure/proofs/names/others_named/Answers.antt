@@ -5,7 +5,7 @@ use Rattle.std.proofs.lemmas.List.Elements.{All-append, All-get_or}
 use Rattle.name_closure.specs.Loading.{AreOthers}
 use Rattle.name_closure.proofs.Others.{key_at, made_more, others_after, others_of_same}
 use Rattle.name_closure.proofs.Rounding.{holds_among, holds_of_part}
-use Rattle.name_closure.proofs.names.names_of.Goals as goal
+use Rattle.name_closure.proofs.names.others_named.Goals as goal
 
 pub loop-one-preserved : goal.loop-one-preserved
 loop-one-preserved g c =
