@@ -10,7 +10,7 @@ use Rattle.section_reader.specs.declared.parts.LineForm.TheVariants.{Blank, Comm
 use Rattle.section_reader.specs.Lines.{Line, numbered}
 use Rattle.section_reader.specs.Parts.{form, spaced, trimmed, has_bytes, header_name, is_bracketed, pair_of}
 use Rattle.section_reader.specs.Logical.{going_on, joined, joined_lines, lines_behind, trimmed_line, has_text, logical_of, logical_lines}
-use Rattle.section_reader.specs.LogicalLaws.{going_on-blank, going_on-comment, going_on-continued, going_on-whole, joined_lines-blank, joined_lines-comment, joined_lines-continued, joined_lines-whole, lines_behind-blank, lines_behind-comment, lines_behind-continued, lines_behind-whole}
+use Rattle.section_reader.specs.LogicalLaws.{going_on-line, joined_lines-line, lines_behind-line}
 use Rattle.section_reader.specs.Sections.{note, assigned, unassigned, up_to_bracket, section_items, assignments_in, section_notes, notes_behind, notes_in, assignments_of, notes_of}
 use Rattle.section_reader.specs.FileLaws.{said, kind_of, text_of_lines, ArePlainLines, SameButNumbers, CommentsChangeNumbersAlone, BlankLinesChangeNumbersAlone, FirstBlankLineChangesNumbersAlone, ContinuedLinesAreJoined, physical_lines-file}
 
@@ -42,59 +42,59 @@ same_cons x y xs ys p q = ap (λ v. v ∷ xs) p ∙ ap (λ v. y ∷ v) q
 
 one_says : (f : LineForm) (x y : Line) (xs ys : List Line) → form x.text ≡ f → form y.text ≡ f → x.text ≡ y.text → SaysSame xs ys → SaysSame (x ∷ xs) (y ∷ ys)
 one_says Blank x y xs ys p q same says = record {
-  more = both_sides _ _ _ _ (going_on-blank x xs p) refl (going_on-blank y ys q);
-  here = both_sides _ _ _ _ (ap (map text_of) (joined_lines-blank x xs p)) says.here (ap (map text_of) (joined_lines-blank y ys q));
-  behind = both_sides _ _ _ _ (ap (map text_of) (lines_behind-blank x xs p)) says.here (ap (map text_of) (lines_behind-blank y ys q));
+  more = both_sides _ _ _ _ (going_on-line Blank x xs p) refl (going_on-line Blank y ys q);
+  here = both_sides _ _ _ _ (ap (map text_of) (joined_lines-line Blank x xs p)) says.here (ap (map text_of) (joined_lines-line Blank y ys q));
+  behind = both_sides _ _ _ _ (ap (map text_of) (lines_behind-line Blank x xs p)) says.here (ap (map text_of) (lines_behind-line Blank y ys q));
 }
 one_says Comment x y xs ys p q same says = record {
-  more = both_sides _ _ _ _ (going_on-comment x xs p) says.more (going_on-comment y ys q);
-  here = both_sides _ _ _ _ (ap (map text_of) (joined_lines-comment x xs p)) says.here (ap (map text_of) (joined_lines-comment y ys q));
-  behind = both_sides _ _ _ _ (ap (map text_of) (lines_behind-comment x xs p)) says.behind (ap (map text_of) (lines_behind-comment y ys q));
+  more = both_sides _ _ _ _ (going_on-line Comment x xs p) says.more (going_on-line Comment y ys q);
+  here = both_sides _ _ _ _ (ap (map text_of) (joined_lines-line Comment x xs p)) says.here (ap (map text_of) (joined_lines-line Comment y ys q));
+  behind = both_sides _ _ _ _ (ap (map text_of) (lines_behind-line Comment x xs p)) says.behind (ap (map text_of) (lines_behind-line Comment y ys q));
 }
 one_says Continued x y xs ys p q same says =
     let text = ap (λ t. spaced t ++ going_on xs) same ∙ ap (λ v. spaced y.text ++ v) says.more in
     record {
-      more = both_sides _ _ _ _ (going_on-continued x xs p) text (going_on-continued y ys q);
-      here = both_sides _ _ _ _ (ap (map text_of) (joined_lines-continued x xs p)) (same_cons _ _ _ _ text says.behind) (ap (map text_of) (joined_lines-continued y ys q));
-      behind = both_sides _ _ _ _ (ap (map text_of) (lines_behind-continued x xs p)) says.behind (ap (map text_of) (lines_behind-continued y ys q));
+      more = both_sides _ _ _ _ (going_on-line Continued x xs p) text (going_on-line Continued y ys q);
+      here = both_sides _ _ _ _ (ap (map text_of) (joined_lines-line Continued x xs p)) (same_cons _ _ _ _ text says.behind) (ap (map text_of) (joined_lines-line Continued y ys q));
+      behind = both_sides _ _ _ _ (ap (map text_of) (lines_behind-line Continued x xs p)) says.behind (ap (map text_of) (lines_behind-line Continued y ys q));
     }
 one_says Whole x y xs ys p q same says = record {
-  more = both_sides _ _ _ _ (going_on-whole x xs p) same (going_on-whole y ys q);
-  here = both_sides _ _ _ _ (ap (map text_of) (joined_lines-whole x xs p)) (same_cons _ _ _ _ same says.here) (ap (map text_of) (joined_lines-whole y ys q));
-  behind = both_sides _ _ _ _ (ap (map text_of) (lines_behind-whole x xs p)) says.here (ap (map text_of) (lines_behind-whole y ys q));
+  more = both_sides _ _ _ _ (going_on-line Whole x xs p) same (going_on-line Whole y ys q);
+  here = both_sides _ _ _ _ (ap (map text_of) (joined_lines-line Whole x xs p)) (same_cons _ _ _ _ same says.here) (ap (map text_of) (joined_lines-line Whole y ys q));
+  behind = both_sides _ _ _ _ (ap (map text_of) (lines_behind-line Whole x xs p)) says.here (ap (map text_of) (lines_behind-line Whole y ys q));
 }
 
 comment_says : (x : Line) (xs ys : List Line) → form x.text ≡ Comment → SaysSame xs ys → SaysSame (x ∷ xs) ys
 comment_says x xs ys p says = record {
-  more = going_on-comment x xs p ∙ says.more;
-  here = ap (map text_of) (joined_lines-comment x xs p) ∙ says.here;
-  behind = ap (map text_of) (lines_behind-comment x xs p) ∙ says.behind;
+  more = going_on-line Comment x xs p ∙ says.more;
+  here = ap (map text_of) (joined_lines-line Comment x xs p) ∙ says.here;
+  behind = ap (map text_of) (lines_behind-line Comment x xs p) ∙ says.behind;
 }
 
 blank_says : (x b y : Line) (xs ys : List Line) → x.text ≡ y.text → (form x.text ≡ Whole) ⊎ (form x.text ≡ Blank) → form b.text ≡ Blank → SaysSame xs ys → SaysSame (x ∷ b ∷ xs) (y ∷ ys)
 blank_says x b y xs ys same is q says =
-    let passed = ap (map text_of) (joined_lines-blank b xs q) ∙ says.here in
+    let passed = ap (map text_of) (joined_lines-line Blank b xs q) ∙ says.here in
     ⊎_elim
     (λ (p : form x.text ≡ Whole). let r : form y.text ≡ Whole = sym (ap form same) ∙ p in record {
-      more = both_sides _ _ _ _ (going_on-whole x (b ∷ xs) p) same (going_on-whole y ys r);
-      here = both_sides _ _ _ _ (ap (map text_of) (joined_lines-whole x (b ∷ xs) p)) (same_cons _ _ _ _ same passed) (ap (map text_of) (joined_lines-whole y ys r));
-      behind = both_sides _ _ _ _ (ap (map text_of) (lines_behind-whole x (b ∷ xs) p)) passed (ap (map text_of) (lines_behind-whole y ys r));
+      more = both_sides _ _ _ _ (going_on-line Whole x (b ∷ xs) p) same (going_on-line Whole y ys r);
+      here = both_sides _ _ _ _ (ap (map text_of) (joined_lines-line Whole x (b ∷ xs) p)) (same_cons _ _ _ _ same passed) (ap (map text_of) (joined_lines-line Whole y ys r));
+      behind = both_sides _ _ _ _ (ap (map text_of) (lines_behind-line Whole x (b ∷ xs) p)) passed (ap (map text_of) (lines_behind-line Whole y ys r));
     })
     (λ (p : form x.text ≡ Blank). let r : form y.text ≡ Blank = sym (ap form same) ∙ p in record {
-      more = both_sides _ _ _ _ (going_on-blank x (b ∷ xs) p) refl (going_on-blank y ys r);
-      here = both_sides _ _ _ _ (ap (map text_of) (joined_lines-blank x (b ∷ xs) p)) passed (ap (map text_of) (joined_lines-blank y ys r));
-      behind = both_sides _ _ _ _ (ap (map text_of) (lines_behind-blank x (b ∷ xs) p)) passed (ap (map text_of) (lines_behind-blank y ys r));
+      more = both_sides _ _ _ _ (going_on-line Blank x (b ∷ xs) p) refl (going_on-line Blank y ys r);
+      here = both_sides _ _ _ _ (ap (map text_of) (joined_lines-line Blank x (b ∷ xs) p)) passed (ap (map text_of) (joined_lines-line Blank y ys r));
+      behind = both_sides _ _ _ _ (ap (map text_of) (lines_behind-line Blank x (b ∷ xs) p)) passed (ap (map text_of) (lines_behind-line Blank y ys r));
     })
     is
 
 cut_says : (x b y : Line) (xs ys : List Line) → form x.text ≡ Continued → form b.text ≡ Whole → form y.text ≡ Whole → spaced x.text ++ b.text ≡ y.text → SaysSame xs ys → SaysSame (x ∷ b ∷ xs) (y ∷ ys)
 cut_says x b y xs ys p q r same says =
-    let text = ap (λ v. spaced x.text ++ v) (going_on-whole b xs q) ∙ same in
-    let after = ap (map text_of) (lines_behind-whole b xs q) ∙ says.here in
+    let text = ap (λ v. spaced x.text ++ v) (going_on-line Whole b xs q) ∙ same in
+    let after = ap (map text_of) (lines_behind-line Whole b xs q) ∙ says.here in
     record {
-      more = both_sides _ _ _ _ (going_on-continued x (b ∷ xs) p) text (going_on-whole y ys r);
-      here = both_sides _ _ _ _ (ap (map text_of) (joined_lines-continued x (b ∷ xs) p)) (same_cons _ _ _ _ text after) (ap (map text_of) (joined_lines-whole y ys r));
-      behind = both_sides _ _ _ _ (ap (map text_of) (lines_behind-continued x (b ∷ xs) p)) after (ap (map text_of) (lines_behind-whole y ys r));
+      more = both_sides _ _ _ _ (going_on-line Continued x (b ∷ xs) p) text (going_on-line Whole y ys r);
+      here = both_sides _ _ _ _ (ap (map text_of) (joined_lines-line Continued x (b ∷ xs) p)) (same_cons _ _ _ _ text after) (ap (map text_of) (joined_lines-line Whole y ys r));
+      behind = both_sides _ _ _ _ (ap (map text_of) (lines_behind-line Continued x (b ∷ xs) p)) after (ap (map text_of) (lines_behind-line Whole y ys r));
     }
 
 alike_says : {xs ys : List Line} → Alike xs ys → SaysSame xs ys
@@ -122,22 +122,39 @@ logical_same xs ys same = logical_texts (joined_lines xs) ∙ ap (λ v. filter h
 
 -- assignments and notes
 
-block_same : (xs ys : List Line) → map text_of xs ≡ map text_of ys → map text_of (up_to_bracket xs) ≡ map text_of (up_to_bracket ys)
-unfolding up_to_bracket
-block_same [] [] same = refl
-block_same [] (y ∷ ys) same = absurd (cc)
-block_same (x ∷ xs) [] same = absurd (cc)
-block_same (x ∷ xs) (y ∷ ys) same =
+-- what holds of no lines, and of two more lines of one text where it holds of those behind them, holds of any lines of the same texts
+by_texts : (P : List Line → List Line → Type 0) → P [] []
+    → ((x y : Line) (xs ys : List Line) → x.text ≡ y.text → map text_of xs ≡ map text_of ys → P xs ys → P (x ∷ xs) (y ∷ ys))
+    → (xs ys : List Line) → map text_of xs ≡ map text_of ys → P xs ys
+by_texts P start grow [] [] same = start
+by_texts P start grow [] (y ∷ ys) same = absurd (cc)
+by_texts P start grow (x ∷ xs) [] same = absurd (cc)
+by_texts P start grow (x ∷ xs) (y ∷ ys) same =
     let head : x.text ≡ y.text = cc in
     let tail : map text_of xs ≡ map text_of ys = cc in
-    shut (is_bracketed x.text) (is_bracketed y.text) (ap is_bracketed head) (same_cons _ _ _ _ head (block_same xs ys tail))
+    grow x y xs ys head tail (by_texts P start grow xs ys tail)
+
+-- what each line gives, seen so that only its text counts
+each_same : {A B : Type 0} (give : Line → List A) (see : A → B) → ((x y : Line) → x.text ≡ y.text → map see (give x) ≡ map see (give y))
+    → (xs ys : List Line) → map text_of xs ≡ map text_of ys → map see (flat_map give xs) ≡ map see (flat_map give ys)
+each_same give see each = by_texts (λ xs ys. map see (flat_map give xs) ≡ map see (flat_map give ys)) refl
+    (λ x y xs ys head tail more. both_sides _ _ _ _
+    (map-append see (give x) (flat_map give xs))
+    (ap (λ v. v ++ map see (flat_map give xs)) (each x y head) ∙ ap (λ v. map see (give y) ++ v) more)
+    (map-append see (give y) (flat_map give ys)))
+
+block_same : (xs ys : List Line) → map text_of xs ≡ map text_of ys → map text_of (up_to_bracket xs) ≡ map text_of (up_to_bracket ys)
+unfolding up_to_bracket
+block_same = by_texts (λ xs ys. map text_of (up_to_bracket xs) ≡ map text_of (up_to_bracket ys)) refl
+    (λ x y xs ys head tail more.
+    shut x y xs ys (is_bracketed x.text) (is_bracketed y.text) (ap is_bracketed head) (same_cons _ _ _ _ head more))
   where
-    shut : (b c : Bool) → b ≡ c → map text_of (x ∷ up_to_bracket xs) ≡ map text_of (y ∷ up_to_bracket ys)
+    shut : (x y : Line) (xs ys : List Line) (b c : Bool) → b ≡ c → map text_of (x ∷ up_to_bracket xs) ≡ map text_of (y ∷ up_to_bracket ys)
         → map text_of (cond b [] (x ∷ up_to_bracket xs)) ≡ map text_of (cond c [] (y ∷ up_to_bracket ys))
-    shut true true e rest = refl
-    shut true false e rest = absurd (cc)
-    shut false true e rest = absurd (cc)
-    shut false false e rest = rest
+    shut x y xs ys true true e rest = refl
+    shut x y xs ys true false e rest = absurd (cc)
+    shut x y xs ys false true e rest = absurd (cc)
+    shut x y xs ys false false e rest = rest
 
 said_here : (pair : Option (List ℕ × List ℕ)) (section : List ℕ) (k n : ℕ)
     → map said (elim pair as (λ _. List Assignment) [ None ↦ [] | Some p ↦ record { section = section; key = p.0; value = p.1; line = k } ∷ [] ])
@@ -150,36 +167,20 @@ unfolding assigned
 assigned_same section x y same =
     said_here (pair_of x.text) section x.number y.number ∙ ap (λ t. map said (assigned section (record { number = y.number; text = t }))) same
 
-section_same : (section : List ℕ) (xs ys : List Line) → map text_of xs ≡ map text_of ys → map said (flat_map (assigned section) xs) ≡ map said (flat_map (assigned section) ys)
-section_same section [] [] same = refl
-section_same section [] (y ∷ ys) same = absurd (cc)
-section_same section (x ∷ xs) [] same = absurd (cc)
-section_same section (x ∷ xs) (y ∷ ys) same =
-    let head : x.text ≡ y.text = cc in
-    let tail : map text_of xs ≡ map text_of ys = cc in
-    both_sides _ _ _ _
-    (map-append said (assigned section x) (flat_map (assigned section) xs))
-    (ap (λ v. v ++ map said (flat_map (assigned section) xs)) (assigned_same section x y head) ∙ ap (λ v. map said (assigned section y) ++ v) (section_same section xs ys tail))
-    (map-append said (assigned section y) (flat_map (assigned section) ys))
-
 named_same : (name : Option (List ℕ)) (us vs : List Line) → map text_of us ≡ map text_of vs
     → map said (elim name as (λ _. List Assignment) [ None ↦ [] | Some n ↦ flat_map (assigned n) us ]) ≡ map said (elim name as (λ _. List Assignment) [ None ↦ [] | Some n ↦ flat_map (assigned n) vs ])
 named_same None us vs same = refl
-named_same (Some n) us vs same = section_same n us vs same
+named_same (Some n) us vs same = each_same (assigned n) said (assigned_same n) us vs same
 
 items_same : (xs ys : List Line) → map text_of xs ≡ map text_of ys → map said (assignments_in xs) ≡ map said (assignments_in ys)
 unfolding assignments_in
-items_same [] [] same = refl
-items_same [] (y ∷ ys) same = absurd (cc)
-items_same (x ∷ xs) [] same = absurd (cc)
-items_same (x ∷ xs) (y ∷ ys) same =
-    let head : x.text ≡ y.text = cc in
-    let tail : map text_of xs ≡ map text_of ys = cc in
+items_same = by_texts (λ xs ys. map said (assignments_in xs) ≡ map said (assignments_in ys)) refl
+    (λ x y xs ys head tail more.
     let section = named_same (header_name x.text) (up_to_bracket xs) (up_to_bracket ys) (block_same xs ys tail) ∙ ap (λ t. map said (section_items (record { number = y.number; text = t }) ys)) head in
     both_sides _ _ _ _
     (map-append said (section_items x xs) (assignments_in xs))
-    (ap (λ v. v ++ map said (assignments_in xs)) section ∙ ap (λ v. map said (section_items y ys) ++ v) (items_same xs ys tail))
-    (map-append said (section_items y ys) (assignments_in ys))
+    (ap (λ v. v ++ map said (assignments_in xs)) section ∙ ap (λ v. map said (section_items y ys) ++ v) more)
+    (map-append said (section_items y ys) (assignments_in ys)))
 
 missing_here : (pair : Option (List ℕ × List ℕ)) (x y : Line)
     → map kind_of (elim pair as (λ _. List Note) [ None ↦ note NoEquals x ∷ [] | Some p ↦ [] ]) ≡ map kind_of (elim pair as (λ _. List Note) [ None ↦ note NoEquals y ∷ [] | Some p ↦ [] ])
@@ -190,47 +191,27 @@ unassigned_same : (x y : Line) → x.text ≡ y.text → map kind_of (unassigned
 unfolding unassigned
 unassigned_same x y same = missing_here (pair_of x.text) x y ∙ ap (λ t. map kind_of (unassigned (record { number = y.number; text = t }))) same
 
-missing_same : (xs ys : List Line) → map text_of xs ≡ map text_of ys → map kind_of (flat_map unassigned xs) ≡ map kind_of (flat_map unassigned ys)
-missing_same [] [] same = refl
-missing_same [] (y ∷ ys) same = absurd (cc)
-missing_same (x ∷ xs) [] same = absurd (cc)
-missing_same (x ∷ xs) (y ∷ ys) same =
-    let head : x.text ≡ y.text = cc in
-    let tail : map text_of xs ≡ map text_of ys = cc in
-    both_sides _ _ _ _
-    (map-append kind_of (unassigned x) (flat_map unassigned xs))
-    (ap (λ v. v ++ map kind_of (flat_map unassigned xs)) (unassigned_same x y head) ∙ ap (λ v. map kind_of (unassigned y) ++ v) (missing_same xs ys tail))
-    (map-append kind_of (unassigned y) (flat_map unassigned ys))
-
 outside_same : (xs ys : List Line) → map text_of xs ≡ map text_of ys → map kind_of (map (note OutsideSection) xs) ≡ map kind_of (map (note OutsideSection) ys)
-outside_same [] [] same = refl
-outside_same [] (y ∷ ys) same = absurd (cc)
-outside_same (x ∷ xs) [] same = absurd (cc)
-outside_same (x ∷ xs) (y ∷ ys) same =
-    let tail : map text_of xs ≡ map text_of ys = cc in
-    ap (λ v. OutsideSection ∷ v) (outside_same xs ys tail)
+outside_same = by_texts (λ xs ys. map kind_of (map (note OutsideSection) xs) ≡ map kind_of (map (note OutsideSection) ys)) refl
+    (λ x y xs ys head tail more. ap (λ v. OutsideSection ∷ v) more)
 
 header_same : (bracketed : Bool) (name : Option (List ℕ)) (x y : Line) (us vs : List Line) → map text_of us ≡ map text_of vs
     → map kind_of (cond bracketed (elim name as (λ _. List Note) [ None ↦ note BadHeader x ∷ [] | Some n ↦ flat_map unassigned us ]) [])
     ≡ map kind_of (cond bracketed (elim name as (λ _. List Note) [ None ↦ note BadHeader y ∷ [] | Some n ↦ flat_map unassigned vs ]) [])
 header_same true None x y us vs same = refl
-header_same true (Some n) x y us vs same = missing_same us vs same
+header_same true (Some n) x y us vs same = each_same unassigned kind_of unassigned_same us vs same
 header_same false name x y us vs same = refl
 
 notes_behind_same : (xs ys : List Line) → map text_of xs ≡ map text_of ys → map kind_of (notes_behind xs) ≡ map kind_of (notes_behind ys)
 unfolding notes_behind
-notes_behind_same [] [] same = refl
-notes_behind_same [] (y ∷ ys) same = absurd (cc)
-notes_behind_same (x ∷ xs) [] same = absurd (cc)
-notes_behind_same (x ∷ xs) (y ∷ ys) same =
-    let head : x.text ≡ y.text = cc in
-    let tail : map text_of xs ≡ map text_of ys = cc in
+notes_behind_same = by_texts (λ xs ys. map kind_of (notes_behind xs) ≡ map kind_of (notes_behind ys)) refl
+    (λ x y xs ys head tail more.
     let own = λ (line : Line) (rest : List Line). cond (is_bracketed line.text) (section_notes line rest) [] in
     let section = header_same (is_bracketed x.text) (header_name x.text) x y (up_to_bracket xs) (up_to_bracket ys) (block_same xs ys tail) ∙ ap (λ t. map kind_of (own (record { number = y.number; text = t }) ys)) head in
     both_sides _ _ _ _
     (map-append kind_of (own x xs) (notes_behind xs))
-    (ap (λ v. v ++ map kind_of (notes_behind xs)) section ∙ ap (λ v. map kind_of (own y ys) ++ v) (notes_behind_same xs ys tail))
-    (map-append kind_of (own y ys) (notes_behind ys))
+    (ap (λ v. v ++ map kind_of (notes_behind xs)) section ∙ ap (λ v. map kind_of (own y ys) ++ v) more)
+    (map-append kind_of (own y ys) (notes_behind ys)))
 
 notes_same : (xs ys : List Line) → map text_of xs ≡ map text_of ys → map kind_of (notes_in xs) ≡ map kind_of (notes_in ys)
 unfolding notes_in
@@ -290,7 +271,7 @@ blank_lines_change_numbers_alone front back l b is blank_is p q = joined_same _ 
 pub first_blank_line_changes_numbers_alone : FirstBlankLineChangesNumbersAlone
 unfolding numbered
 first_blank_line_changes_numbers_alone back b is p q =
-    joined_same (b ∷ back) back p q (ap (map text_of) (joined_lines-blank (record { number = 1; text = b }) (numbered 2 back) is) ∙ (alike_says (alike_numbered 2 1 back)).here)
+    joined_same (b ∷ back) back p q (ap (map text_of) (joined_lines-line Blank (record { number = 1; text = b }) (numbered 2 back) is) ∙ (alike_says (alike_numbered 2 1 back)).here)
 
 pub continued_lines_are_joined : ContinuedLinesAreJoined
 continued_lines_are_joined front back start end is whole joined p q = joined_same _ _ p q (alike_says (alike_cut 1 1 front back start end is whole joined)).here

@@ -155,23 +155,38 @@ pub no_items : (name : Option (List ℕ)) (lines : List Line) → name ≡ None 
 no_items None lines is = refl
 no_items (Some n) lines is = absurd (cc)
 
+-- a line that begins with no bracket is no header
+pub assignments_in-entry : (line : Line) (rest : List Line) → is_bracketed line.text ≡ false
+    → assignments_in (line ∷ rest) ≡ assignments_in rest
+unfolding assignments_in
+assignments_in-entry line rest is =
+    ap (λ v. v ++ assignments_in rest) (no_items (header_name line.text) (up_to_bracket rest) (plain_header line.text is))
+
+pub notes_behind-entry : (line : Line) (rest : List Line) → is_bracketed line.text ≡ false → notes_behind (line ∷ rest) ≡ notes_behind rest
+unfolding notes_behind
+notes_behind-entry line rest is = ap (λ v. v ++ notes_behind rest) (cond-false _ _ _ is)
+
+-- what lines give, the first of which begins with no bracket
+from-entry : {A : Type 0} (here behind : List Line → List A) (line : Line) (rest : List Line) → is_bracketed line.text ≡ false
+    → ((lines : List Line) → here (line ∷ lines) ≡ here (line ∷ []) ++ here lines) → behind (line ∷ rest) ≡ behind rest
+    → here (up_to_bracket (line ∷ rest)) ++ behind (line ∷ rest) ≡ here (line ∷ []) ++ (here (up_to_bracket rest) ++ behind rest)
+from-entry here behind line rest is one same =
+    ap (λ v. here v ++ behind (line ∷ rest)) (up_to_bracket-entry line rest is)
+    ∙ ap (λ v. v ++ behind (line ∷ rest)) (one (up_to_bracket rest))
+    ∙ ap (λ v. (here (line ∷ []) ++ here (up_to_bracket rest)) ++ v) same
+    ∙ append_assoc (here (line ∷ [])) (here (up_to_bracket rest)) (behind rest)
+
 pub items_from-entry : (place : Place) (line : Line) (rest : List Line) → is_bracketed line.text ≡ false
     → items_from place (line ∷ rest) ≡ items_at place (line ∷ []) ++ items_from place rest
-unfolding items_from assignments_in
+unfolding items_from
 items_from-entry place line rest is =
-    ap (λ v. items_at place v ++ assignments_in (line ∷ rest)) (up_to_bracket-entry line rest is)
-    ∙ ap (λ v. v ++ assignments_in (line ∷ rest)) (items_at-cons place line (up_to_bracket rest))
-    ∙ ap (λ v. (items_at place (line ∷ []) ++ items_at place (up_to_bracket rest)) ++ (v ++ assignments_in rest)) (no_items (header_name line.text) (up_to_bracket rest) (plain_header line.text is))
-    ∙ append_assoc (items_at place (line ∷ [])) (items_at place (up_to_bracket rest)) (assignments_in rest)
+    from-entry (items_at place) assignments_in line rest is (items_at-cons place line) (assignments_in-entry line rest is)
 
 pub notes_from-entry : (place : Place) (line : Line) (rest : List Line) → is_bracketed line.text ≡ false
     → notes_from place (line ∷ rest) ≡ notes_at place (line ∷ []) ++ notes_from place rest
-unfolding notes_from notes_behind
+unfolding notes_from
 notes_from-entry place line rest is =
-    ap (λ v. notes_at place v ++ notes_behind (line ∷ rest)) (up_to_bracket-entry line rest is)
-    ∙ ap (λ v. v ++ notes_behind (line ∷ rest)) (notes_at-cons place line (up_to_bracket rest))
-    ∙ ap (λ v. (notes_at place (line ∷ []) ++ notes_at place (up_to_bracket rest)) ++ (v ++ notes_behind rest)) (cond-false _ _ _ is)
-    ∙ append_assoc (notes_at place (line ∷ [])) (notes_at place (up_to_bracket rest)) (notes_behind rest)
+    from-entry (notes_at place) notes_behind line rest is (notes_at-cons place line) (notes_behind-entry line rest is)
 
 pub items_from-nil : (place : Place) → items_from place [] ≡ []
 unfolding items_from up_to_bracket assignments_in
@@ -189,15 +204,18 @@ kept-some line rest some = cond-true _ _ _ (lt-ltb 0 (length line.text) some)
 pub kept-none : (line : Line) (rest : List Line) → length line.text ≡ 0 → kept line rest ≡ rest
 kept-none line rest none = cond-false _ _ _ (le-ltb 0 (length line.text) (omega arith))
 
--- What a line gives is put behind what was read, and the rest is what the lines behind it give.
-pub told_on : {A : Type 0} (was is one here behind whole : List A) → is ≡ was ++ one → here ≡ behind → whole ≡ one ++ behind → is ++ here ≡ was ++ whole
-told_on was is one here behind whole step same all =
-    ap (λ v. v ++ here) step ∙ append_assoc was one here ∙ ap (λ v. was ++ v) (ap (λ v. one ++ v) same ∙ sym all)
-
--- two facts on a success make a third
-pub both_ok : {T E P Q R : Type 0} (r : Result T E) → OnOk r P → OnOk r Q → (P → Q → R) → OnOk r R
-both_ok (Ok x) p q f = f p q
-both_ok (Err e) p q f = p
+-- A line that is read, and that has a byte: what it gives is put behind what was read, and the rest is what the lines behind it give.
+pub told_line : {A T E : Type 0} (give : Place → List Line → List A) (number : ℕ) (text : List ℕ)
+    (was_at is_at at : Place) (was is one : List A) (r : Result T E)
+    → 0 < length text → OnOk r (is ≡ was ++ one) → OnOk r (is_at ≡ at)
+    → ((rest : List Line) → give was_at (record { number = number; text = text } ∷ rest) ≡ one ++ give at rest)
+    → OnOk r ((rest : List Line) → is ++ give is_at rest ≡ was ++ give was_at (kept (record { number = number; text = text }) rest))
+told_line give number text was_at is_at at was is one (Ok x) some step place gives = λ rest.
+    ap (λ v. v ++ give is_at rest) step
+    ∙ append_assoc was one (give is_at rest)
+    ∙ ap (λ p. was ++ (one ++ give p rest)) place
+    ∙ ap (λ v. was ++ v) (sym (ap (give was_at) (kept-some (record { number = number; text = text }) rest some) ∙ gives rest))
+told_line give number text was_at is_at at was is one (Err e) some step place gives = step
 
 -- At the start of a file nothing is given but what the file gives.
 pub items_from-start : (lines : List Line) → items_from Outside lines ≡ assignments_in lines

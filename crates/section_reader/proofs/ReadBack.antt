@@ -9,12 +9,12 @@ use Rattle.section_reader.specs.declared.assignments.Assignment.{Assignment}
 use Rattle.section_reader.specs.declared.assignments.Note.{Note}
 use Rattle.section_reader.specs.declared.assignments.NoteKind.TheVariants.{OutsideSection, BadHeader}
 use Rattle.section_reader.specs.Lines.{Line, numbered}
-use Rattle.section_reader.specs.Parts.{is_white, header_name}
+use Rattle.section_reader.specs.Parts.{is_bracketed, is_white, header_name}
 use Rattle.section_reader.specs.Logical.{logical_lines, logical_of}
 use Rattle.section_reader.specs.Sections.{note, assigned, unassigned, up_to_bracket, assignments_in, notes_behind, notes_in, assignments_of, notes_of}
 use Rattle.section_reader.specs.FileLaws.{HasNoMark, physical_lines-file}
 use Rattle.section_reader.specs.WrittenLaws.{Section, last_of, IsOneLine, IsPair, IsSection, IsName, header_line, pair_line, section_lines, written, pairs_from, sections_from, SectionsAreReadBack}
-use Rattle.section_reader.proofs.PlaceLemmas.{plain_header, no_items}
+use Rattle.section_reader.proofs.PlaceLemmas.{assignments_in-entry, notes_behind-entry}
 use Rattle.section_reader.proofs.OneLine.{one_by_one, header-one, header-name, pair-one, pair-plain, pair-of}
 
 -- the lines of sections, one after another
@@ -34,6 +34,17 @@ block-pairs n end (pair ∷ pairs) rest all at =
     let line : Line = record { number = n; text = pair_line pair } in
     cond-false _ _ _ (pair-plain pair.0 pair.1 all.0.0) ∙ ap (λ v. line ∷ v) (block-pairs (n + 1) end pairs rest all.1 (omega arith))
 
+-- lines of pairs are passed over by what asks for headers alone
+past-pairs : {A : Type 0} (behind : List Line → List A)
+    → ((line : Line) (rest : List Line) → is_bracketed line.text ≡ false → behind (line ∷ rest) ≡ behind rest)
+    → (n end : ℕ) (pairs : List (List ℕ × List ℕ)) (rest : List (List ℕ)) → AllByRecursion IsPair pairs → n + length pairs ≡ end
+    → behind (numbered n (map pair_line pairs ++ rest)) ≡ behind (numbered end rest)
+unfolding numbered
+past-pairs behind past n end [] rest all at = ap (λ k. behind (numbered k rest)) (let here : n ≡ end = omega arith in here)
+past-pairs behind past n end (pair ∷ pairs) rest all at =
+    past (record { number = n; text = pair_line pair }) (numbered (n + 1) (map pair_line pairs ++ rest)) (pair-plain pair.0 pair.1 all.0.0)
+    ∙ past-pairs behind past (n + 1) end pairs rest all.1 (omega arith)
+
 -- assignments
 
 assigned-pair : (name : List ℕ) (n : ℕ) (pair : List ℕ × List ℕ) → IsPair pair
@@ -47,15 +58,6 @@ section-items name n [] all = refl
 section-items name n (pair ∷ pairs) all =
     ap (λ v. v ++ flat_map (assigned name) (numbered (n + 1) (map pair_line pairs))) (assigned-pair name n pair all.0)
     ∙ ap (λ v. record { section = name; key = pair.0; value = pair.1; line = n } ∷ v) (section-items name (n + 1) pairs all.1)
-
-items-pairs : (n end : ℕ) (pairs : List (List ℕ × List ℕ)) (rest : List (List ℕ)) → AllByRecursion IsPair pairs → n + length pairs ≡ end
-    → assignments_in (numbered n (map pair_line pairs ++ rest)) ≡ assignments_in (numbered end rest)
-unfolding assignments_in numbered
-items-pairs n end [] rest all at = ap (λ k. assignments_in (numbered k rest)) (let here : n ≡ end = omega arith in here)
-items-pairs n end (pair ∷ pairs) rest all at =
-    let later = numbered (n + 1) (map pair_line pairs ++ rest) in
-    ap (λ v. v ++ assignments_in later) (no_items (header_name (pair_line pair)) (up_to_bracket later) (plain_header (pair_line pair) (pair-plain pair.0 pair.1 all.0.0)))
-    ∙ items-pairs (n + 1) end pairs rest all.1 (omega arith)
 
 named_items-some : (header : Option (List ℕ)) (name : List ℕ) (lines : List Line) → header ≡ Some name
     → elim header as (λ _. List Assignment) [ None ↦ [] | Some n ↦ flat_map (assigned n) lines ] ≡ flat_map (assigned name) lines
@@ -79,7 +81,7 @@ items-sections n (section ∷ sections) all =
     ∙ ap (flat_map (assigned section.name)) (section_block (n + 1) section sections pairs)
     ∙ section-items section.name (n + 1) section.pairs pairs)
     ∙ ap (λ v. pairs_from section.name (n + 1) section.pairs ++ v)
-    (items-pairs (n + 1) (n + 1 + length section.pairs) section.pairs (all_lines sections) pairs refl
+    (past-pairs assignments_in assignments_in-entry (n + 1) (n + 1 + length section.pairs) section.pairs (all_lines sections) pairs refl
     ∙ items-sections (n + 1 + length section.pairs) sections all.1)
 
 -- notes
@@ -93,14 +95,6 @@ unfolding numbered
 section-notes n [] all = refl
 section-notes n (pair ∷ pairs) all =
     ap (λ v. v ++ flat_map unassigned (numbered (n + 1) (map pair_line pairs))) (unassigned-pair n pair all.0) ∙ section-notes (n + 1) pairs all.1
-
-notes-pairs : (n end : ℕ) (pairs : List (List ℕ × List ℕ)) (rest : List (List ℕ)) → AllByRecursion IsPair pairs → n + length pairs ≡ end
-    → notes_behind (numbered n (map pair_line pairs ++ rest)) ≡ notes_behind (numbered end rest)
-unfolding notes_behind numbered
-notes-pairs n end [] rest all at = ap (λ k. notes_behind (numbered k rest)) (let here : n ≡ end = omega arith in here)
-notes-pairs n end (pair ∷ pairs) rest all at =
-    let later = numbered (n + 1) (map pair_line pairs ++ rest) in
-    ap (λ v. v ++ notes_behind later) (cond-false _ _ _ (pair-plain pair.0 pair.1 all.0.0)) ∙ notes-pairs (n + 1) end pairs rest all.1 (omega arith)
 
 named_notes-some : (header : Option (List ℕ)) (name : List ℕ) (line : Line) (lines : List Line) → header ≡ Some name
     → elim header as (λ _. List Note) [ None ↦ note BadHeader line ∷ [] | Some n ↦ flat_map unassigned lines ] ≡ flat_map unassigned lines
@@ -118,7 +112,7 @@ notes-sections n (section ∷ sections) all =
     (named_notes-some (header_name (header_line section.name)) section.name line (up_to_bracket later) (header-name section.name all.0.0)
     ∙ ap (flat_map unassigned) (section_block (n + 1) section sections pairs)
     ∙ section-notes (n + 1) section.pairs pairs)
-    ∙ notes-pairs (n + 1) (n + 1 + length section.pairs) section.pairs (all_lines sections) pairs refl
+    ∙ past-pairs notes_behind notes_behind-entry (n + 1) (n + 1 + length section.pairs) section.pairs (all_lines sections) pairs refl
     ∙ notes-sections (n + 1 + length section.pairs) sections all.1
 
 -- the whole file

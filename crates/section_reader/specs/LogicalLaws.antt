@@ -1,5 +1,6 @@
--- How lines are joined, said for each form of the first line.
+-- How lines are joined, by the form of the first line.
 use Rattle.std.proofs.Common.{◌≡◌, ◌<◌, ℕ, List, [], ◌∷◌, ◌++◌, length, map, filter, refl, ap, ◌∙◌, ◌⊎◌, ⊎_elim, arith}
+use Rattle.section_reader.specs.declared.parts.LineForm.{LineForm}
 use Rattle.section_reader.specs.declared.parts.LineForm.TheVariants.{Blank, Comment, Continued, Whole}
 use Rattle.section_reader.specs.Lines.{Line}
 use Rattle.section_reader.specs.Parts.{form, spaced}
@@ -9,61 +10,43 @@ pub going_on-nil : going_on [] ≡ []
 unfolding going_on
 going_on-nil = refl
 
-pub going_on-blank : (line : Line) (rest : List Line) → form line.text ≡ Blank → going_on (line ∷ rest) ≡ []
+pub going_on-line : (f : LineForm) (line : Line) (rest : List Line) → form line.text ≡ f
+    → going_on (line ∷ rest) ≡ elim f as (λ _. List ℕ) [
+      | Blank ↦ []
+      | Comment ↦ going_on rest
+      | Continued ↦ spaced line.text ++ going_on rest
+      | Whole ↦ line.text
+    ]
 unfolding going_on
-going_on-blank line rest is = rw (is, going_on) refl
-
-pub going_on-comment : (line : Line) (rest : List Line) → form line.text ≡ Comment → going_on (line ∷ rest) ≡ going_on rest
-unfolding going_on
-going_on-comment line rest is = rw (is, going_on) refl
-
-pub going_on-continued : (line : Line) (rest : List Line) → form line.text ≡ Continued → going_on (line ∷ rest) ≡ spaced line.text ++ going_on rest
-unfolding going_on
-going_on-continued line rest is = rw (is, going_on) refl
-
-pub going_on-whole : (line : Line) (rest : List Line) → form line.text ≡ Whole → going_on (line ∷ rest) ≡ line.text
-unfolding going_on
-going_on-whole line rest is = rw (is, going_on) refl
+going_on-line f line rest is = rw (is, going_on) refl
 
 pub joined_lines-nil : joined_lines [] ≡ []
 unfolding joined_lines
 joined_lines-nil = refl
 
-pub joined_lines-blank : (line : Line) (rest : List Line) → form line.text ≡ Blank → joined_lines (line ∷ rest) ≡ joined_lines rest
+pub joined_lines-line : (f : LineForm) (line : Line) (rest : List Line) → form line.text ≡ f
+    → joined_lines (line ∷ rest) ≡ elim f as (λ _. List Line) [
+      | Blank ↦ joined_lines rest
+      | Comment ↦ joined_lines rest
+      | Continued ↦ joined line rest ∷ lines_behind rest
+      | Whole ↦ line ∷ joined_lines rest
+    ]
 unfolding joined_lines
-joined_lines-blank line rest is = rw (is, joined_lines) refl
-
-pub joined_lines-comment : (line : Line) (rest : List Line) → form line.text ≡ Comment → joined_lines (line ∷ rest) ≡ joined_lines rest
-unfolding joined_lines
-joined_lines-comment line rest is = rw (is, joined_lines) refl
-
-pub joined_lines-continued : (line : Line) (rest : List Line) → form line.text ≡ Continued → joined_lines (line ∷ rest) ≡ joined line rest ∷ lines_behind rest
-unfolding joined_lines
-joined_lines-continued line rest is = rw (is, joined_lines) refl
-
-pub joined_lines-whole : (line : Line) (rest : List Line) → form line.text ≡ Whole → joined_lines (line ∷ rest) ≡ line ∷ joined_lines rest
-unfolding joined_lines
-joined_lines-whole line rest is = rw (is, joined_lines) refl
+joined_lines-line f line rest is = rw (is, joined_lines) refl
 
 pub lines_behind-nil : lines_behind [] ≡ []
 unfolding lines_behind
 lines_behind-nil = refl
 
-pub lines_behind-blank : (line : Line) (rest : List Line) → form line.text ≡ Blank → lines_behind (line ∷ rest) ≡ joined_lines rest
+pub lines_behind-line : (f : LineForm) (line : Line) (rest : List Line) → form line.text ≡ f
+    → lines_behind (line ∷ rest) ≡ elim f as (λ _. List Line) [
+      | Blank ↦ joined_lines rest
+      | Comment ↦ lines_behind rest
+      | Continued ↦ lines_behind rest
+      | Whole ↦ joined_lines rest
+    ]
 unfolding lines_behind
-lines_behind-blank line rest is = rw (is, lines_behind) refl
-
-pub lines_behind-comment : (line : Line) (rest : List Line) → form line.text ≡ Comment → lines_behind (line ∷ rest) ≡ lines_behind rest
-unfolding lines_behind
-lines_behind-comment line rest is = rw (is, lines_behind) refl
-
-pub lines_behind-continued : (line : Line) (rest : List Line) → form line.text ≡ Continued → lines_behind (line ∷ rest) ≡ lines_behind rest
-unfolding lines_behind
-lines_behind-continued line rest is = rw (is, lines_behind) refl
-
-pub lines_behind-whole : (line : Line) (rest : List Line) → form line.text ≡ Whole → lines_behind (line ∷ rest) ≡ joined_lines rest
-unfolding lines_behind
-lines_behind-whole line rest is = rw (is, lines_behind) refl
+lines_behind-line f line rest is = rw (is, lines_behind) refl
 
 -- a continued line has a byte, its backslash
 pub continued_some : (text : List ℕ) → form text ≡ Continued → 0 < length text
@@ -74,23 +57,23 @@ continued_some (b ∷ text) is = omega arith
 -- lines that begin nothing
 pub logical_of-blank : (line : Line) (rest : List Line) → form line.text ≡ Blank → logical_of (line ∷ rest) ≡ logical_of rest
 unfolding logical_of
-logical_of-blank line rest is = ap (λ v. filter has_text (map trimmed_line v)) (joined_lines-blank line rest is)
+logical_of-blank line rest is = ap (λ v. filter has_text (map trimmed_line v)) (joined_lines-line Blank line rest is)
 
 pub logical_of-comment : (line : Line) (rest : List Line) → form line.text ≡ Comment → logical_of (line ∷ rest) ≡ logical_of rest
 unfolding logical_of
-logical_of-comment line rest is = ap (λ v. filter has_text (map trimmed_line v)) (joined_lines-comment line rest is)
+logical_of-comment line rest is = ap (λ v. filter has_text (map trimmed_line v)) (joined_lines-line Comment line rest is)
 
 -- a line that is whole by itself
 pub logical_of-whole : (line : Line) (rest : List Line) → form line.text ≡ Whole → logical_of (line ∷ rest) ≡ kept (trimmed_line line) (logical_of rest)
 unfolding logical_of
-logical_of-whole line rest is = ap (λ v. filter has_text (map trimmed_line v)) (joined_lines-whole line rest is)
+logical_of-whole line rest is = ap (λ v. filter has_text (map trimmed_line v)) (joined_lines-line Whole line rest is)
 
 -- a continued line, with the lines behind what it goes on with
 pub logical_of-continued : (line : Line) (rest after : List Line) → form line.text ≡ Continued → lines_behind rest ≡ joined_lines after
     → logical_of (line ∷ rest) ≡ kept (trimmed_line (joined line rest)) (logical_of after)
 unfolding logical_of
 logical_of-continued line rest after is behind =
-    ap (λ v. filter has_text (map trimmed_line v)) (joined_lines-continued line rest is ∙ ap (λ v. joined line rest ∷ v) behind)
+    ap (λ v. filter has_text (map trimmed_line v)) (joined_lines-line Continued line rest is ∙ ap (λ v. joined line rest ∷ v) behind)
 
 pub logical_of-nil : logical_of [] ≡ []
 unfolding logical_of
