@@ -1,6 +1,7 @@
 -- What was kept of the values of each key so far, and what one more assignment makes of it.
 use Rattle.std.proofs.Common.{◌≡◌, ℕ, ◌<◌, ◌≤◌, Bool, true, false, cond, ◌&&◌, ◌||◌, not, nat_le, List, [], ◌∷◌, ◌++◌, map, filter, length, drop, refl, ap, sym, ◌∙◌, append-nil, length-append, arith}
 use Rattle.std.specs.List.{list_any}
+use Rattle.std.proofs.Math.Bool.{and-false}
 use Rattle.std.proofs.lemmas.Bool.{true≢false}
 use Rattle.std.proofs.lemmas.Bool.Decides.{nat_tests}
 use Rattle.std.proofs.lemmas.List.{map-append, drop-append-le}
@@ -16,10 +17,6 @@ use Rattle.setting_rules.specs.Settings.{key_of, rule_at, counts, emptied_by, re
 use Rattle.setting_rules.specs.ResetLaws.{behind_last-push, given-append, filter-none, filter-behind_last-none, filter-drop-none}
 use Rattle.setting_rules.proofs.Firsts.{pairs, pairs_alike, changed_pairs, firsts-push, any_firsts, apart_firsts}
 use Rattle.setting_rules.proofs.Starts.{drop_past}
-
-pub and_false : (b : Bool) → (b && false) ≡ false
-and_false true = refl
-and_false false = refl
 
 pub given_passed : (k : SettingKey) (x : Assignment) (l : List Assignment) → gives k x ≡ false → given k (l ++ x ∷ []) ≡ given k l
 given_passed k x l h =
@@ -71,7 +68,7 @@ module _ (c a : ℕ) where
     pub no_change : counts x ≡ false → ((k : SettingKey) → rule_at k ≡ Plain → resets k x ≡ false) → pairs (kept p) (keys_of p) ≡ pairs (kept (p ++ x ∷ [])) (keys_of (p ++ x ∷ []))
     unfolding keys_of
     no_change h reset =
-        pairs_alike (kept p) (kept (p ++ x ∷ [])) (keys_of p) (λ k. unaffected k x p (ap (λ b. same_key k (key_of x) && b && not (is_empty x.value)) h ∙ ap (λ b. b && not (is_empty x.value)) (and_false (same_key k (key_of x)))) (reset k))
+        pairs_alike (kept p) (kept (p ++ x ∷ [])) (keys_of p) (λ k. unaffected k x p (ap (λ b. same_key k (key_of x) && b && not (is_empty x.value)) h ∙ ap (λ b. b && not (is_empty x.value)) (and-false (same_key k (key_of x)))) (reset k))
         ∙ ap (λ l. pairs (kept (p ++ x ∷ [])) (firsts (map key_of l))) (sym (filter-append counts p (x ∷ []) ∙ ap (λ b. filter counts p ++ cond b (x ∷ []) []) h ∙ append-nil (filter counts p)))
 
     plain_stays : (r : KeyRule) (b : Bool) → b ≡ false → emptied_by r Plain b ≡ false
@@ -88,7 +85,7 @@ module _ (c a : ℕ) where
     other_resets : (k : SettingKey) → same_key (key_of x) k ≡ false → rule_at k ≡ Plain → resets k x ≡ false
     other_resets k h e =
         ap (λ r. is_empty x.value && emptied_by (rule_of x.section x.key) r (same_key k (key_of x))) e
-        ∙ ap (λ b. is_empty x.value && b) (plain_stays (rule_of x.section x.key) (same_key k (key_of x)) (same_key_turned k (key_of x) ∙ h)) ∙ and_false (is_empty x.value)
+        ∙ ap (λ b. is_empty x.value && b) (plain_stays (rule_of x.section x.key) (same_key k (key_of x)) (same_key_turned k (key_of x) ∙ h)) ∙ and-false (is_empty x.value)
 
     -- of a key without an assignment that counts nothing is kept
     none_kept : (q : SettingKey) → list_any (same_key q) (keys_of p) ≡ false → kept p q ≡ []
@@ -100,7 +97,7 @@ module _ (c a : ℕ) where
         none (y ∷ l) h = at (counts y) refl h (none l)
           where
             at : (b : Bool) → counts y ≡ b → list_any (same_key q) (map key_of (cond b (y ∷ filter counts l) (filter counts l))) ≡ false → (list_any (same_key q) (map key_of (filter counts l)) ≡ false → list_any (gives q) l ≡ false) → (gives q y || list_any (gives q) l) ≡ false
-            at false e h more = ap (λ b. (same_key q (key_of y) && b && not (is_empty y.value)) || list_any (gives q) l) e ∙ ap (λ b. (b && not (is_empty y.value)) || list_any (gives q) l) (and_false (same_key q (key_of y))) ∙ more h
+            at false e h more = ap (λ b. (same_key q (key_of y) && b && not (is_empty y.value)) || list_any (gives q) l) e ∙ ap (λ b. (b && not (is_empty y.value)) || list_any (gives q) l) (and-false (same_key q (key_of y))) ∙ more h
             at true e h more = here (same_key q (key_of y)) refl h more
               where
                 here : (b : Bool) → same_key q (key_of y) ≡ b → (b || list_any (same_key q) (map key_of (filter counts l))) ≡ false → (list_any (same_key q) (map key_of (filter counts l)) ≡ false → list_any (gives q) l ≡ false) → (gives q y || list_any (gives q) l) ≡ false

@@ -1,6 +1,6 @@
 -- One more assignment, and all of them.
-use Rattle.std.proofs.Common.{◌≡◌, ℕ, ◌+◌, ◌<◌, ◌≤◌, ◌-◌, Bool, true, false, cond, ◌&&◌, ◌||◌, not, nat_le, is_some, Some, None, List, [], ◌∷◌, ◌++◌, map, filter, length, take, drop, get_or, refl, ap, sym, ◌∙◌, length-append, arith}
-use Rattle.std.specs.List.{list_any}
+use Rattle.std.proofs.Common.{◌≡◌, ℕ, ◌+◌, ◌<◌, ◌≤◌, ◌-◌, Bool, true, false, cond, ◌&&◌, not, nat_le, is_some, Some, None, List, [], ◌∷◌, ◌++◌, map, filter, length, take, drop, get_or, refl, ap, sym, ◌∙◌, length-append, arith}
+use Rattle.std.proofs.Math.Bool.{and-false}
 use Rattle.std.proofs.lemmas.Bool.{true≢false, and_from}
 use Rattle.std.proofs.lemmas.Bool.Decides.{nat_tests}
 use Rattle.std.proofs.lemmas.List.{map-append, drop-append-le, take_more, length-take-le}
@@ -16,10 +16,10 @@ use Rattle.setting_rules.specs.Rules.{Text, is_empty, boolean, rule_of, same_rul
 use Rattle.setting_rules.specs.Maps.{SettingMap, same_key}
 use Rattle.setting_rules.specs.KeyLaws.{same_key_itself}
 use Rattle.setting_rules.specs.Settings.{key_of, rule_at, counts, counts_by, emptied_by, resets, gives, given, behind_last, last_alone, counted, keys_of, values_of, settings_of, boolean_notes, is_bad, is_bad_by, note_on}
-use Rattle.setting_rules.specs.ResetLaws.{behind_last-push, behind_last-none}
+use Rattle.setting_rules.specs.ResetLaws.{behind_last-push, behind_last-none, is_never_emptied, none_resets}
 use Rattle.setting_rules.specs.Effects.{effect, changed_by, start_of, resets_family}
 use Rattle.setting_rules.proofs.Firsts.{pairs, pairs_alike}
-use Rattle.setting_rules.proofs.Kept.{kept, live_by, no_change, change, given_taken, given_passed, drop_later, and_false}
+use Rattle.setting_rules.proofs.Kept.{kept, live_by, no_change, change, given_taken, given_passed, drop_later}
 
 last_alone-push : (values : List Text) (v : Text) → last_alone (values ++ v ∷ []) ≡ v ∷ []
 last_alone-push values v =
@@ -39,7 +39,7 @@ module _ (c a : ℕ) (p : List Assignment) (x : Assignment) where
   taken h e = and_from (same_key (key_of x) (key_of x) && counts x) (not (is_empty x.value)) (and_from (same_key (key_of x) (key_of x)) (counts x) (same_key_itself (key_of x)) h) (ap not e)
 
   passed : is_empty x.value ≡ true → gives (key_of x) x ≡ false
-  passed e = ap (λ b. same_key (key_of x) (key_of x) && counts x && not b) e ∙ and_false (same_key (key_of x) (key_of x) && counts x)
+  passed e = ap (λ b. same_key (key_of x) (key_of x) && counts x && not b) e ∙ and-false (same_key (key_of x) (key_of x) && counts x)
 
   kept_as : (r : KeyRule) (l : List Assignment) → rule_of x.section x.key ≡ r → kept c a l (key_of x) ≡ counted r (given (key_of x) (live_by c a r (key_of x) l))
   kept_as r l e = ap (λ r. counted r (given (key_of x) (live_by c a r (key_of x) l))) e
@@ -48,7 +48,7 @@ module _ (c a : ℕ) (p : List Assignment) (x : Assignment) where
   never_resets r e never k d =
       ap (λ r. is_empty x.value && emptied_by r (rule_at k) (same_key k (key_of x))) e
       ∙ ap (λ q. is_empty x.value && emptied_by r q (same_key k (key_of x))) d
-      ∙ ap (λ b. is_empty x.value && b) (never (same_key k (key_of x))) ∙ and_false (is_empty x.value)
+      ∙ ap (λ b. is_empty x.value && b) (never (same_key k (key_of x))) ∙ and-false (is_empty x.value)
 
   counts_as : (r : KeyRule) → rule_of x.section x.key ≡ r → counts x ≡ counts_by r x.value
   counts_as r e = ap (λ r. counts_by r x.value) e
@@ -115,71 +115,33 @@ module _ (c a : ℕ) (p : List Assignment) (x : Assignment) where
               ap (given (key_of x)) (pushed false (ap (λ b. b && emptied_by (rule_of x.section x.key) (rule_of x.section x.key) (same_key (key_of x) (key_of x))) d))
               ∙ given_taken (key_of x) x (behind_last (resets (key_of x)) p) (taken h d)
 
-none_any : {X : Type 0} (t : X → Bool) (l : List X) → ((y : X) → t y ≡ false) → list_any t l ≡ false
-none_any t [] h = refl
-none_any t (y ∷ l) h = ap (λ b. b || list_any t l) (h y) ∙ none_any t l h
-
 -- what was kept of all assignments is the values that count
 pub kept_whole : (c a : ℕ) (l : List Assignment) → drop c l ≡ behind_last (resets_family Condition) l → drop a l ≡ behind_last (resets_family Assertion) l → (k : SettingKey) → values_of k l ≡ kept c a l k
 unfolding values_of
 kept_whole c a l conditions assertions k = by (rule_at k) refl
   where
-    -- the resets of a key with this rule, as the test is for each assignment
-    tests : (r : KeyRule) → rule_at k ≡ r → (t : Assignment → Bool) → ((y : Assignment) → (is_empty y.value && emptied_by (rule_of y.section y.key) r (same_key k (key_of y))) ≡ t y) → (y : Assignment) → resets k y ≡ t y
-    tests r e t h y = ap (λ q. is_empty y.value && emptied_by (rule_of y.section y.key) q (same_key k (key_of y))) e ∙ h y
-
-    never : (r : KeyRule) → rule_at k ≡ r → ((q : KeyRule) (b : Bool) → emptied_by q r b ≡ false) → behind_last (resets k) l ≡ l
-    never r e h = behind_last-none (resets k) l (none_any (resets k) l (tests r e (λ _. false) (λ y. ap (λ b. is_empty y.value && b) (h (rule_of y.section y.key) (same_key k (key_of y))) ∙ and_false (is_empty y.value))))
+    never : (r : KeyRule) → rule_at k ≡ r → is_never_emptied r ≡ true → behind_last (resets k) l ≡ l
+    never r e h = behind_last-none (resets k) l (none_resets k l (ap is_never_emptied e ∙ h))
 
     family : (r : KeyRule) (n : ℕ) → rule_at k ≡ r → ((q : KeyRule) (b : Bool) → emptied_by q r b ≡ same_rule q r) → drop n l ≡ behind_last (resets_family r) l → behind_last (resets k) l ≡ drop n l
     family r n e h start =
-        let alike = tests r e (resets_family r) (λ y. ap (λ b. is_empty y.value && b) (h (rule_of y.section y.key) (same_key k (key_of y)))) in
+        let alike = λ (y : Assignment).
+        ap (λ q. is_empty y.value && emptied_by (rule_of y.section y.key) q (same_key k (key_of y))) e
+        ∙ ap (λ b. is_empty y.value && b) (h (rule_of y.section y.key) (same_key k (key_of y))) in
         ap (λ t. behind_last t l) (λ i y. alike y i) ∙ sym start
 
-    ignored : (q : KeyRule) (b : Bool) → emptied_by q Ignored b ≡ false
-    ignored Ignored b = refl
-    ignored Dependency b = refl
-    ignored Switch b = refl
-    ignored Condition b = refl
-    ignored Assertion b = refl
-    ignored Plain b = refl
-
-    dependency : (q : KeyRule) (b : Bool) → emptied_by q Dependency b ≡ false
-    dependency Ignored b = refl
-    dependency Dependency b = refl
-    dependency Switch b = refl
-    dependency Condition b = refl
-    dependency Assertion b = refl
-    dependency Plain b = refl
-
-    switch : (q : KeyRule) (b : Bool) → emptied_by q Switch b ≡ false
-    switch Ignored b = refl
-    switch Dependency b = refl
-    switch Switch b = refl
-    switch Condition b = refl
-    switch Assertion b = refl
-    switch Plain b = refl
-
     condition : (q : KeyRule) (b : Bool) → emptied_by q Condition b ≡ same_rule q Condition
-    condition Ignored b = refl
-    condition Dependency b = refl
-    condition Switch b = refl
     condition Condition b = refl
-    condition Assertion b = refl
-    condition Plain b = refl
+    condition q b = refl
 
     assertion : (q : KeyRule) (b : Bool) → emptied_by q Assertion b ≡ same_rule q Assertion
-    assertion Ignored b = refl
-    assertion Dependency b = refl
-    assertion Switch b = refl
-    assertion Condition b = refl
     assertion Assertion b = refl
-    assertion Plain b = refl
+    assertion q b = refl
 
     by : (r : KeyRule) → rule_at k ≡ r → counted r (given k (behind_last (resets k) l)) ≡ counted r (given k (live_by c a r k l))
-    by Ignored e = ap (given k) (never Ignored e ignored)
-    by Dependency e = ap (given k) (never Dependency e dependency)
-    by Switch e = ap (λ m. last_alone (given k m)) (never Switch e switch)
+    by Ignored e = ap (given k) (never Ignored e refl)
+    by Dependency e = ap (given k) (never Dependency e refl)
+    by Switch e = ap (λ m. last_alone (given k m)) (never Switch e refl)
     by Condition e = ap (given k) (family Condition c e condition conditions)
     by Assertion e = ap (given k) (family Assertion a e assertion assertions)
     by Plain e = refl

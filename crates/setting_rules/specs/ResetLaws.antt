@@ -1,6 +1,7 @@
 -- What resets leave.
 use Rattle.std.proofs.Common.{◌≡◌, ℕ, zero, suc, Bool, true, false, cond, ◌&&◌, ◌||◌, not, List, [], ◌∷◌, ◌++◌, map, filter, find, Some, drop, refl, ap, sym, ◌∙◌}
 use Rattle.std.specs.List.{list_any}
+use Rattle.std.proofs.Math.Bool.{and-false}
 use Rattle.std.proofs.lemmas.Bool.{true≢false}
 use Rattle.std.proofs.lemmas.List.{map-append}
 use Rattle.std.proofs.lemmas.List.Elements.{filter-append}
@@ -141,11 +142,7 @@ pub other_keys_change_nothing : OtherKeysChangeNothing
 other_keys_change_nothing k before after a other apart =
     others_change_nothing k before after a
     (ap (λ b. b && counts a && not (is_empty a.value)) other)
-    (ap (λ b. is_empty a.value && emptied_by (rule_of a.section a.key) (rule_at k) b) other ∙ ap (λ b. is_empty a.value && b) apart ∙ and_false (is_empty a.value))
-  where
-    and_false : (b : Bool) → (b && false) ≡ false
-    and_false true = refl
-    and_false false = refl
+    (ap (λ b. is_empty a.value && emptied_by (rule_of a.section a.key) (rule_at k) b) other ∙ ap (λ b. is_empty a.value && b) apart ∙ and-false (is_empty a.value))
 
 -- no assignment to a key that isn't entered gives it a value
 none_given : (k : SettingKey) (l : List Assignment) → list_any (same_key k) (map key_of (filter counts l)) ≡ false → list_any (gives k) l ≡ false
@@ -224,6 +221,32 @@ settings_show_values k items = by (list_any (same_key k) (keys_of items)) refl
     by true h = found (keys_of items) h
     by false h = absent (keys_of items) h ∙ sym (nothing h)
 
+-- no empty value empties the keys with this rule
+abbrev pub is_never_emptied : KeyRule → Bool
+is_never_emptied Ignored = true
+is_never_emptied Dependency = true
+is_never_emptied Switch = true
+is_never_emptied rule = false
+
+never_emptied : (by rule : KeyRule) (itself : Bool) → is_never_emptied rule ≡ true → emptied_by by rule itself ≡ false
+never_emptied Condition Condition itself h = absurd (true≢false (sym h))
+never_emptied Assertion Assertion itself h = absurd (true≢false (sym h))
+never_emptied Plain Plain itself h = absurd (true≢false (sym h))
+never_emptied by rule itself h = refl
+
+-- so no assignment empties such a key
+pub none_resets : (k : SettingKey) (items : List Assignment) → is_never_emptied (rule_at k) ≡ true → list_any (resets k) items ≡ false
+none_resets k [] h = refl
+none_resets k (a ∷ items) h =
+    ap (λ b. (is_empty a.value && b) || list_any (resets k) items)
+    (never_emptied (rule_of a.section a.key) (rule_at k) (same_key k (key_of a)) h)
+    ∙ ap (λ b. b || list_any (resets k) items) (and-false (is_empty a.value)) ∙ none_resets k items h
+
+-- and the settings have all that is given it
+pub settings_keep_all : (k : SettingKey) (items : List Assignment) → is_never_emptied (rule_at k) ≡ true
+    → values_at (settings_of items) k ≡ counted (rule_at k) (given k items)
+settings_keep_all k items h = settings_show_values k items ∙ keeps_all_values k items (none_resets k items h)
+
 -- An assignment that doesn't count changes nothing at all, as an empty one of a key that sets dependencies.
 abbrev pub PassedOverChangesNothing : Type 0
 PassedOverChangesNothing = (before after : List Assignment) (a : Assignment) → counts a ≡ false → settings_of (before ++ a ∷ after) ≡ settings_of (before ++ after)
@@ -235,10 +258,6 @@ passed_over_changes_nothing before after a h =
     (filter-append counts before (a ∷ after) ∙ ap (λ b. filter counts before ++ cond b (a ∷ filter counts after) (filter counts after)) h ∙ sym (filter-append counts before after))
     ∙ alike (firsts (map key_of (filter counts (before ++ after))))
   where
-    and_false : (b : Bool) → (b && false) ≡ false
-    and_false true = refl
-    and_false false = refl
-
     silent : (r : KeyRule) → counts_by r a.value ≡ false → (q : KeyRule) (b : Bool) → emptied_by r q b ≡ false
     silent Ignored h q b = refl
     silent Dependency h q b = refl
@@ -250,8 +269,8 @@ passed_over_changes_nothing before after a h =
     stays : (k : SettingKey) → values_of k (before ++ a ∷ after) ≡ values_of k (before ++ after)
     stays k =
         others_change_nothing k before after a
-        (ap (λ b. same_key k (key_of a) && b && not (is_empty a.value)) h ∙ ap (λ b. b && not (is_empty a.value)) (and_false (same_key k (key_of a))))
-        (ap (λ b. is_empty a.value && b) (silent (rule_of a.section a.key) h (rule_at k) (same_key k (key_of a))) ∙ and_false (is_empty a.value))
+        (ap (λ b. same_key k (key_of a) && b && not (is_empty a.value)) h ∙ ap (λ b. b && not (is_empty a.value)) (and-false (same_key k (key_of a))))
+        (ap (λ b. is_empty a.value && b) (silent (rule_of a.section a.key) h (rule_at k) (same_key k (key_of a))) ∙ and-false (is_empty a.value))
 
     alike : (ks : List SettingKey) → map {B = SettingKey × List Text} (λ k. (k, values_of k (before ++ a ∷ after))) ks ≡ map (λ k. (k, values_of k (before ++ after))) ks
     alike [] = refl

@@ -89,12 +89,8 @@ settings_of items = map (λ k. (k, values_of k items)) (keys_of items)
 
 -- a value of a key with this rule is to be a boolean and is none
 abbrev pub is_bad_by : KeyRule → Text → Bool
-is_bad_by Ignored value = false
-is_bad_by Dependency value = false
 is_bad_by Switch value = is_none (boolean value)
-is_bad_by Condition value = false
-is_bad_by Assertion value = false
-is_bad_by Plain value = false
+is_bad_by rule value = false
 
 abbrev pub is_bad : Assignment → Bool
 is_bad a = is_bad_by (rule_of a.section a.key) a.value

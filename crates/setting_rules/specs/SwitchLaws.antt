@@ -4,15 +4,14 @@ use Rattle.std.proofs.Common.{◌≡◌, Bool, true, false, cond, ◌&&◌, ◌|
 use Rattle.std.specs.List.{All, list_any}
 use Rattle.std.proofs.lemmas.List.Elements.{All-head, All-tail}
 use Rattle.section_reader.specs.declared.assignments.Assignment.{Assignment}
-use Rattle.setting_rules.specs.declared.rules.KeyRule.{KeyRule}
-use Rattle.setting_rules.specs.declared.rules.KeyRule.TheVariants.{Ignored, Dependency, Switch, Condition, Assertion, Plain}
+use Rattle.setting_rules.specs.declared.rules.KeyRule.TheVariants.{Switch}
 use Rattle.setting_rules.specs.Kinds.{settable_kind}
 use Rattle.setting_rules.specs.Rules.{Text, is_empty, boolean, rule_of}
 use Rattle.setting_rules.specs.Maps.{same_key, values_at}
 use Rattle.setting_rules.specs.KeyLaws.{same_key_is, same_key_itself}
-use Rattle.setting_rules.specs.Settings.{key_of, rule_at, behind_last, counts, counts_by, counted, last_alone, emptied_by, gives, given, resets, values_of, settings_of}
+use Rattle.setting_rules.specs.Settings.{key_of, rule_at, counts, counts_by, counted, last_alone, gives, given, settings_of}
 use Rattle.setting_rules.specs.Switches.{manual_start_key, says_yes, last_value, refuses}
-use Rattle.setting_rules.specs.ResetLaws.{behind_last-none, filter-none, given-append, settings_show_values}
+use Rattle.setting_rules.specs.ResetLaws.{filter-none, given-append, is_never_emptied, settings_keep_all}
 use Rattle.setting_rules.specs.JoinLaws.{last_behind}
 
 -- an assignment gives the switch no good boolean
@@ -37,34 +36,11 @@ switch_rule : rule_at manual_start_key ≡ Switch
 unfolding rule_of settable_kind
 switch_rule = refl
 
--- no assignment empties the switch
-never_reset : (items : List Assignment) → list_any (resets manual_start_key) items ≡ false
-never_reset [] = refl
-never_reset (a ∷ items) =
-    ap (λ r. (is_empty a.value && emptied_by (rule_of a.section a.key) r (same_key manual_start_key (key_of a))) || list_any (resets manual_start_key) items) switch_rule
-    ∙ ap (λ b. (is_empty a.value && b) || list_any (resets manual_start_key) items) (stays (rule_of a.section a.key) (same_key manual_start_key (key_of a)))
-    ∙ ap (λ b. b || list_any (resets manual_start_key) items) (and_false (is_empty a.value))
-    ∙ never_reset items
-  where
-    stays : (r : KeyRule) (itself : Bool) → emptied_by r Switch itself ≡ false
-    stays Ignored itself = refl
-    stays Dependency itself = refl
-    stays Switch itself = refl
-    stays Condition itself = refl
-    stays Assertion itself = refl
-    stays Plain itself = refl
-
-    and_false : (b : Bool) → (b && false) ≡ false
-    and_false true = refl
-    and_false false = refl
-
--- so its value is the last that is given
+-- nothing empties the switch, so its value is the last that is given
 switch_values : (items : List Assignment) → values_at (settings_of items) manual_start_key ≡ last_alone (given manual_start_key items)
-unfolding values_of
 switch_values items =
-    settings_show_values manual_start_key items
-    ∙ ap (λ r. counted r (given manual_start_key (behind_last (resets manual_start_key) items))) switch_rule
-    ∙ ap (λ l. last_alone (given manual_start_key l)) (behind_last-none (resets manual_start_key) items (never_reset items))
+    settings_keep_all manual_start_key items (ap is_never_emptied switch_rule)
+    ∙ ap (λ r. counted r (given manual_start_key items)) switch_rule
 
 -- whether an assignment to the switch counts
 counts_where_good : (a : Assignment) → key_of a ≡ manual_start_key → counts a ≡ is_some (boolean a.value)
