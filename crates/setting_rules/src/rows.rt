@@ -55,23 +55,8 @@ impl Values {
             ≡ self.old.notes ++ (if is_dependency key.now then [] else escape_notes_at unit.now key.now texts.now)) }
     {
         if key.sets_dependencies() {
-            Ok(())
-        } else {
-            self.add_values(alloc, key, texts, unit)
+            return Ok(());
         }
-    }
-
-    // Adds values of a key.
-    fn add_values(
-        &mut self,
-        alloc: Global,
-        key: &SettingKey,
-        texts: &[Bytes],
-        unit: &UnitName,
-    ) -> Result<(), AllocError>
-        ensures rows { OnOk result (self.new.rows ≡ self.old.rows ++ rows_at unit.now key.now texts.now) }
-        ensures notes { OnOk result (self.new.notes ≡ self.old.notes ++ escape_notes_at unit.now key.now texts.now) }
-    {
         for text in texts {
             self.add_value(alloc, key, text, unit)?;
         }

@@ -1,6 +1,6 @@
 use Rattle.setting_rules.specs.Rows.{rows_at, escape_notes_at}
 use Rattle.setting_rules.proofs.RowLemmas.{texts_more, rows_at-append, escape_notes_at-append}
-use Rattle.setting_rules.proofs.rows.Values.add_values.Goals as goal
+use Rattle.setting_rules.proofs.rows.Values.add_key.Goals as goal
 
 pub loop-text-preserved : goal.loop-text-preserved
 loop-text-preserved c =

@@ -1,6 +1,6 @@
 use Rattle.std.proofs.Common.{◌≡◌, ◌++◌, take}
 use Rattle.setting_rules.specs.Rows.{rows_at, escape_notes_at}
-use Rattle.setting_rules.proofs.rows.Values.add_values.Given as goal
+use Rattle.setting_rules.proofs.rows.Values.add_key.Given as goal
 
 abbrev pub invariant-loop-text : goal.invariant-loop-text
 invariant-loop-text l =
