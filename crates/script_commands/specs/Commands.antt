@@ -10,6 +10,16 @@ use Rattle.script_commands.specs.declared.commands.Command.TheVariants.{Node, Pu
 use Rattle.script_commands.specs.declared.commands.LineRefusal.{LineRefusal}
 use Rattle.script_commands.specs.declared.commands.LineRefusal.TheVariants.{UnknownCommand, Arguments}
 
+-- a command of a name and a word
+abbrev pub with_name_and_word : (List ℕ → List ℕ → Command) → List (List ℕ) → Result Command LineRefusal
+with_name_and_word command (name ∷ word ∷ []) = if is_name name then Ok (command name word) else Err Arguments
+with_name_and_word command words = Err Arguments
+
+-- a command of two names
+abbrev pub with_two_names : (List ℕ → List ℕ → Command) → List (List ℕ) → Result Command LineRefusal
+with_two_names command (first ∷ second ∷ []) = if is_name first && is_name second then Ok (command first second) else Err Arguments
+with_two_names command words = Err Arguments
+
 abbrev pub node_with : List ℕ → Option ℕ → Result Command LineRefusal
 node_with name None = Err Arguments
 node_with name (Some writer) = if is_name name then Ok (Node name writer) else Err Arguments
@@ -27,22 +37,10 @@ abbrev pub link_command : List (List ℕ) → Result Command LineRefusal
 link_command (node ∷ path ∷ target ∷ []) = if is_name node then Ok (Link node path target) else Err Arguments
 link_command words = Err Arguments
 
-abbrev pub remove_command : List (List ℕ) → Result Command LineRefusal
-remove_command (node ∷ path ∷ []) = if is_name node then Ok (Remove node path) else Err Arguments
-remove_command words = Err Arguments
-
-abbrev pub merge_command : List (List ℕ) → Result Command LineRefusal
-merge_command (from ∷ to ∷ []) = if is_name from && is_name to then Ok (Merge from to) else Err Arguments
-merge_command words = Err Arguments
-
 -- the paths are the words that follow; there may be none
 abbrev pub part_command : List (List ℕ) → Result Command LineRefusal
 part_command (piece ∷ from ∷ to ∷ paths) = if is_name piece && is_name from && is_name to then Ok (Part piece from to paths) else Err Arguments
 part_command words = Err Arguments
-
-abbrev pub send_command : List (List ℕ) → Result Command LineRefusal
-send_command (piece ∷ node ∷ []) = if is_name piece && is_name node then Ok (Send piece node) else Err Arguments
-send_command words = Err Arguments
 
 abbrev pub sweep_command : List (List ℕ) → Result Command LineRefusal
 sweep_command [] = Ok Sweep
@@ -51,18 +49,6 @@ sweep_command words = Err Arguments
 abbrev pub files_command : List (List ℕ) → Result Command LineRefusal
 files_command (node ∷ []) = if is_name node then Ok (Files node) else Err Arguments
 files_command words = Err Arguments
-
-abbrev pub cat_command : List (List ℕ) → Result Command LineRefusal
-cat_command (node ∷ unit ∷ []) = if is_name node then Ok (Cat node unit) else Err Arguments
-cat_command words = Err Arguments
-
-abbrev pub show_command : List (List ℕ) → Result Command LineRefusal
-show_command (node ∷ unit ∷ []) = if is_name node then Ok (Show node unit) else Err Arguments
-show_command words = Err Arguments
-
-abbrev pub list_command : List (List ℕ) → Result Command LineRefusal
-list_command (node ∷ unit ∷ []) = if is_name node then Ok (ListUnits node unit) else Err Arguments
-list_command words = Err Arguments
 
 -- the units that run are the words that follow; there may be none
 abbrev pub plan_command : List (List ℕ) → Result Command LineRefusal
@@ -76,10 +62,6 @@ workers_with (Some count) = Ok (Workers count)
 abbrev pub workers_command : List (List ℕ) → Result Command LineRefusal
 workers_command (count ∷ []) = workers_with (number_of count)
 workers_command words = Err Arguments
-
-abbrev pub same_command : List (List ℕ) → Result Command LineRefusal
-same_command (left ∷ right ∷ []) = if is_name left && is_name right then Ok (Same left right) else Err Arguments
-same_command words = Err Arguments
 
 -- a number of 32 bits, and at most 1,000 edits
 abbrev pub crowd_with : List ℕ → Option ℕ → Option ℕ → Result Command LineRefusal
@@ -95,12 +77,12 @@ crowd_command words = Err Arguments
 abbrev pub question_of : List ℕ → List (List ℕ) → Result Command LineRefusal
 question_of verb words =
     if bytes_eq verb (codes "files") then files_command words
-    else (if bytes_eq verb (codes "cat") then cat_command words
-    else (if bytes_eq verb (codes "show") then show_command words
-    else (if bytes_eq verb (codes "list") then list_command words
+    else (if bytes_eq verb (codes "cat") then with_name_and_word Cat words
+    else (if bytes_eq verb (codes "show") then with_name_and_word Show words
+    else (if bytes_eq verb (codes "list") then with_name_and_word ListUnits words
     else (if bytes_eq verb (codes "plan") then plan_command words
     else (if bytes_eq verb (codes "workers") then workers_command words
-    else (if bytes_eq verb (codes "same") then same_command words
+    else (if bytes_eq verb (codes "same") then with_two_names Same words
     else (if bytes_eq verb (codes "crowd") then crowd_command words
     else Err UnknownCommand)))))))
 
@@ -110,10 +92,10 @@ change_of verb words text =
     if bytes_eq verb (codes "node") then node_command words
     else (if bytes_eq verb (codes "put") then put_command words text
     else (if bytes_eq verb (codes "link") then link_command words
-    else (if bytes_eq verb (codes "remove") then remove_command words
-    else (if bytes_eq verb (codes "merge") then merge_command words
+    else (if bytes_eq verb (codes "remove") then with_name_and_word Remove words
+    else (if bytes_eq verb (codes "merge") then with_two_names Merge words
     else (if bytes_eq verb (codes "part") then part_command words
-    else (if bytes_eq verb (codes "send") then send_command words
+    else (if bytes_eq verb (codes "send") then with_two_names Send words
     else (if bytes_eq verb (codes "sweep") then sweep_command words
     else question_of verb words)))))))
 

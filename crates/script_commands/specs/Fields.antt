@@ -4,18 +4,25 @@ use Rattle.std.specs.Prelude.{◌≡◌, ◌<◌, ℕ, false, List, [], ◌∷�
 use Rattle.script_words.specs.Names.{is_name}
 use Rattle.script_words.specs.Numbers.{number_of}
 
+-- these are none, or the first fails so
+abbrev FirstFails : (List ℕ → Type 0) → List (List ℕ) → Type 0
+FirstFails Fails [] = Unit {0}
+FirstFails Fails (first ∷ words) = Fails first
+
+-- these aren't one word, or the one fails so
+abbrev OneFails : (List ℕ → Type 0) → List (List ℕ) → Type 0
+OneFails Fails (word ∷ []) = Fails word
+OneFails Fails words = Unit {0}
+
 abbrev pub AreNotOne : List (List ℕ) → Type 0
-AreNotOne (first ∷ []) = ⊥
-AreNotOne words = Unit {0}
+AreNotOne = OneFails (λ word. ⊥)
 
 -- these don't begin with a name
 abbrev pub BeginsWithNoName : List (List ℕ) → Type 0
-BeginsWithNoName [] = Unit {0}
-BeginsWithNoName (first ∷ words) = is_name first ≡ false
+BeginsWithNoName = FirstFails (λ word. is_name word ≡ false)
 
 abbrev pub AreNotOneName : List (List ℕ) → Type 0
-AreNotOneName (name ∷ []) = is_name name ≡ false
-AreNotOneName words = Unit {0}
+AreNotOneName = OneFails (λ word. is_name word ≡ false)
 
 -- the first of these writes this number, and those follow
 abbrev pub BeginsWithNumber : ℕ → List (List ℕ) → List (List ℕ) → Type 0
@@ -24,12 +31,10 @@ BeginsWithNumber number (word ∷ words) rest = (number_of word ≡ Some number)
 
 -- these don't begin with a number
 abbrev pub BeginsWithNoNumber : List (List ℕ) → Type 0
-BeginsWithNoNumber [] = Unit {0}
-BeginsWithNoNumber (word ∷ words) = number_of word ≡ None
+BeginsWithNoNumber = FirstFails (λ word. number_of word ≡ None)
 
 abbrev pub AreNotOneNumber : List (List ℕ) → Type 0
-AreNotOneNumber (word ∷ []) = number_of word ≡ None
-AreNotOneNumber words = Unit {0}
+AreNotOneNumber = OneFails (λ word. number_of word ≡ None)
 
 -- no number of at most 1,000
 abbrev pub IsNoEditCount : Option ℕ → Type 0
@@ -37,5 +42,4 @@ IsNoEditCount None = Unit {0}
 IsNoEditCount (Some edits) = 1000 < edits
 
 abbrev pub AreNotOneEditCount : List (List ℕ) → Type 0
-AreNotOneEditCount (word ∷ []) = IsNoEditCount (number_of word)
-AreNotOneEditCount words = Unit {0}
+AreNotOneEditCount = OneFails (λ word. IsNoEditCount (number_of word))

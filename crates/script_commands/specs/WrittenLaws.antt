@@ -18,7 +18,7 @@ use Rattle.script_commands.specs.declared.commands.Command.TheVariants.{Node, Pu
 use Rattle.script_commands.specs.declared.commands.Command.{Command}
 use Rattle.script_commands.specs.declared.commands.LineRefusal.{LineRefusal}
 use Rattle.script_commands.specs.declared.commands.LineRefusal.TheVariants.{Arguments, UnknownCommand}
-use Rattle.script_commands.specs.Commands.{command_of, command_of_words, crowd_with, node_with, workers_with}
+use Rattle.script_commands.specs.Commands.{command_of, command_of_words, crowd_with, node_with, with_name_and_word, with_two_names, workers_with}
 
 -- words, with one space between each two
 abbrev pub line_of : List (List ℕ) → List ℕ
@@ -29,6 +29,16 @@ abbrev pub IsName : List ℕ → Type 0
 IsName word = is_name word ≡ true
 
 -- ---- what is written for each command
+
+-- the command of this verb, a name and a word
+abbrev pub NameAndWordAreReadBack : List ℕ → (List ℕ → List ℕ → Command) → Type 0
+NameAndWordAreReadBack verb command = (name word : List ℕ) → IsName name → IsWord word
+    → command_of (line_of (verb ∷ name ∷ word ∷ [])) ≡ Ok (command name word)
+
+-- the command of this verb and two names
+abbrev pub TwoNamesAreReadBack : List ℕ → (List ℕ → List ℕ → Command) → Type 0
+TwoNamesAreReadBack verb command = (first second : List ℕ) → IsName first → IsName second
+    → command_of (line_of (verb ∷ first ∷ second ∷ [])) ≡ Ok (command first second)
 
 -- a writer number of 32 bits, in decimal
 abbrev pub NodeIsReadBack : Type 0
@@ -50,12 +60,10 @@ LinkIsReadBack = (node path target : List ℕ) → IsName node → IsWord path �
     → command_of (line_of (codes "link" ∷ node ∷ path ∷ target ∷ [])) ≡ Ok (Link node path target)
 
 abbrev pub RemoveIsReadBack : Type 0
-RemoveIsReadBack = (node path : List ℕ) → IsName node → IsWord path
-    → command_of (line_of (codes "remove" ∷ node ∷ path ∷ [])) ≡ Ok (Remove node path)
+RemoveIsReadBack = NameAndWordAreReadBack (codes "remove") Remove
 
 abbrev pub MergeIsReadBack : Type 0
-MergeIsReadBack = (from to : List ℕ) → IsName from → IsName to
-    → command_of (line_of (codes "merge" ∷ from ∷ to ∷ [])) ≡ Ok (Merge from to)
+MergeIsReadBack = TwoNamesAreReadBack (codes "merge") Merge
 
 -- any number of paths, also none
 abbrev pub PartIsReadBack : Type 0
@@ -63,8 +71,7 @@ PartIsReadBack = (piece from to : List ℕ) (paths : List (List ℕ)) → IsName
     → command_of (line_of (codes "part" ∷ piece ∷ from ∷ to ∷ paths)) ≡ Ok (Part piece from to paths)
 
 abbrev pub SendIsReadBack : Type 0
-SendIsReadBack = (piece node : List ℕ) → IsName piece → IsName node
-    → command_of (line_of (codes "send" ∷ piece ∷ node ∷ [])) ≡ Ok (Send piece node)
+SendIsReadBack = TwoNamesAreReadBack (codes "send") Send
 
 abbrev pub SweepIsReadBack : Type 0
 SweepIsReadBack = command_of (line_of (codes "sweep" ∷ [])) ≡ Ok Sweep
@@ -74,16 +81,13 @@ FilesIsReadBack = (node : List ℕ) → IsName node
     → command_of (line_of (codes "files" ∷ node ∷ [])) ≡ Ok (Files node)
 
 abbrev pub CatIsReadBack : Type 0
-CatIsReadBack = (node unit : List ℕ) → IsName node → IsWord unit
-    → command_of (line_of (codes "cat" ∷ node ∷ unit ∷ [])) ≡ Ok (Cat node unit)
+CatIsReadBack = NameAndWordAreReadBack (codes "cat") Cat
 
 abbrev pub ShowIsReadBack : Type 0
-ShowIsReadBack = (node unit : List ℕ) → IsName node → IsWord unit
-    → command_of (line_of (codes "show" ∷ node ∷ unit ∷ [])) ≡ Ok (Show node unit)
+ShowIsReadBack = NameAndWordAreReadBack (codes "show") Show
 
 abbrev pub ListIsReadBack : Type 0
-ListIsReadBack = (node unit : List ℕ) → IsName node → IsWord unit
-    → command_of (line_of (codes "list" ∷ node ∷ unit ∷ [])) ≡ Ok (ListUnits node unit)
+ListIsReadBack = NameAndWordAreReadBack (codes "list") ListUnits
 
 -- any number of running units, also none
 abbrev pub PlanIsReadBack : Type 0
@@ -96,8 +100,7 @@ WorkersIsReadBack = (count : ℕ) → count < 2 ^ 32
     → command_of (line_of (codes "workers" ∷ decimal count ∷ [])) ≡ Ok (Workers count)
 
 abbrev pub SameIsReadBack : Type 0
-SameIsReadBack = (left right : List ℕ) → IsName left → IsName right
-    → command_of (line_of (codes "same" ∷ left ∷ right ∷ [])) ≡ Ok (Same left right)
+SameIsReadBack = TwoNamesAreReadBack (codes "same") Same
 
 -- numbers of 32 bits, in decimal, the second at most 1,000
 abbrev pub CrowdIsReadBack : Type 0
@@ -202,13 +205,32 @@ number_is_word n small = (
   All-from_recursion (λ b. b ≢ 32) (decimal n) (without_space is_ascii_digit refl (decimal n) (digits_decimal (numerals_by_value _ tells_digits) n (omega arith))),
 )
 
--- the words that name commands are some letters
-is_verb : (word : List ℕ) → (nat_lt 0 (length word) && list_all is_ascii_alphanumeric word) ≡ true → IsWord word
+-- a word of some letters, as the words are that name commands
+abbrev IsVerb : List ℕ → Type 0
+IsVerb word = (nat_lt 0 (length word) && list_all is_ascii_alphanumeric word) ≡ true
+
+is_verb : (word : List ℕ) → IsVerb word → IsWord word
 is_verb word is =
     let parts = and_parts _ _ is in
     (some_bytes (length word) parts.0, All-from_recursion (λ b. b ≢ 32) word (without_space is_ascii_alphanumeric refl word parts.1))
 
 -- ---- each command
+
+name_and_word_are_read_back : (verb : List ℕ) (command : List ℕ → List ℕ → Command) → IsVerb verb
+    → ((words : List (List ℕ)) (line : List ℕ) → command_of_words (verb ∷ words) line ≡ with_name_and_word command words)
+    → NameAndWordAreReadBack verb command
+name_and_word_are_read_back verb command letters reads name word is at =
+    let words : List (List ℕ) = verb ∷ name ∷ word ∷ [] in
+    read_words words (is_verb verb letters, (name_is_word name is, (at, tt)))
+    ∙ reads (name ∷ word ∷ []) (line_of words) ∙ cond-true _ _ _ is
+
+two_names_are_read_back : (verb : List ℕ) (command : List ℕ → List ℕ → Command) → IsVerb verb
+    → ((words : List (List ℕ)) (line : List ℕ) → command_of_words (verb ∷ words) line ≡ with_two_names command words)
+    → TwoNamesAreReadBack verb command
+two_names_are_read_back verb command letters reads first second is and =
+    let words : List (List ℕ) = verb ∷ first ∷ second ∷ [] in
+    read_words words (is_verb verb letters, (name_is_word first is, (name_is_word second and, tt)))
+    ∙ reads (first ∷ second ∷ []) (line_of words) ∙ cond-true _ _ _ (and_from _ _ is and)
 
 pub node_is_read_back : NodeIsReadBack
 node_is_read_back name writer is small =
@@ -239,11 +261,10 @@ link_is_read_back node path target is at to =
     read_words (codes "link" ∷ node ∷ path ∷ target ∷ []) (is_verb (codes "link") refl, (name_is_word node is, (at, (to, tt)))) ∙ cond-true _ _ _ is
 
 pub remove_is_read_back : RemoveIsReadBack
-remove_is_read_back node path is at = read_words (codes "remove" ∷ node ∷ path ∷ []) (is_verb (codes "remove") refl, (name_is_word node is, (at, tt))) ∙ cond-true _ _ _ is
+remove_is_read_back = name_and_word_are_read_back (codes "remove") Remove refl (λ words line. refl)
 
 pub merge_is_read_back : MergeIsReadBack
-merge_is_read_back from to is and =
-    read_words (codes "merge" ∷ from ∷ to ∷ []) (is_verb (codes "merge") refl, (name_is_word from is, (name_is_word to and, tt))) ∙ cond-true _ _ _ (and_from _ _ is and)
+merge_is_read_back = two_names_are_read_back (codes "merge") Merge refl (λ words line. refl)
 
 pub part_is_read_back : PartIsReadBack
 part_is_read_back piece from to paths named is and all =
@@ -251,8 +272,7 @@ part_is_read_back piece from to paths named is and all =
     ∙ cond-true _ _ _ (and_from _ _ (and_from _ _ named is) and)
 
 pub send_is_read_back : SendIsReadBack
-send_is_read_back piece node named is =
-    read_words (codes "send" ∷ piece ∷ node ∷ []) (is_verb (codes "send") refl, (name_is_word piece named, (name_is_word node is, tt))) ∙ cond-true _ _ _ (and_from _ _ named is)
+send_is_read_back = two_names_are_read_back (codes "send") Send refl (λ words line. refl)
 
 pub sweep_is_read_back : SweepIsReadBack
 sweep_is_read_back = read_words (codes "sweep" ∷ []) (is_verb (codes "sweep") refl, tt)
@@ -261,13 +281,13 @@ pub files_is_read_back : FilesIsReadBack
 files_is_read_back node is = read_words (codes "files" ∷ node ∷ []) (is_verb (codes "files") refl, (name_is_word node is, tt)) ∙ cond-true _ _ _ is
 
 pub cat_is_read_back : CatIsReadBack
-cat_is_read_back node unit is word = read_words (codes "cat" ∷ node ∷ unit ∷ []) (is_verb (codes "cat") refl, (name_is_word node is, (word, tt))) ∙ cond-true _ _ _ is
+cat_is_read_back = name_and_word_are_read_back (codes "cat") Cat refl (λ words line. refl)
 
 pub show_is_read_back : ShowIsReadBack
-show_is_read_back node unit is word = read_words (codes "show" ∷ node ∷ unit ∷ []) (is_verb (codes "show") refl, (name_is_word node is, (word, tt))) ∙ cond-true _ _ _ is
+show_is_read_back = name_and_word_are_read_back (codes "show") Show refl (λ words line. refl)
 
 pub list_is_read_back : ListIsReadBack
-list_is_read_back node unit is word = read_words (codes "list" ∷ node ∷ unit ∷ []) (is_verb (codes "list") refl, (name_is_word node is, (word, tt))) ∙ cond-true _ _ _ is
+list_is_read_back = name_and_word_are_read_back (codes "list") ListUnits refl (λ words line. refl)
 
 pub plan_is_read_back : PlanIsReadBack
 plan_is_read_back node unit running is word all =
@@ -280,8 +300,7 @@ workers_is_read_back count small =
     ∙ ap workers_with (number_of-decimal count 0 small (omega arith))
 
 pub same_is_read_back : SameIsReadBack
-same_is_read_back left right is and =
-    read_words (codes "same" ∷ left ∷ right ∷ []) (is_verb (codes "same") refl, (name_is_word left is, (name_is_word right and, tt))) ∙ cond-true _ _ _ (and_from _ _ is and)
+same_is_read_back = two_names_are_read_back (codes "same") Same refl (λ words line. refl)
 
 pub crowd_is_read_back : CrowdIsReadBack
 crowd_is_read_back node seats edits is small few =
