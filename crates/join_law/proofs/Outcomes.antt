@@ -1,6 +1,6 @@
 -- What holds whatever a call answers.
 use Rattle.std.specs.Prelude.{Result, Ok, Err, OnOk, OnErr, Bool, true, false}
-use Rattle.std.specs.Bool.{OnFalse}
+use Rattle.std.specs.Bool.{OnTrue, OnFalse}
 
 pub on_err : {T E P : Type 0} (r : Result T E) → P → OnErr r P
 on_err (Ok t) p = tt
@@ -21,3 +21,11 @@ by_outcome (Err e) f g p q = g q
 pub on_false_weaker : {P Q : Type 0} (b : Bool) → (P → Q) → OnFalse b P → OnFalse b Q
 on_false_weaker true f h = tt
 on_false_weaker false f h = f h
+
+pub on_true_weaker : {P Q : Type 0} (b : Bool) → (P → Q) → OnTrue b P → OnTrue b Q
+on_true_weaker true f h = f h
+on_true_weaker false f h = tt
+
+pub by_answer : {P Q A : Type 0} (b : Bool) → (P → A) → (Q → A) → OnTrue b P → OnFalse b Q → A
+by_answer true f g p q = f p
+by_answer false f g p q = g q

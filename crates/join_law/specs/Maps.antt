@@ -1,5 +1,5 @@
 -- Maps as lists of pairs in the order of their keys, compared key by key.
-use Rattle.std.specs.Prelude.{List, [], ◌∷◌, Option, Some, None}
+use Rattle.std.specs.Prelude.{Bool, false, List, [], ◌∷◌, Option, Some, None}
 use Rattle.std.specs.Bool.{IsTrue}
 use Rattle.std.specs.FinMap.{find, put, is_sorted}
 use Rattle.std.specs.declared.cmp.Ordering.{Ordering}
@@ -52,3 +52,8 @@ map_union R join m (e ∷ es) = put R e.0 (joined_value join (find R e.0 m) e.1)
 abbrev pub or_empty : {A : Type 0} → Option (List A) → List A
 or_empty None = []
 or_empty (Some m) = m
+
+-- a test of a value that may be absent: then it fails
+abbrev pub is_some_and : {V : Type 0} → (V → Bool) → Option V → Bool
+is_some_and test None = false
+is_some_and test (Some v) = test v

@@ -8,6 +8,7 @@
 //! Zawirski, "Conflict-free Replicated Data Types", 2011).
 #![tactic(auto)]
 
+mod changes;
 mod copies;
 mod edits;
 mod joins;
@@ -16,6 +17,7 @@ mod nested;
 mod passes;
 mod versions;
 
+pub use changes::{Change, ChangeAt};
 pub use joins::{Join, Rest};
 pub use maps::JoinMap;
 pub use plain_values::Key;
