@@ -33,8 +33,8 @@ const KINDS: [Kind; 11] = [
 ];
 
 impl Kind {
-    // The word that names have behind their last dot.
-    pub(crate) fn word(self) -> &'static [u8]
+    /// The word that names have behind their last dot.
+    pub fn word(self) -> &'static [u8]
         ensures word { result.now ≡ word self }
     {
         match self {
