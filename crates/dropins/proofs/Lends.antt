@@ -1,6 +1,6 @@
 -- What is lent for a file name is what is taken for it, with the entry that the store has there.
-use Rattle.std.proofs.Common.{◌≡◌, ℕ, Option, Some, None, List, [], ◌∷◌, get_or, refl, ap, sym, ◌∙◌, subst}
-use Rattle.std.specs.Prelude.{◌↔◌}
+use Rattle.std.proofs.Common.{◌≡◌, ℕ, Option, Some, None, List, [], ◌∷◌, get_or, refl, ap, sym, ◌∙◌, subst, inl, inr}
+use Rattle.std.specs.Prelude.{◌↔◌, ◌⊎◌}
 use Rattle.std.specs.Option.{option_and_then, option_map, option_or}
 use Rattle.std.specs.FinMap as finmap
 use Rattle.std.proofs.lemmas.Option.{same_Some}
@@ -11,11 +11,12 @@ use Rattle.edit_sums.specs.Sums.{EntryMap, shown}
 use Rattle.dropins.specs.declared.precedence.Search.{Search}
 use Rattle.dropins.specs.declared.precedence.Take.{Take}
 use Rattle.dropins.specs.declared.precedence.Take.TheVariants.{Nothing, Placed}
-use Rattle.dropins.specs.Taken.{Candidate, as_found, candidate_at, IsTaken}
+use Rattle.dropins.specs.Taken.{Candidate, as_found, candidate_at, IsTaken, IsTakenOver}
 use Rattle.dropins.specs.Taken.Candidate.{Mask, At}
 use Rattle.load_path.specs.Levels.{levels}
-use Rattle.dropins.specs.Walks.{lent, path, take_at, take_of, taken, taken_in, took, took_in}
-use Rattle.dropins.specs.WalkLaws.{found_iff_taken, found_name, path_or, found_path}
+use Rattle.dropins.specs.Walks.{lent, path, take_at, take_of, taken, taken_in, took, took_in, took_over}
+use Rattle.dropins.specs.OverLaws.{NoneStands, over_is_either, over_of_names, over_of_types}
+use Rattle.dropins.specs.WalkLaws.{found_iff_taken, found_is_taken, found_name, none_stands, path_or, found_path}
 
 -- what a taken entry is by its path
 abbrev seen : Take → Candidate
@@ -86,3 +87,36 @@ module _ (s : EntryMap) (x : Search) (ds : List (List ℕ)) where
           let path_is : q.0 ≡ p.0 = same_path q.0 p.0 (same_Some _ _ k) in
           let entry_is : q.1 ≡ p.1 = same_Some _ _ (sym (held p.0.name q e) ∙ ap (finmap.get s) path_is ∙ g) in
           ap (λ (y : PathParts × Entry). Some (Placed y)) (λ i. (path_is i, entry_is i))
+
+-- what both lists of folders lend
+module _ (s : EntryMap) (x : Search) (ds ts : List (List ℕ)) where
+  pub over_name : (f : List ℕ) (p : PathParts × Entry) → took_over s x ds ts f ≡ Some (Placed p) → p.0.name ≡ f
+  over_name f p h = by (took s x ds f) refl h
+    where
+      by : (o : Option Take) → took s x ds f ≡ o → option_or o (took s x ts f) ≡ Some (Placed p) → p.0.name ≡ f
+      by None e k = took_name s x ts f p k
+      by (Some t) e k = took_name s x ds f p (e ∙ k)
+
+  -- where nothing is lent nothing stands, and where nothing stands nothing is lent
+  none_lent : (f : List ℕ) → took s x ds f ≡ None → NoneStands s x ds f
+  none_lent f e d q i st n = none_stands s x ds f (sym (seen_took s x ds f) ∙ ap (option_map seen) e) d q i st n
+
+  lends_none : (f : List ℕ) → NoneStands s x ds f → took s x ds f ≡ None
+  lends_none f none = by (took s x ds f) refl
+    where
+      by : (o : Option Take) → took s x ds f ≡ o → o ≡ None
+      by None e = refl
+      by (Some t) e =
+          let b = found_is_taken s x ds f (seen t) (sym (seen_took s x ds f) ∙ ap (option_map seen) e) in
+          absurd (none (seen t) b.path b.taken.place b.taken.stands b.name_is)
+
+  pub over_iff_taken : (p : PathParts × Entry) → (took_over s x ds ts p.0.name ≡ Some (Placed p)) ↔ (IsTakenOver s x ds ts (At p.0) p.0 × (finmap.get s p.0 ≡ Some p.1))
+  over_iff_taken p = (λ h. there (took s x ds p.0.name) refl h, λ t. back (over_is_either s x ds ts (At p.0) p.0 t.0) t.1)
+    where
+      there : (o : Option Take) → took s x ds p.0.name ≡ o → option_or o (took s x ts p.0.name) ≡ Some (Placed p) → IsTakenOver s x ds ts (At p.0) p.0 × (finmap.get s p.0 ≡ Some p.1)
+      there None e k = let h = (took_iff_taken s x ts p).0 k in (over_of_types s x ds ts (At p.0) p.0 h.0 (none_lent p.0.name e), h.1)
+      there (Some t) e k = let h = (took_iff_taken s x ds p).0 (e ∙ k) in (over_of_names s x ds ts (At p.0) p.0 h.0, h.1)
+
+      back : IsTaken s x ds (At p.0) p.0 ⊎ (IsTaken s x ts (At p.0) p.0 × NoneStands s x ds p.0.name) → finmap.get s p.0 ≡ Some p.1 → took_over s x ds ts p.0.name ≡ Some (Placed p)
+      back (inl a) g = ap (λ o. option_or o (took s x ts p.0.name)) ((took_iff_taken s x ds p).1 (a, g))
+      back (inr b) g = ap (λ o. option_or o (took s x ts p.0.name)) (lends_none p.0.name b.1) ∙ (took_iff_taken s x ts p).1 (b.0, g)

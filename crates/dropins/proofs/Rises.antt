@@ -21,11 +21,12 @@ use Rattle.dropins.specs.declared.precedence.Take.{Take}
 use Rattle.dropins.specs.declared.precedence.Take.TheVariants.{Nothing, Placed}
 use Rattle.dropins.specs.declared.precedence.Search.{Search}
 use Rattle.dropins.specs.declared.precedence.Search.TheVariants.{Links}
-use Rattle.dropins.specs.Taken.{dirs_with, ending, IsTaken, IsLinkedOf, entry_name}
+use Rattle.dropins.specs.Taken.{dirs_with, ending, IsTakenOver, IsLinkedOf, entry_name}
 use Rattle.dropins.specs.Taken.Candidate.{At}
-use Rattle.dropins.specs.Walks.{given, took, unmasked}
+use Rattle.dropins.specs.OverLaws.{over_none, over_of_names}
+use Rattle.dropins.specs.Walks.{given, took_over, unmasked}
 use Rattle.dropins.specs.LentLaws.{held_there, made_there}
-use Rattle.dropins.proofs.Lends.{took_iff_taken, took_name}
+use Rattle.dropins.proofs.Lends.{over_iff_taken, over_name}
 use Rattle.dropins.specs.declared.link_names.Folder.{Folder}
 
 abbrev IsNamed : List ℕ → Take → Type 0
@@ -73,22 +74,22 @@ there_given (e ∷ es) f p c = pick (there_given es f p) (Contains-append_cases 
     pick more (inl o) = subst (λ d. Contains (given d.1 ++ unmasked es) p) (sym (only_one e (f, Placed p) o)) (Contains-append_left (p ∷ []) (unmasked es) p (Contains-push [] p))
     pick more (inr o) = Contains-append_right (given e.1) (unmasked es) p (more o)
 
-module _ (s : EntryMap) (x : Search) (ds : List (List ℕ)) (m : BTreeMap (List ℕ) Take) (ordered : IsOrdered name_cmp m) (says : (f : List ℕ) → get name_cmp m f ≡ took s x ds f) where
+module _ (s : EntryMap) (x : Search) (ds ts : List (List ℕ)) (m : BTreeMap (List ℕ) Take) (ordered : IsOrdered name_cmp m) (says : (f : List ℕ) → get name_cmp m f ≡ took_over s x ds ts f) where
   entry_is : (f : List ℕ) (v : Take) → (get name_cmp m f ≡ Some v) ↔ Contains m.entries (f, v)
   entry_is f v = btree_map_get_iff nat_list_cmp_total name_cmp-IsAntisymmetric m ordered f v
 
   named : AreNamed m.entries
-  named = named_all m.entries (λ f p c. took_name s x ds f p (sym (says f) ∙ (entry_is f (Placed p)).1 c))
+  named = named_all m.entries (λ f p c. over_name s x ds ts f p (sym (says f) ∙ (entry_is f (Placed p)).1 c))
 
   -- the entries that are taken rise by file name
   pub rising : (ps : List (PathParts × Entry)) → ps ≡ unmasked m.entries → IsStrictlySortedBy name_cmp (map entry_name ps)
   rising ps e = subst (λ qs. IsStrictlySortedBy name_cmp (map entry_name qs)) (sym e) (names_rise m.entries ordered named)
 
   -- and are just those that are taken
-  pub exact : (ps : List (PathParts × Entry)) → ps ≡ unmasked m.entries → (p : PathParts × Entry) → Contains ps p ↔ (IsTaken s x ds (At p.0) p.0 × (finmap.get s p.0 ≡ Some p.1))
+  pub exact : (ps : List (PathParts × Entry)) → ps ≡ unmasked m.entries → (p : PathParts × Entry) → Contains ps p ↔ (IsTakenOver s x ds ts (At p.0) p.0 × (finmap.get s p.0 ≡ Some p.1))
   exact ps e p = (
-    λ c. (took_iff_taken s x ds p).0 (sym (says p.0.name) ∙ (entry_is p.0.name (Placed p)).1 (given_there m.entries p named (subst (λ qs. Contains qs p) e c))),
-    λ t. subst (λ qs. Contains qs p) (sym e) (there_given m.entries p.0.name p ((entry_is p.0.name (Placed p)).0 (says p.0.name ∙ (took_iff_taken s x ds p).1 t))),
+    λ c. (over_iff_taken s x ds ts p).0 (sym (says p.0.name) ∙ (entry_is p.0.name (Placed p)).1 (given_there m.entries p named (subst (λ qs. Contains qs p) e c))),
+    λ t. subst (λ qs. Contains qs p) (sym e) (there_given m.entries p.0.name p ((entry_is p.0.name (Placed p)).0 (says p.0.name ∙ (over_iff_taken s x ds ts p).1 t))),
   )
 
 name_there : (ks : List Name) (n : Name) → Contains (filter is_name ks) n → IsName n × Contains ks n
@@ -136,7 +137,7 @@ entry_there (p ∷ ps) n c = pick (entry_there ps n) (Contains-append_cases (p.0
     pick more (inr o) = let h = more o in record { entry = h.entry; there = Contains-append_right (p ∷ []) ps h.entry h.there; name_is = h.name_is }
 
 -- the unit names among the file names of what is taken are those that are linked
-pub linked : (s : EntryMap) (fs : List Name) (d : Folder) (ps : List (PathParts × Entry)) → ((p : PathParts × Entry) → Contains ps p ↔ (IsTaken s Links (dirs_with (ending d) fs) (At p.0) p.0 × (finmap.get s p.0 ≡ Some p.1)))
+pub linked : (s : EntryMap) (fs : List Name) (d : Folder) (ps : List (PathParts × Entry)) → ((p : PathParts × Entry) → Contains ps p ↔ (IsTakenOver s Links (dirs_with (ending d) fs) [] (At p.0) p.0 × (finmap.get s p.0 ≡ Some p.1)))
     → (ns : List Name) → ns ≡ filter is_name (map entry_name ps) → (n : Name) → Contains ns n ↔ IsLinkedOf s fs d n
 linked s fs d ps ex ns e n = (there, back)
   where
@@ -144,12 +145,12 @@ linked s fs d ps ex ns e n = (there, back)
     there c =
         let h = name_there (map entry_name ps) n (subst (λ ms. Contains ms n) e c) in
         let p = entry_there ps n h.1 in
-        record { name = h.0; path = p.entry.0; name_is = p.name_is; taken = ((ex p.entry).0 p.there).0 }
+        record { name = h.0; path = p.entry.0; name_is = p.name_is; taken = over_none s Links (dirs_with (ending d) fs) (At p.entry.0) p.entry.0 ((ex p.entry).0 p.there).0 }
 
     back : IsLinkedOf s fs d n → Contains ns n
     back l =
         let h = held_there s Links l.path l.path l.taken.stands.says in
-        subst (λ ms. Contains ms n) (sym e) (there_name (map entry_name ps) n l.name (subst (Contains (map entry_name ps)) l.name_is (made_there entry_name ps (l.path, h.0) ((ex (l.path, h.0)).1 (l.taken, h.1)))))
+        subst (λ ms. Contains ms n) (sym e) (there_name (map entry_name ps) n l.name (subst (Contains (map entry_name ps)) l.name_is (made_there entry_name ps (l.path, h.0) ((ex (l.path, h.0)).1 (over_of_names s Links (dirs_with (ending d) fs) [] (At l.path) l.path l.taken, h.1)))))
 
 pub names_rising : (ps : List (PathParts × Entry)) → IsStrictlySortedBy name_cmp (map entry_name ps) → (ns : List Name) → ns ≡ filter is_name (map entry_name ps) → IsStrictlySortedBy name_cmp ns
 names_rising ps h ns e = subst (IsStrictlySortedBy name_cmp) (sym e) (IsStrictlySortedBy-filter name_cmp is_name (map entry_name ps) h)

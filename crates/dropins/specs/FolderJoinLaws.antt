@@ -98,7 +98,7 @@ there_is_kept p x (y ∷ xs) passes h = by (p y) refl h (there_is_kept p x xs pa
     by false e (inr k) more = more k
 
 -- a list has the same names, each once
-among_firsts : (x : Name) (xs : List Name) → IsAmong x (firsts xs) → IsAmong x xs
+pub among_firsts : (x : Name) (xs : List Name) → IsAmong x (firsts xs) → IsAmong x xs
 among_firsts x [] h = h
 among_firsts x (y ∷ xs) h = by (subst (λ l. IsAmong x l) (firsts-append (y ∷ []) xs) h) (among_firsts x xs)
   where
@@ -106,7 +106,7 @@ among_firsts x (y ∷ xs) h = by (subst (λ l. IsAmong x l) (firsts-append (y �
     by (inl e) more = inl e
     by (inr k) more = inr (more (kept_was_there (λ f. not (is_among f (y ∷ []))) x (firsts xs) k))
 
-among_all : (x : Name) (xs : List Name) → IsAmong x xs → IsAmong x (firsts xs)
+pub among_all : (x : Name) (xs : List Name) → IsAmong x xs → IsAmong x (firsts xs)
 among_all x [] h = h
 among_all x (y ∷ xs) h = subst (λ l. IsAmong x l) (sym (firsts-append (y ∷ []) xs)) (by (bytes_eq x y) refl h (among_all x xs))
   where

@@ -58,7 +58,7 @@ template_is_name n h = All-cons IsName n (listed (template_of n)) h (by (templat
     by None e = All-nil IsName
     by (Some t) e = All-cons IsName t [] (templates_keep_parts n t h e).2.name (All-nil IsName)
 
-ends_somewhere : (start : List ℕ) (b : ℕ) → is_empty (start ++ b ∷ []) ≡ false
+pub ends_somewhere : (start : List ℕ) (b : ℕ) → is_empty (start ++ b ∷ []) ≡ false
 ends_somewhere [] b = refl
 ends_somewhere (x ∷ start) b = refl
 

@@ -1,6 +1,6 @@
 -- The folders of a list of names.
 -- Source: systemd.unit(5), "Description"; the order of the whole list is this project's own.
-use Rattle.std.specs.Prelude.{ℕ, zero, suc, ◌-◌, ◌==◌, Bool, if◌then◌else◌, Option, Some, None, List, [], ◌∷◌, ◌++◌, length, take, slice_index, fold}
+use Rattle.std.specs.Prelude.{ℕ, zero, suc, ◌-◌, ◌==◌, Bool, if◌then◌else◌, Option, Some, None, List, [], ◌∷◌, ◌++◌, length, map, take, slice_index, fold}
 use Rattle.std.specs.List.{flat_map, list_any}
 use Rattle.std.specs.Str.{bytes_eq}
 use Rattle.unit_name.specs.Names.{Name, prefix, instance, suffix, shape}
@@ -49,3 +49,7 @@ firsts xs = fold with_name [] xs
 -- the folders of several names, those of the first name first
 abbrev pub folders : List Name → List Name
 folders ns = firsts (flat_map folders_of ns)
+
+-- the types of names, which stand behind the last dot of each; each once, at its first place
+abbrev pub types_of : List Name → List (List ℕ)
+types_of ns = firsts (map suffix ns)

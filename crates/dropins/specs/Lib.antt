@@ -5,7 +5,10 @@ pub mod FolderLists
 pub mod LentLaws
 pub mod Listings
 pub mod OrderLaws
+pub mod OverLaws
 pub mod PrecedenceLaws
 pub mod Taken
+pub mod TypeFolderLaws
+pub mod TypeLaws
 pub mod WalkLaws
 pub mod Walks

@@ -1,5 +1,5 @@
 -- Drop-ins and links: what stands for a file name in the folders of names, and what of it is taken.
--- Source: systemd.unit(5), "Description"; that the rank goes before the closeness of a folder is this project's own.
+-- Source: systemd.unit(5), "Description"; that the rank goes before the closeness of a folder, and that a type's folder comes last in every rank, is this project's own.
 use Rattle.std.specs.Prelude.{◌≡◌, ◌↔◌, ℕ, ◌-◌, ◌<◌, ◌≤◌, ◌⊎◌, nat_lt, Bool, ◌&&◌, if◌then◌else◌, Option, Some, None, List, [], ◌∷◌, ◌++◌, length, map, drop, slice_get, codes}
 use Rattle.std.specs.Option.{option_and_then}
 use Rattle.std.specs.FinMap as finmap
@@ -12,7 +12,7 @@ use Rattle.edit_sums.specs.Sums.{EntryMap, visible_at}
 use Rattle.edit_sums.specs.declared.contents.Content.{Content}
 use Rattle.edit_sums.specs.declared.contents.Content.TheVariants.{Gone, Link, File}
 use Rattle.unit_name.specs.Names.{Name, IsName}
-use Rattle.dropins.specs.FolderLists.{folders}
+use Rattle.dropins.specs.FolderLists.{folders, types_of}
 use Rattle.dropins.specs.declared.link_names.Folder.{Folder}
 use Rattle.dropins.specs.declared.link_names.Folder.TheVariants.{Wants, Requires}
 use Rattle.dropins.specs.declared.precedence.Search.{Search}
@@ -69,6 +69,32 @@ pub record IsTaken (s : EntryMap) (x : Search) (ds : List (List ℕ)) (c : Candi
   pub stands : Stands s x ds c p place
   pub least : (d : Candidate) (q : PathParts) (i : ℕ) → Stands s x ds d q i → q.name ≡ p.name → (level_of p < level_of q) ⊎ ((level_of p ≡ level_of q) × (place ≤ i))
 
+-- whose folder one is: a name's, or a type's
+pub data Owner : Type 0 where
+  OfName : Owner
+  OfType : Owner
+
+-- the folders of names, or those of types
+abbrev pub dirs_by : Owner → List (List ℕ) → List (List ℕ) → List (List ℕ)
+dirs_by OfName ds ts = ds
+dirs_by OfType ds ts = ts
+
+-- 0 for a folder of a name, and 1 for a type's
+abbrev pub turn : Owner → ℕ
+turn OfName = 0
+turn OfType = 1
+
+-- a folder's owner, a level and a place in the owner's list come no later than others: first the turn counts, then the level, then the place
+abbrev pub Precedes : Owner → ℕ → ℕ → Owner → ℕ → ℕ → Type 0
+Precedes a l i b m j = (turn a < turn b) ⊎ ((turn a ≡ turn b) × ((l < m) ⊎ ((l ≡ m) × (i ≤ j))))
+
+-- the candidate at the path is taken for the path's file name, where ds are folders of names and ts those of types: of all that stand for it in either, it has the least turn, level and place
+pub record IsTakenOver (s : EntryMap) (x : Search) (ds ts : List (List ℕ)) (c : Candidate) (p : PathParts) : Type 0 where
+  pub owner : Owner
+  pub place : ℕ
+  pub stands : Stands s x (dirs_by owner ds ts) c p place
+  pub least : (d : Candidate) (q : PathParts) (o : Owner) (i : ℕ) → Stands s x (dirs_by o ds ts) d q i → q.name ≡ p.name → Precedes owner (level_of p) place o (level_of q) i
+
 -- what is taken for a file name
 pub record TakenFor (s : EntryMap) (x : Search) (ds : List (List ℕ)) (f : List ℕ) (c : Candidate) : Type 0 where
   pub path : PathParts
@@ -84,9 +110,16 @@ ending Requires = codes ".requires"
 abbrev pub dirs_with : List ℕ → List Name → List (List ℕ)
 dirs_with end fs = map (λ n. n ++ end) fs
 
--- the path is a drop-in of a unit with these folders
+-- the folders of drop-ins that have these names, and those that have the names' types
+abbrev pub name_dirs : List Name → List (List ℕ)
+name_dirs fs = dirs_with (codes ".d") fs
+
+abbrev pub type_dirs : List Name → List (List ℕ)
+type_dirs fs = dirs_with (codes ".d") (types_of fs)
+
+-- the path is a drop-in of a unit with these folders: it is taken in them, or else in those of their types
 abbrev pub IsDropInOf : EntryMap → List Name → PathParts → Type 0
-IsDropInOf s fs p = IsTaken s DropIns (dirs_with (codes ".d") fs) (At p) p
+IsDropInOf s fs p = IsTakenOver s DropIns (name_dirs fs) (type_dirs fs) (At p) p
 
 -- the path is a drop-in of a unit of these names
 abbrev pub IsDropIn : EntryMap → List Name → PathParts → Type 0

@@ -1,7 +1,7 @@
 -- What is taken for a file name, found by walking through levels and folders: words for private clauses.
 -- Source: this project's own.
 use Rattle.std.specs.Prelude.{ℕ, Option, Some, None, if◌then◌else◌, List, [], ◌∷◌, ◌++◌}
-use Rattle.std.specs.Option.{option_and_then, option_map}
+use Rattle.std.specs.Option.{option_and_then, option_map, option_or}
 use Rattle.std.specs.FinMap as finmap
 use Rattle.std.specs.Str.{bytes_eq}
 use Rattle.edit_sums.specs.Entries.{Entry}
@@ -46,6 +46,10 @@ took_in s x ds f r = first_said (λ d. take_at s x (path r d f)) ds
 -- what is taken for a file name
 abbrev pub took : EntryMap → Search → List (List ℕ) → List ℕ → Option Take
 took s x ds f = first_level (took_in s x ds f)
+
+-- what is taken for a file name in folders of names, or else in those of types
+abbrev pub took_over : EntryMap → Search → List (List ℕ) → List (List ℕ) → List ℕ → Option Take
+took_over s x ds ts f = option_or (took s x ds f) (took s x ts f)
 
 -- the candidate of a file name in a directory's first folder that has one
 abbrev pub taken_in : EntryMap → Search → List (List ℕ) → List ℕ → ℕ → Option Candidate

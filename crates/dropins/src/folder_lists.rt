@@ -77,7 +77,7 @@ impl Listing {
 /// The names whose folders hold what is added to a unit of these names (systemd.unit(5),
 /// "Description"), name by name: the name, and its template where it is an instance; then the same
 /// with the prefix cut behind each of its dashes, from the last dash to the first, where that is
-/// shorter. A name that repeats keeps its first place.
+/// shorter. A name that repeats keeps its first place. The folders of types aren't among them.
 ///
 /// There are at most two for each name and for each dash of one; each is sought in a set of those
 /// before it, so the cost is O(n log n). It fails for want of memory alone.
@@ -91,7 +91,8 @@ pub fn folders(alloc: Global, names: &[UnitName]) -> Result<Vec<UnitName>, Alloc
     Ok(all.names)
 }
 
-/// The folders of a unit, listed once for its drop-ins and its links: in contracts the list.
+/// The folders of a unit, listed once for its drop-ins and its links: in contracts the list. Those of types aren't in
+/// it; the names' types say them.
 #[derive(Drop)]
 pub struct UnitFolders {
     names: Vec<UnitName>,

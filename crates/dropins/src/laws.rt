@@ -5,6 +5,9 @@ ghost use Rattle.dropins.specs.FolderLaws.{OneFolder, FoldersAreNames, FoldersSt
 ghost use Rattle.dropins.specs.FolderJoinLaws.{FoldersOfEach, FoldersJoin};
 ghost use Rattle.dropins.specs.LentLaws.{LentAreDropIns};
 ghost use Rattle.dropins.specs.OrderLaws.{OneOrder, DropInsAreFiles};
+ghost use Rattle.dropins.specs.OverLaws.{NamesOrElseTypes, SomethingIsTakenOver, OverOnce, FoldersDecideOver, RemovalsGiveBackOver};
+ghost use Rattle.dropins.specs.TypeLaws.{TypesAreKinds, OneType, FoldersKeepTypes, WordsAreNoNames, NoNameHasATypesFolder};
+ghost use Rattle.dropins.specs.TypeFolderLaws.{NamesGoFirst, TypesComeLast, MasksHideTypes, NamesAloneWithoutTypes};
 
 /// A directory's rank goes before the closeness of a folder. For each file name that anything
 /// stands for one thing is taken; a mask that is taken hides all else, and once it is removed what
@@ -16,6 +19,37 @@ pub fn precedence_laws()
     ensures hidden { MasksHide }
     ensures decided { FoldersDecide }
     ensures removed { RemovalsGiveBack }
+{}
+
+/// What is taken where types have folders too: in the folders of names, or in those of types where nothing of its file
+/// name stands in a folder of a name. Again one thing for each file name that anything stands for; what is visible in the
+/// folders decides, and once a mask is removed what was there counts again.
+pub fn over_laws()
+    ensures either { NamesOrElseTypes }
+    ensures some { SomethingIsTakenOver }
+    ensures once { OverOnce }
+    ensures decided { FoldersDecideOver }
+    ensures removed { RemovalsGiveBackOver }
+{}
+
+/// The types of names are words of kinds, and their folders have the same types. Names of one kind have one type. No
+/// kind's word is a name, so no folder of a name is called as a type's.
+pub fn type_laws()
+    ensures kinds { TypesAreKinds }
+    ensures one { OneType }
+    ensures kept { FoldersKeepTypes }
+    ensures words { WordsAreNoNames }
+    ensures apart { NoNameHasATypesFolder }
+{}
+
+/// What is taken in the folders of names is a drop-in, whatever types' folders have; a mask there hides a type's file.
+/// A drop-in of a type's folder is one of the unit's type, and no name's folder has its file name. Where no type's folder
+/// shows anything, the drop-ins are what is taken in the folders of names.
+pub fn type_folder_laws()
+    ensures first { NamesGoFirst }
+    ensures last { TypesComeLast }
+    ensures hidden { MasksHideTypes }
+    ensures alone { NamesAloneWithoutTypes }
 {}
 
 /// What is in an order by file name says the order, whatever the folders. A drop-in is a file that

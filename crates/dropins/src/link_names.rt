@@ -5,6 +5,7 @@ ghost use Rattle.std.specs.List.Sorted.{IsStrictlySortedBy};
 ghost use Rattle.unit_name.specs.Names.{Name, is_name, name_cmp};
 ghost use Rattle.dropins.specs.Taken.{IsLinked, IsLinkedOf, ending, entry_name};
 
+use crate::dirs::name_dirs;
 use crate::folder_lists::UnitFolders;
 use crate::precedence::{Search, taken_entries};
 use replica_store::{Placed, Store};
@@ -38,7 +39,7 @@ impl UnitFolders {
     ///
     /// Only links count, and a link's own file name is the name that it gives. For each file name the
     /// link of the least rank counts, and there that of the first folder of the list; where it leads to
-    /// `/dev/null`, or where the file name is no unit name, it gives nothing.
+    /// `/dev/null`, or where the file name is no unit name, it gives nothing. A type has no link folders.
     ///
     /// A search in the store for each folder in each rank, and one sort by file name of the paths that
     /// stand there. It fails for want of memory alone.
@@ -52,7 +53,8 @@ impl UnitFolders {
         ensures exact { IfOk result (λ units. (n : Name) → Contains units.items n ↔ IsLinkedOf store.now
             self.now folder n) }
     {
-        let taken = taken_entries(alloc, store, self.names(), Search::Links, folder.ending())?;
+        let dirs = name_dirs(alloc, self.names(), folder.ending())?;
+        let taken = taken_entries(alloc, store, Search::Links, &dirs, &[])?;
         unit_names(alloc, &taken)
     }
 }

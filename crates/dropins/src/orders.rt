@@ -6,6 +6,7 @@ ghost use Rattle.load_path.specs.Paths.{PathParts};
 ghost use Rattle.unit_name.specs.Names.{name_cmp};
 ghost use Rattle.dropins.specs.Taken.{AreDropInsOf, IsDropIn, entry_name, file_name};
 
+use crate::dirs::{name_dirs, type_dirs};
 use crate::folder_lists::UnitFolders;
 use crate::precedence::{Search, paths_of, taken_entries};
 use replica_store::{Path, Placed, Store};
@@ -16,10 +17,11 @@ impl UnitFolders {
     /// The drop-ins of a unit with these folders, by file name (systemd.unit(5), "Description"),
     /// with the entries that are visible there, lent.
     ///
-    /// A drop-in is a file of one of the folders `NAME.d` whose name ends in `.conf` and is longer. For
-    /// each file name that of the least rank counts, and there that of the first folder of the list;
-    /// where it is empty, or is a link to `/dev/null`, there is none of this file name. Other links
-    /// don't count.
+    /// A drop-in is a file of one of the folders `NAME.d` or `TYPE.d` whose name ends in `.conf` and is
+    /// longer; a folder's type is what stands behind the last dot of its name, as `service`. For each file
+    /// name that of the least rank in a name's folder counts, and there that of the first folder of the
+    /// list; where none stands in a name's folder, that of the least rank in a type's. Where it is empty,
+    /// or is a link to `/dev/null`, there is none of this file name. Other links don't count.
     ///
     /// A search in the store for each folder in each rank, and one sort by file name of the paths that
     /// stand there. It fails for want of memory alone, and copies no bytes of an entry.
@@ -31,11 +33,14 @@ impl UnitFolders {
         ensures rising { IfOk result (λ taken. IsStrictlySortedBy name_cmp (map entry_name taken.items)) }
         ensures exact { IfOk result (λ taken. AreDropInsOf store.now self.now taken.items) }
     {
-        taken_entries(alloc, store, self.names(), Search::DropIns, b".d")
+        let names = name_dirs(alloc, self.names(), b".d")?;
+        let types = type_dirs(alloc, self.names(), b".d")?;
+        taken_entries(alloc, store, Search::DropIns, &names, &types)
     }
 }
 
-/// The paths of the drop-ins of a unit of these names, by file name: those of the names' folders.
+/// The paths of the drop-ins of a unit of these names, by file name: those of the names' folders, and of their
+/// types'.
 ///
 /// The folder list, and then as `UnitFolders::drop_ins`.
 pub fn order(alloc: Global, store: &Store, names: &[UnitName]) -> Result<Vec<Path>, AllocError>

@@ -1,5 +1,5 @@
-//! What is taken for each file name of some folders.
-ghost use Rattle.std.specs.Prelude.{◌≡◌, ℕ, ◌↔◌, List, IfOk, OnOk, Some, None, map, ◌++◌};
+//! What is taken for each file name of some folders of names and of types.
+ghost use Rattle.std.specs.Prelude.{◌≡◌, ℕ, ◌↔◌, List, IfOk, OnOk, Some, None, map};
 ghost use Rattle.std.specs.Option.{option_or};
 ghost use Rattle.std.specs.BTreeMap.{get, IsOrdered};
 ghost use Rattle.std.specs.FinMap as finmap;
@@ -8,17 +8,16 @@ ghost use Rattle.std.specs.List.Sorted.{IsStrictlySortedBy};
 ghost use Rattle.load_path.specs.Paths.{PathParts};
 ghost use Rattle.edit_sums.specs.Entries.{Entry};
 ghost use Rattle.unit_name.specs.Names.{name_cmp};
-ghost use Rattle.dropins.specs.Taken.{is_conf, is_null, dirs_with, IsTaken, entry_name, entry_path};
+ghost use Rattle.dropins.specs.Taken.{is_conf, is_null, IsTakenOver, entry_name, entry_path};
 ghost use Rattle.dropins.specs.Taken.Candidate.{At};
 ghost use Rattle.dropins.specs.declared.precedence.Search.TheVariants.{DropIns, Links};
-ghost use Rattle.dropins.specs.Walks.{first_for, path, said_for, take_at, take_of, took, took_in, unmasked};
+ghost use Rattle.dropins.specs.Walks.{first_for, path, said_for, take_at, take_of, took, took_in, took_over, unmasked};
 
 use load_path::LEVELS;
 use plain_values::Bytes;
 use replica_store::{Content, LinkTarget, Path, Placed, Store};
 use std::alloc::{AllocError, Global};
 use std::collections::BTreeMap;
-use unit_name::UnitName;
 
 /// What is looked for in folders.
 #[derive(Clone, Copy, Debug, PartialEq, Eq)]
@@ -44,21 +43,20 @@ type Candidates<'a> = Vec<(Bytes, Take<'a>)>;
 // What is taken, by file name.
 type TakenByName<'a> = BTreeMap<Bytes, Take<'a>>;
 
-/// What is taken in folders with an ending, by file name, without masks.
+/// What is taken in folders of names, or else in those of types, by file name, without masks.
 pub fn taken_entries<'a>(
     alloc: Global,
     store: &'a Store,
-    folders: &[UnitName],
     search: Search,
-    ending: &[u8],
+    name_dirs: &[Bytes],
+    type_dirs: &[Bytes],
 ) -> Result<Vec<Placed<'a>>, AllocError>
     ensures rising { IfOk result (λ taken. IsStrictlySortedBy name_cmp (map entry_name taken.items)) }
     ensures exact { IfOk result (λ taken. (p : PathParts × Entry) → Contains taken.items p ↔
-        (IsTaken store.now search (dirs_with ending.now folders.now) (At p.0) p.0
+        (IsTakenOver store.now search name_dirs.now type_dirs.now (At p.0) p.0
         × (finmap.get store.now p.0 ≡ Some p.1))) }
 {
-    let dirs = dirs_of(alloc, folders, ending)?;
-    let takes = taken(alloc, store, search, &dirs)?;
+    let takes = taken(alloc, store, search, name_dirs, type_dirs)?;
     unmasked(alloc, takes)
 }
 
@@ -73,7 +71,8 @@ pub fn paths_of(alloc: Global, entries: &[Placed]) -> Result<Vec<Path>, AllocErr
     Ok(paths)
 }
 
-// For each file name what is taken at the least level, and there in the first of the folders.
+// For each file name what is taken in the folders of names, or else in those of types: each time at the least level, and
+// there in the first of the folders.
 //
 // A search in the store for each folder in each rank, and then one sort of all that stands there, which comes in runs:
 // O(r log n + p log p) with p paths in r such folders.
@@ -81,15 +80,15 @@ fn taken<'a>(
     alloc: Global,
     store: &'a Store,
     search: Search,
-    dirs: &[Bytes],
+    name_dirs: &[Bytes],
+    type_dirs: &[Bytes],
 ) -> Result<TakenByName<'a>, AllocError>
-    ensures taken { IfOk result (λ takes. (f : List ℕ) → get name_cmp takes f ≡ took store.now search
-        dirs.now f) }
+    ensures taken { IfOk result (λ takes. (f : List ℕ) → get name_cmp takes f ≡ took_over store.now search
+        name_dirs.now type_dirs.now f) }
 {
     let mut found = Vec::new(alloc);
-    for level in 0..LEVELS {
-        add_level(store, &mut found, search, level, dirs)?;
-    }
+    add_levels(store, &mut found, search, name_dirs)?;
+    add_levels(store, &mut found, search, type_dirs)?;
     firsts(alloc, found)
 }
 
@@ -100,6 +99,22 @@ fn firsts<'a>(alloc: Global, found: Candidates<'a>) -> Result<TakenByName<'a>, A
     let mut found = found;
     found.reverse();
     found.into_iter().collect(alloc)
+}
+
+// Adds what stands at all levels.
+fn add_levels<'a>(
+    store: &'a Store,
+    found: &mut Candidates<'a>,
+    search: Search,
+    dirs: &[Bytes],
+) -> Result<(), AllocError>
+    ensures added { OnOk result ((f : List ℕ) → first_for found.new.items f ≡ option_or
+        (first_for found.old.items f) (took store.now search dirs.now f)) }
+{
+    for level in 0..LEVELS {
+        add_level(store, found, search, level, dirs)?;
+    }
+    Ok(())
 }
 
 // Adds what stands at one level.
@@ -212,26 +227,6 @@ fn is_null(target: &LinkTarget) -> bool
     ensures test { result ≡ is_null target.now }
 {
     target.bytes() == b"/dev/null".as_slice()
-}
-
-// The folders' names with an ending.
-fn dirs_of(alloc: Global, folders: &[UnitName], ending: &[u8]) -> Result<Vec<Bytes>, AllocError>
-    ensures dirs { IfOk result (λ dirs. dirs.items ≡ map (λ n. n ++ ending.now) folders.now) }
-{
-    let mut dirs = Vec::new(alloc);
-    for folder in folders {
-        dirs.push(dir_with(alloc, folder, ending)?)?;
-    }
-    Ok(dirs)
-}
-
-fn dir_with(alloc: Global, folder: &UnitName, ending: &[u8]) -> Result<Bytes, AllocError>
-    ensures dir { IfOk result (λ dir. dir ≡ folder.now ++ ending.now) }
-{
-    let mut bytes = Vec::with_capacity(alloc, folder.bytes().len() + ending.len())?;
-    bytes.extend_from_slice(folder.bytes())?;
-    bytes.extend_from_slice(ending)?;
-    Bytes::from_vec(bytes)
 }
 
 // The entries that are taken, by file name, without masks.

@@ -1,0 +1,56 @@
+-- Kinds in a list are found by their words, and the types of names are listed one at a time.
+use Rattle.std.proofs.Common.{◌≡◌, ℕ, ◌+◌, ◌<◌, Bool, true, false, ◌||◌, cond, List, [], ◌∷◌, ◌++◌, length, get_or, map, take, refl, ap, sym, ◌∙◌, Some}
+use Rattle.std.specs.List.{list_any}
+use Rattle.std.specs.Str.{bytes_eq}
+use Rattle.std.proofs.lemmas.Bool.{true≢false}
+use Rattle.std.proofs.lemmas.Grind.{fold-append}
+use Rattle.std.proofs.lemmas.List.{map-append, take_more}
+use Rattle.std.proofs.lemmas.Option.{same_Some}
+use Rattle.std.proofs.lemmas.Slice.Eq.{bytes_eq-Decides}
+use Rattle.unit_name.specs.declared.kinds.Kind.{Kind}
+use Rattle.unit_name.specs.contracts.kinds.Kind.{the_type}
+use Rattle.unit_name.specs.contracts.kinds.KindPartialEq.TheImpl.{eq-value}
+use Rattle.unit_name.specs.Names.{Name, kind, kind_of, suffix, word}
+use Rattle.unit_name.specs.NameLaws.{kind_of-word, suffix_is_word}
+use Rattle.dropins.specs.FolderLists.{firsts, is_among, types_of, with_name}
+use denote.Enum.Bare.{same_true, same_false}
+
+-- each kind has its own word
+same_kind : (j k : Kind) → word j ≡ word k → j ≡ k
+same_kind j k e = same_Some _ _ (sym (kind_of-word j) ∙ ap kind_of e ∙ kind_of-word k)
+
+same_word : (j k : Kind) → eq-value.it j k ≡ bytes_eq (word k) (word j)
+same_word j k = by (eq-value.it j k) refl (bytes_eq (word k) (word j)) refl
+  where
+    by : (a : Bool) → eq-value.it j k ≡ a → (b : Bool) → bytes_eq (word k) (word j) ≡ b → a ≡ b
+    by true e true f = refl
+    by false e false f = refl
+    by true e false f = absurd (true≢false (sym ((bytes_eq-Decides (word k) (word j)).1 (ap word (sym (same_true the_type tt j k e)))) ∙ f))
+    by false e true f = absurd (same_false the_type j k e (sym (same_kind k j ((bytes_eq-Decides (word k) (word j)).0 f))))
+
+-- a kind is in a list just where its word is among theirs
+pub among_words : (k : Kind) (ks : List Kind) → list_any (λ j. eq-value.it j k) ks ≡ is_among (word k) (map word ks)
+among_words k [] = refl
+among_words k (j ∷ ks) = ap (λ b. b || list_any (λ i. eq-value.it i k) ks) (same_word j k) ∙ ap (λ b. bytes_eq (word k) (word j) || b) (among_words k ks)
+
+-- the types with one more name
+types_more : (ns : List Name) (i : ℕ) (n : Name) → i < length ns → n ≡ get_or ns i n → types_of (take (i + 1) ns) ≡ with_name (types_of (take i ns)) (suffix n)
+types_more ns i n l e =
+    ap types_of (take_more ns i n l ∙ ap (λ m. take i ns ++ m ∷ []) (sym e))
+    ∙ ap firsts (map-append suffix (take i ns) (n ∷ []))
+    ∙ fold-append with_name [] (map suffix (take i ns)) (suffix n ∷ [])
+
+-- a kind that is listed adds nothing, and another comes last
+module _ (ns : List Name) (i : ℕ) (n : Name) (k : Kind) (within : i < length ns) (there : n ≡ get_or ns i n) (kind_is : kind n ≡ Some k) (ks : List Kind) (listed : map word ks ≡ types_of (take i ns)) where
+  by_word : (b : Bool) → is_among (word k) (map word ks) ≡ b → types_of (take (i + 1) ns) ≡ cond b (map word ks) (map word ks ++ word k ∷ [])
+  by_word b e =
+      types_more ns i n within there
+      ∙ ap (λ ts. with_name ts (suffix n)) (sym listed)
+      ∙ ap (with_name (map word ks)) (suffix_is_word n k kind_is)
+      ∙ ap (λ c. cond c (map word ks) (map word ks ++ word k ∷ [])) e
+
+  pub kind_known : is_among (word k) (map word ks) ≡ true → map word ks ≡ types_of (take (i + 1) ns)
+  kind_known e = sym (by_word true e)
+
+  pub kind_new : is_among (word k) (map word ks) ≡ false → (new : List Kind) → new ≡ ks ++ k ∷ [] → map word new ≡ types_of (take (i + 1) ns)
+  kind_new e new pushed = ap (map word) pushed ∙ map-append word ks (k ∷ []) ∙ sym (by_word false e)

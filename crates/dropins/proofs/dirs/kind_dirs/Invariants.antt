@@ -1,0 +1,7 @@
+use Rattle.std.proofs.Common.{◌≡◌, map, take}
+use Rattle.unit_name.specs.Names.{word}
+use Rattle.dropins.specs.Taken.{dirs_with}
+use Rattle.dropins.proofs.dirs.kind_dirs.Given as goal
+
+abbrev pub invariant-loop-kind : goal.invariant-loop-kind
+invariant-loop-kind l = l.dirs.items ≡ dirs_with l.ending (map word (take l.kind-index l.kinds))

@@ -1,0 +1,6 @@
+use Rattle.std.proofs.Common.{◌≡◌, take}
+use Rattle.dropins.specs.Taken.{dirs_with}
+use Rattle.dropins.proofs.dirs.name_dirs.Given as goal
+
+abbrev pub invariant-loop-name : goal.invariant-loop-name
+invariant-loop-name l = l.dirs.items ≡ dirs_with l.ending (take l.name-index l.names)

@@ -1,8 +1,0 @@
-use Rattle.std.proofs.Common.{◌≡◌, ℕ, List, take}
-use Rattle.list_laws.specs.FirstSaid.{first_said}
-use Rattle.load_path.specs.Levels.{levels}
-use Rattle.dropins.specs.Walks.{first_for, took_in}
-use Rattle.dropins.proofs.precedence.taken.Given as goal
-
-abbrev pub invariant-loop-level : goal.invariant-loop-level
-invariant-loop-level l = (f : List ℕ) → first_for l.found.items f ≡ first_said (took_in l.store l.search l.dirs f) (take l.level levels)

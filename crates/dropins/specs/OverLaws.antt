@@ -1,0 +1,140 @@
+-- Laws of what is taken in folders of names, or else in those of types.
+use Rattle.std.proofs.Common.{◌≡◌, ◌≢◌, ℕ, ◌<◌, ◌≤◌, Option, Some, None, List, [], refl, ap, sym, ◌∙◌, inl, inr, arith}
+use Rattle.std.specs.Prelude.{◌↔◌, ◌⊎◌, slice_get}
+use Rattle.std.specs.Option.{option_and_then}
+use Rattle.list_laws.specs.Agreements.{agree_everywhere}
+use Rattle.load_path.specs.Paths.{PathParts, path_cmp}
+use Rattle.load_path.specs.PathLaws.{path_cmp_total, path_cmp-IsAntisymmetric}
+use Rattle.load_path.specs.Levels.{IsLevel, level_of}
+use Rattle.edit_sums.specs.Sums.{EntryMap, visible_at}
+use Rattle.dropins.specs.declared.precedence.Search.{Search}
+use Rattle.dropins.specs.Taken.Owner.{OfName, OfType}
+use Rattle.dropins.specs.Taken.{Candidate, Owner, Precedes, Stands, IsTaken, IsTakenOver, as_found, dirs_by}
+use Rattle.dropins.specs.Walks.{taken}
+use Rattle.dropins.specs.WalkLaws.{found_is_taken, none_stands, taken_once}
+
+-- nothing stands for this file name
+abbrev pub NoneStands : EntryMap → Search → List (List ℕ) → List ℕ → Type 0
+NoneStands s x ds f = (d : Candidate) (q : PathParts) (i : ℕ) → Stands s x ds d q i → q.name ≡ f → ⊥
+
+-- What is taken is what is taken in the folders of names; or what is taken in those of types, where nothing of its file name stands in a folder of a name.
+abbrev pub NamesOrElseTypes : Type 0
+NamesOrElseTypes = (s : EntryMap) (x : Search) (ds ts : List (List ℕ)) (c : Candidate) (p : PathParts) → IsTakenOver s x ds ts c p ↔ (IsTaken s x ds c p ⊎ (IsTaken s x ts c p × NoneStands s x ds p.name))
+
+-- For a file name one candidate at most is taken.
+abbrev pub OverOnce : Type 0
+OverOnce = (s : EntryMap) (x : Search) (ds ts : List (List ℕ)) (c d : Candidate) (p q : PathParts) → IsTakenOver s x ds ts c p → IsTakenOver s x ds ts d q → p.name ≡ q.name → (p ≡ q) × (c ≡ d)
+
+-- Where anything stands for a file name, something is taken for it.
+abbrev pub SomethingIsTakenOver : Type 0
+SomethingIsTakenOver = (s : EntryMap) (x : Search) (ds ts : List (List ℕ)) (o : Owner) (d : Candidate) (q : PathParts) (i : ℕ) → Stands s x (dirs_by o ds ts) d q i
+    → (c : Candidate) × (p : PathParts) × (p.name ≡ q.name) × IsTakenOver s x ds ts c p
+
+-- What is taken depends on what is visible in the folders alone.
+abbrev pub FoldersDecideOver : Type 0
+FoldersDecideOver = (s t : EntryMap) (x : Search) (ds ts : List (List ℕ)) → ((o : Owner) (p : PathParts) (i : ℕ) → IsLevel (level_of p) → slice_get (dirs_by o ds ts) i ≡ Some p.folder → visible_at s p ≡ visible_at t p)
+    → (c : Candidate) (p : PathParts) → IsTakenOver s x ds ts c p → IsTakenOver t x ds ts c p
+
+-- Once something is removed, a mask too, that is taken which is taken where it never was.
+abbrev pub RemovalsGiveBackOver : Type 0
+RemovalsGiveBackOver = (s t : EntryMap) (x : Search) (ds ts : List (List ℕ)) (m : PathParts) → visible_at s m ≡ None → visible_at t m ≡ None → ((q : PathParts) → q ≢ m → visible_at s q ≡ visible_at t q)
+    → (c : Candidate) (p : PathParts) → IsTakenOver s x ds ts c p → IsTakenOver t x ds ts c p
+
+module _ (s : EntryMap) (x : Search) (ds ts : List (List ℕ)) (c : Candidate) (p : PathParts) where
+  pub over_of_names : IsTaken s x ds c p → IsTakenOver s x ds ts c p
+  over_of_names a = record { owner = OfName; place = a.place; stands = a.stands; least = λ d q o i st n. least d q o i st n }
+    where
+      least : (d : Candidate) (q : PathParts) (o : Owner) (i : ℕ) → Stands s x (dirs_by o ds ts) d q i → q.name ≡ p.name → Precedes OfName (level_of p) a.place o (level_of q) i
+      least d q OfName i st n = inr (refl, a.least d q i st n)
+      least d q OfType i st n = inl (omega arith)
+
+  pub over_of_types : IsTaken s x ts c p → NoneStands s x ds p.name → IsTakenOver s x ds ts c p
+  over_of_types a none = record { owner = OfType; place = a.place; stands = a.stands; least = λ d q o i st n. least d q o i st n }
+    where
+      least : (d : Candidate) (q : PathParts) (o : Owner) (i : ℕ) → Stands s x (dirs_by o ds ts) d q i → q.name ≡ p.name → Precedes OfType (level_of p) a.place o (level_of q) i
+      least d q OfName i st n = absurd (none d q i st n)
+      least d q OfType i st n = inr (refl, a.least d q i st n)
+
+  -- in the same turn the level and the place count
+  same_turn : {n l m i j : ℕ} → (n < n) ⊎ ((n ≡ n) × ((l < m) ⊎ ((l ≡ m) × (i ≤ j)))) → (l < m) ⊎ ((l ≡ m) × (i ≤ j))
+  same_turn (inl l) = absurd (omega (arith, l))
+  same_turn (inr e) = e.1
+
+  -- a type doesn't go before a name
+  not_before : (l m i j : ℕ) → Precedes OfType l i OfName m j → ⊥
+  not_before l m i j (inl h) = omega (arith, h)
+  not_before l m i j (inr e) = omega (arith, e.0)
+
+  pub over_is_either : IsTakenOver s x ds ts c p → IsTaken s x ds c p ⊎ (IsTaken s x ts c p × NoneStands s x ds p.name)
+  over_is_either t = by t.owner t.place t.stands t.least
+    where
+      by : (a : Owner) (place : ℕ) → Stands s x (dirs_by a ds ts) c p place → ((d : Candidate) (q : PathParts) (o : Owner) (i : ℕ) → Stands s x (dirs_by o ds ts) d q i → q.name ≡ p.name → Precedes a (level_of p) place o (level_of q) i) → IsTaken s x ds c p ⊎ (IsTaken s x ts c p × NoneStands s x ds p.name)
+      by OfName place st least = inl (record { place = place; stands = st; least = λ d q i sq n. same_turn (least d q OfName i sq n) })
+      by OfType place st least =
+          inr (record { place = place; stands = st; least = λ d q i sq n. same_turn (least d q OfType i sq n) }, λ d q i sq n. not_before (level_of p) (level_of q) place i (least d q OfName i sq n))
+
+pub names_or_else_types : NamesOrElseTypes
+names_or_else_types s x ds ts c p = (over_is_either s x ds ts c p, by)
+  where
+    by : IsTaken s x ds c p ⊎ (IsTaken s x ts c p × NoneStands s x ds p.name) → IsTakenOver s x ds ts c p
+    by (inl a) = over_of_names s x ds ts c p a
+    by (inr b) = over_of_types s x ds ts c p b.0 b.1
+
+-- without folders of types those of names decide
+pub over_none : (s : EntryMap) (x : Search) (ds : List (List ℕ)) (c : Candidate) (p : PathParts) → IsTakenOver s x ds [] c p → IsTaken s x ds c p
+over_none s x ds c p t = by (over_is_either s x ds [] c p t)
+  where
+    nowhere : (i : ℕ) → Stands s x [] c p i → ⊥
+    nowhere i st = cc (st.folder_is)
+
+    by : IsTaken s x ds c p ⊎ (IsTaken s x [] c p × NoneStands s x ds p.name) → IsTaken s x ds c p
+    by (inl a) = a
+    by (inr b) = absurd (nowhere b.0.place b.0.stands)
+
+-- ---- one is taken, and what stands decides which
+
+pub over_once : OverOnce
+over_once s x ds ts c d p q a b n = by (over_is_either s x ds ts c p a) (over_is_either s x ds ts d q b)
+  where
+    by : IsTaken s x ds c p ⊎ (IsTaken s x ts c p × NoneStands s x ds p.name) → IsTaken s x ds d q ⊎ (IsTaken s x ts d q × NoneStands s x ds q.name) → (p ≡ q) × (c ≡ d)
+    by (inl k) (inl l) = taken_once s x ds c d p q k l n
+    by (inl k) (inr l) = absurd (l.1 c p k.place k.stands n)
+    by (inr k) (inl l) = absurd (k.1 d q l.place l.stands (sym n))
+    by (inr k) (inr l) = taken_once s x ts c d p q k.0 l.0 n
+
+module _ (s : EntryMap) (x : Search) (ds ts : List (List ℕ)) (f : List ℕ) where
+  found_over : (o : Option Candidate) → taken s x ds f ≡ o → (u : Option Candidate) → taken s x ts f ≡ u → ((c : Candidate) × (p : PathParts) × (p.name ≡ f) × IsTakenOver s x ds ts c p) ⊎ (NoneStands s x ds f × NoneStands s x ts f)
+  found_over (Some c) e u g = let b = found_is_taken s x ds f c e in inl (c, b.path, b.name_is, over_of_names s x ds ts c b.path b.taken)
+  found_over None e (Some c) g =
+      let b = found_is_taken s x ts f c g in
+      inl (c, b.path, b.name_is, over_of_types s x ds ts c b.path b.taken (λ d q i st n. none_stands s x ds f e d q i st (n ∙ b.name_is)))
+  found_over None e None g = inr (none_stands s x ds f e, none_stands s x ts f g)
+
+pub something_is_taken_over : SomethingIsTakenOver
+something_is_taken_over s x ds ts o d q i st = by o st (found_over s x ds ts q.name (taken s x ds q.name) refl (taken s x ts q.name) refl)
+  where
+    by : (o : Owner) → Stands s x (dirs_by o ds ts) d q i → ((c : Candidate) × (p : PathParts) × (p.name ≡ q.name) × IsTakenOver s x ds ts c p) ⊎ (NoneStands s x ds q.name × NoneStands s x ts q.name) → (c : Candidate) × (p : PathParts) × (p.name ≡ q.name) × IsTakenOver s x ds ts c p
+    by o st (inl h) = h
+    by OfName st (inr h) = absurd (h.0 d q i st refl)
+    by OfType st (inr h) = absurd (h.1 d q i st refl)
+
+-- what stands in one store stands in another that shows the same there
+stands_again : (s t : EntryMap) (x : Search) (ds : List (List ℕ)) → ((p : PathParts) (i : ℕ) → IsLevel (level_of p) → slice_get ds i ≡ Some p.folder → visible_at s p ≡ visible_at t p)
+    → (c : Candidate) (p : PathParts) (i : ℕ) → Stands s x ds c p i → Stands t x ds c p i
+stands_again s t x ds same c p i st = record {
+  level_within = st.level_within;
+  folder_is = st.folder_is;
+  says = ap (option_and_then (as_found x p)) (sym (same p i st.level_within st.folder_is)) ∙ st.says;
+}
+
+pub folders_decide_over : FoldersDecideOver
+folders_decide_over s t x ds ts same c p a = record {
+  owner = a.owner;
+  place = a.place;
+  stands = stands_again s t x (dirs_by a.owner ds ts) (same a.owner) c p a.place a.stands;
+  least = λ d q o i st n. a.least d q o i (stands_again t s x (dirs_by o ds ts) (λ r j l f. sym (same o r j l f)) d q i st) n;
+}
+
+pub removals_give_back_over : RemovalsGiveBackOver
+removals_give_back_over s t x ds ts m removed absent same =
+    folders_decide_over s t x ds ts (λ o q i l f. agree_everywhere path_cmp path_cmp_total path_cmp-IsAntisymmetric (visible_at s) (visible_at t) m (removed ∙ sym absent) same q)
