@@ -1,23 +1,23 @@
 -- Where a store says something of a unit, and what is elsewhere.
 -- Source: systemd.unit(5), "Description" and "Unit File Load Path".
-use Rattle.std.specs.Prelude.{◌≡◌, ◌≢◌, ◌⊎◌, ℕ, List, [], ◌++◌, codes}
+use Rattle.std.specs.Prelude.{◌≡◌, ◌≢◌, ◌⊎◌, ℕ, List, [], ◌++◌}
 use Rattle.list_laws.specs.Members.{IsAmong}
 use Rattle.load_path.specs.Paths.{PathParts}
 use Rattle.edit_sums.specs.Sums.{EntryMap, visible_at}
 use Rattle.unit_name.specs.Names.{Name}
 use Rattle.dropins.specs.FolderLists.{folders}
 use Rattle.dropins.specs.declared.link_names.Folder.TheVariants.{Wants, Requires}
-use Rattle.dropins.specs.Taken.{dirs_with, ending}
+use Rattle.dropins.specs.Taken.{dirs_with, ending, name_dirs, type_dirs}
 
--- the folders of a unit of these names, with their endings: those of drop-ins, and those of links
+-- the folders of a unit of these names, with their endings: those of drop-ins, also of their type's, and those of links
 abbrev pub unit_folders : List Name → List (List ℕ)
-unit_folders names = dirs_with (codes ".d") (folders names) ++ (dirs_with (ending Wants) (folders names) ++ dirs_with (ending Requires) (folders names))
+unit_folders names = name_dirs (folders names) ++ (type_dirs (folders names) ++ (dirs_with (ending Wants) (folders names) ++ dirs_with (ending Requires) (folders names)))
 
 -- the path has one component, or it is in one of these folders
 abbrev pub IsNear : List Name → PathParts → Type 0
 IsNear names p = (p.folder ≡ []) ⊎ IsAmong p.folder (unit_folders names)
 
--- The path is in a folder, and in none of a unit of these names: another name's drop-in, or another's link.
+-- The path is in a folder, and in none of a unit of these names: another name's or type's drop-in, or another's link.
 pub record IsElsewhere (names : List Name) (p : PathParts) : Type 0 where
   pub in_folder : p.folder ≢ []
   pub of_others : ¬ IsAmong p.folder (unit_folders names)

@@ -1,5 +1,5 @@
 -- What is shown elsewhere changes no unit.
-use Rattle.std.proofs.Common.{◌≡◌, ◌≢◌, ℕ, zero, suc, List, [], ◌∷◌, ◌++◌, map, refl, ap, sym, ◌∙◌, subst, inl, inr, codes}
+use Rattle.std.proofs.Common.{◌≡◌, ◌≢◌, ℕ, zero, suc, List, [], ◌∷◌, ◌++◌, map, refl, ap, sym, ◌∙◌, subst, inl, inr}
 use Rattle.std.specs.Prelude.{◌↔◌, ◌⊎◌, Some, slice_get}
 use Rattle.std.specs.List.{Contains}
 use Rattle.std.proofs.lemmas.Option.{same_Some}
@@ -24,9 +24,11 @@ use Rattle.dropins.specs.declared.link_names.Folder.TheVariants.{Wants, Requires
 use Rattle.dropins.specs.declared.precedence.Search.{Search}
 use Rattle.dropins.specs.declared.precedence.Search.TheVariants.{DropIns, Links}
 use Rattle.dropins.specs.FolderLists.{folders}
+use Rattle.dropins.specs.OverLaws.{folders_decide_over}
 use Rattle.dropins.specs.PrecedenceLaws.{folders_decide}
 use Rattle.dropins.specs.Taken.Candidate.{At}
-use Rattle.dropins.specs.Taken.{Candidate, IsDropIn, IsLinked, IsTaken, dirs_with, ending}
+use Rattle.dropins.specs.Taken.Owner.{OfName, OfType}
+use Rattle.dropins.specs.Taken.{Candidate, Owner, IsDropIn, IsLinked, IsTaken, dirs_by, dirs_with, ending, name_dirs, type_dirs}
 use Rattle.unit_loads.specs.declared.units.Status.{Status}
 use Rattle.unit_loads.specs.declared.units.Status.TheVariants.{Loaded, NotFound, Masked, Bad}
 use Rattle.unit_loads.specs.declared.units.Unit.{Unit as LoadedUnit}
@@ -71,15 +73,25 @@ module _ (s t : EntryMap) (names : List Name) (near : (p : PathParts) → IsNear
   same_taken : (x : Search) (ds : List (List ℕ)) → ((d : List ℕ) → IsAmong d ds → IsAmong d (unit_folders names)) → (c : Candidate) (p : PathParts) → IsTaken s x ds c p ↔ IsTaken t x ds c p
   same_taken x ds own c p = (folders_decide s t x ds (λ q i l f. shown_in ds own q i f) c p, folders_decide t s x ds (λ q i l f. sym (shown_in ds own q i f)) c p)
 
-  drop_in_folder : (d : List ℕ) → IsAmong d (dirs_with (codes ".d") (folders names)) → IsAmong d (unit_folders names)
-  drop_in_folder d h = IsAmong-append_left d (dirs_with (codes ".d") (folders names)) _ h
+  drop_in_folder : (o : Owner) (d : List ℕ) → IsAmong d (dirs_by o (name_dirs (folders names)) (type_dirs (folders names))) → IsAmong d (unit_folders names)
+  drop_in_folder OfName d h = IsAmong-append_left d (name_dirs (folders names)) _ h
+  drop_in_folder OfType d h = IsAmong-append_right d (name_dirs (folders names)) _ (IsAmong-append_left d (type_dirs (folders names)) _ h)
 
   link_folder : (folder : Folder) (d : List ℕ) → IsAmong d (dirs_with (ending folder) (folders names)) → IsAmong d (unit_folders names)
-  link_folder Wants d h = IsAmong-append_right d (dirs_with (codes ".d") (folders names)) _ (IsAmong-append_left d (dirs_with (ending Wants) (folders names)) _ h)
-  link_folder Requires d h = IsAmong-append_right d (dirs_with (codes ".d") (folders names)) _ (IsAmong-append_right d (dirs_with (ending Wants) (folders names)) _ h)
+  link_folder folder d h = IsAmong-append_right d (name_dirs (folders names)) _ (IsAmong-append_right d (type_dirs (folders names)) _ (by folder h))
+    where
+      by : (folder : Folder) → IsAmong d (dirs_with (ending folder) (folders names)) → IsAmong d (dirs_with (ending Wants) (folders names) ++ dirs_with (ending Requires) (folders names))
+      by Wants h = IsAmong-append_left d (dirs_with (ending Wants) (folders names)) _ h
+      by Requires h = IsAmong-append_right d (dirs_with (ending Wants) (folders names)) _ h
+
+  drop_in_folder_shown : (o : Owner) (p : PathParts) (i : ℕ) → slice_get (dirs_by o (name_dirs (folders names)) (type_dirs (folders names))) i ≡ Some p.folder → visible_at s p ≡ visible_at t p
+  drop_in_folder_shown o p i f = shown_in (dirs_by o (name_dirs (folders names)) (type_dirs (folders names))) (drop_in_folder o) p i f
 
   same_drop_in : (p : PathParts) → IsDropIn s names p ↔ IsDropIn t names p
-  same_drop_in p = same_taken DropIns (dirs_with (codes ".d") (folders names)) drop_in_folder (At p) p
+  same_drop_in p = (
+    folders_decide_over s t DropIns (name_dirs (folders names)) (type_dirs (folders names)) (λ o q i l f. drop_in_folder_shown o q i f) (At p) p,
+    folders_decide_over t s DropIns (name_dirs (folders names)) (type_dirs (folders names)) (λ o q i l f. sym (drop_in_folder_shown o q i f)) (At p) p,
+  )
 
   same_linked : (folder : Folder) (n : Name) → IsLinked s names folder n ↔ IsLinked t names folder n
   same_linked folder n = (
@@ -94,7 +106,7 @@ module _ (s t : EntryMap) (names : List Name) (near : (p : PathParts) → IsNear
   }
 
   drop_in_shown : (p : PathParts) → IsDropIn s names p → visible_at s p ≡ visible_at t p
-  drop_in_shown p d = shown_in (dirs_with (codes ".d") (folders names)) drop_in_folder p d.place d.stands.folder_is
+  drop_in_shown p d = drop_in_folder_shown d.owner p d.place d.stands.folder_is
 
   -- the files of the unit show the same
   files_shown : (fragment : PathParts) (dropins : List PathParts) → fragment.folder ≡ [] → AreDropIns s names dropins → (p : PathParts) → Contains (fragment ∷ dropins) p → visible_at s p ≡ visible_at t p

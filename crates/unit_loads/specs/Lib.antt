@@ -5,5 +5,6 @@ pub mod MemberLaws
 pub mod NameLaws
 pub mod NamedUnits
 pub mod Steps
+pub mod TypeLaws
 pub mod UnitLaws
 pub mod Units

@@ -1,7 +1,13 @@
 //! What is true of all units: laws, each the contract of a function that does nothing.
 ghost use Rattle.unit_loads.specs.ElsewhereLaws.{ElsewhereChangesNothing, NearPathsDecide};
 ghost use Rattle.unit_loads.specs.NameLaws.{ListsHaveWhatIsNamed, ListsRise, OthersNameNone, UnitsListAllKinds};
+ghost use Rattle.unit_loads.specs.TypeLaws.{UnitsHaveOneType};
 ghost use Rattle.unit_loads.specs.UnitLaws.{OneUnit};
+
+/// All names of a unit have one type, so one type's folder speaks for it.
+pub fn one_type()
+    ensures one { UnitsHaveOneType }
+{}
 
 /// Two units of one name in one store are the same unit, so a load is a function of the store.
 pub fn one_unit()
@@ -17,8 +23,8 @@ pub fn named_unit_laws()
     ensures loaded { OthersNameNone }
 {}
 
-/// A unit is decided by what is visible at paths of one component and in its own folders. So an edit in another folder,
-/// as of another name's drop-in, leaves it as it was, removals too.
+/// A unit is decided by what is visible at paths of one component, in its own folders and in its type's. So an edit in
+/// another folder, as of another name's drop-in, leaves it as it was, removals too.
 pub fn elsewhere_laws()
     ensures near { NearPathsDecide }
     ensures elsewhere { ElsewhereChangesNothing }
