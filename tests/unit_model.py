@@ -258,22 +258,25 @@ class Fleet:
 
     # ---- drop-ins and link folders
 
-    def taken(self, names, ending, counts):
-        """For each file name what is taken: the least in rank, and then in the list of folders."""
+    def taken(self, names, types, ending, counts):
+        """For each file name what is taken: folders of names go before those of types, then the least in rank counts, and then the place in
+        the list of folders."""
         found = {}
-        for place, folder in enumerate(folders(names)):
-            for rank, directory in enumerate(DIRECTORIES):
-                for file, content in self.folder(rank, folder + ending):
-                    if counts(file, content):
-                        found.setdefault(file, []).append((rank, place, f"{directory}/{folder}{ending}/{file}", content))
-        return {file: min(those)[2:] for file, those in found.items()}
+        for turn, owners in enumerate([names, types]):
+            for place, folder in enumerate(owners):
+                for rank, directory in enumerate(DIRECTORIES):
+                    for file, content in self.folder(rank, folder + ending):
+                        if counts(file, content):
+                            found.setdefault(file, []).append((turn, rank, place, f"{directory}/{folder}{ending}/{file}", content))
+        return {file: min(those)[3:] for file, those in found.items()}
 
     def dropins(self, names):
-        taken = self.taken(names, ".d", is_dropin)
+        types = list(dict.fromkeys(Name(name).kind for name in names))
+        taken = self.taken(folders(names), types, ".d", is_dropin)
         return [path for _, (path, content) in sorted(taken.items()) if content and not isinstance(content, Link)]
 
     def links(self, names, ending):
-        taken = self.taken(names, ending, lambda _, content: isinstance(content, Link))
+        taken = self.taken(folders(names), [], ending, lambda _, content: isinstance(content, Link))
         return sorted(file for file, (_, target) in taken.items() if target != "/dev/null" and name_or_none(file))
 
     # ---- one unit
