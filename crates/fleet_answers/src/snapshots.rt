@@ -106,7 +106,7 @@ impl Snapshot {
     {
         match question {
             Question::Unit(name) => Ok(Answer::Unit(self.linked_unit(alloc, name)?)),
-            Question::Pulled(name) => Ok(Answer::Pulled(self.pulled(alloc, name)?)),
+            Question::Pulled(name) => Ok(Answer::Pulled(self.pulled(name)?)),
             Question::Plan(request) => self.planned(alloc, request),
         }
     }
@@ -133,11 +133,11 @@ impl Snapshot {
     }
 
     // What the unit pulls for which a name stands.
-    fn pulled(&self, alloc: Global, name: &UnitName) -> Result<Items<(u64, UnitName)>, AllocError>
+    fn pulled(&self, name: &UnitName) -> Result<Items<(u64, UnitName)>, AllocError>
         requires known { IsKnown self.now.load name.now }
         ensures depths { IfOk result (AreDepths self.now name.now) }
     {
-        Ok(Items::from_vec(self.graph().depths(alloc, name)?))
+        Ok(Items::from_vec(self.graph().depths(name)?))
     }
 
     // The plan of a request, or why there is none.

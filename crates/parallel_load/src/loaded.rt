@@ -68,6 +68,11 @@ impl Loaded {
         Loaded { extra, names, deps }
     }
 
+    /// The allocator that the load takes its memory from.
+    pub fn allocator(&self) -> Global {
+        *self.names.allocator()
+    }
+
     /// The names that were asked for, as they were given. It takes no memory.
     pub fn extra(&self) -> &[UnitName]
         ensures extra { result.now ≡ self.now.extra }
@@ -112,10 +117,10 @@ impl Loaded {
     }
 
     /// All units, in the byte order of their names. It fails for want of memory alone.
-    pub fn units(&self, alloc: Global) -> Result<Vec<&Unit>, AllocError>
+    pub fn units(&self) -> Result<Vec<&Unit>, AllocError>
         ensures units { IfOk result (λ units. map (λ u. u.now) units.items ≡ units_in self.now) }
     {
-        let mut units = Vec::new(alloc);
+        let mut units = Vec::new(self.allocator());
         for (_, load) in &self.names {
             if let NameLoad::Unit(unit) = load {
                 units.push(unit)?;

@@ -79,9 +79,9 @@ pub(crate) fn case_of<'b>(
     let target = graph.number(&request.target).unwrap();
     let status = status_marks(alloc, graph.loaded())?;
     let running = named_marks(alloc, graph, request.running.as_slice())?;
-    let needing = both_ways(alloc, graph, &NEEDING, &NEEDED)?;
-    let asked = asked_of(alloc, graph)?;
-    let tying = both_ways(alloc, graph, &TYING, &TAKING)?;
+    let needing = both_ways(graph, &NEEDING, &NEEDED)?;
+    let asked = asked_of(graph)?;
+    let tying = both_ways(graph, &TYING, &TAKING)?;
     Ok(PlanRows {
         target,
         loaded: status.loaded,
@@ -112,7 +112,6 @@ fn status_marks(alloc: Global, load: &Loaded) -> Result<StatusMarks, AllocError>
 
 // The steps of kinds, and those of their inverses.
 fn both_ways<'b>(
-    alloc: Global,
     graph: &'b Graph,
     kinds: &[DepKind],
     others: &[DepKind],
@@ -124,13 +123,13 @@ fn both_ways<'b>(
         (Named (steps_from both.inverses)) (LeadsBy graph.now.edges others.now)) }
     ensures inverses_within { IfOk result (λ both. AreStepsOf (count_of graph.now.load) both.inverses) }
 {
-    let steps = graph.steps(alloc, kinds)?;
-    let inverses = graph.steps(alloc, others)?;
+    let steps = graph.steps(kinds)?;
+    let inverses = graph.steps(others)?;
     Ok(BothWays { steps, inverses })
 }
 
 // The steps to what units want, and to their requisites.
-fn asked_of<'b>(alloc: Global, graph: &'b Graph) -> Result<Asked<'b>, AllocError>
+fn asked_of<'b>(graph: &'b Graph) -> Result<Asked<'b>, AllocError>
     ensures wants { IfOk result (λ asked. AreNamedSteps (count_of graph.now.load) (name_at graph.now.load)
         (Named (steps_from asked.wants)) (LeadsBy graph.now.edges (Wants ∷ []))) }
     ensures wants_within { IfOk result (λ asked. AreStepsOf (count_of graph.now.load) asked.wants) }
@@ -138,7 +137,7 @@ fn asked_of<'b>(alloc: Global, graph: &'b Graph) -> Result<Asked<'b>, AllocError
         (Named (steps_from asked.requisites)) (LeadsBy graph.now.edges (Requisite ∷ []))) }
     ensures requisites_within { IfOk result (λ asked. AreStepsOf (count_of graph.now.load) asked.requisites) }
 {
-    let wants = graph.steps(alloc, &[DepKind::Wants])?;
-    let requisites = graph.steps(alloc, &[DepKind::Requisite])?;
+    let wants = graph.steps(&[DepKind::Wants])?;
+    let requisites = graph.steps(&[DepKind::Requisite])?;
     Ok(Asked { wants, requisites })
 }

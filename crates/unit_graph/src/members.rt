@@ -3,16 +3,16 @@ ghost use Rattle.std.specs.Prelude.{◌≡◌, IfOk};
 ghost use Rattle.unit_graph.specs.Graphs.{members_in};
 
 use crate::graph::Graph;
-use std::alloc::{AllocError, Global};
+use std::alloc::AllocError;
 use unit_name::UnitName;
 
 impl<'a> Graph<'a> {
     /// The main names of all units, in byte order. It fails for want of memory alone.
-    pub fn members(&self, alloc: Global) -> Result<Vec<UnitName>, AllocError>
+    pub fn members(&self) -> Result<Vec<UnitName>, AllocError>
         ensures members { IfOk result (λ names. names.items ≡ members_in self.now.load) }
     {
-        let mut names = Vec::new(alloc);
-        let units = self.loaded.units(alloc)?;
+        let mut names = Vec::new(self.loaded.allocator());
+        let units = self.loaded.units()?;
         for unit in &units {
             names.push(unit.name.try_clone()?)?;
         }

@@ -13,17 +13,17 @@ ghost use Rattle.unit_graph.specs.Tables.{IsTable};
 use crate::graph::Graph;
 use index_rows::Steps;
 use setting_rules::DepKind;
-use std::alloc::{AllocError, Global};
+use std::alloc::AllocError;
 
 impl<'a> Graph<'a> {
     /// From each unit the steps of these kinds, by numbers. Numbers rise with names, and none leads from an alias. It fails
     /// for want of memory alone. O(the kinds): the edges' own rows are lent.
-    pub fn steps<'b>(&'b self, alloc: Global, kinds: &[DepKind]) -> Result<Steps<'b>, AllocError>
+    pub fn steps<'b>(&'b self, kinds: &[DepKind]) -> Result<Steps<'b>, AllocError>
         ensures steps { IfOk result (λ steps. AreNamedSteps (count_of self.now.load) (name_at self.now.load)
             (Named (steps_from steps)) (LeadsBy self.now.edges kinds.now)) }
         ensures within { IfOk result (λ steps. AreStepsOf (count_of self.now.load) steps) }
     {
-        let mut steps = Steps::new(alloc);
+        let mut steps = Steps::new(self.loaded.allocator());
         for kind in kinds {
             steps.push(self.table(*kind))?;
         }

@@ -21,7 +21,7 @@ fn append_here(
 ) -> Result<(), AllocError> {
     match here {
         Ok(load) => {
-            append_load(alloc, out, load)?;
+            append_load(out, load)?;
             for name in looked {
                 append_looked_up(alloc, out, load, name)?;
             }

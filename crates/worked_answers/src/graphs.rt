@@ -79,9 +79,9 @@ fn append_reached(
     requires known { IsKnown graph.now.load name.now }
 {
     begin(out, b"reach")?;
-    append_names(out, &graph.reach(alloc, kinds, name)?)?;
+    append_names(out, &graph.reach(kinds, name)?)?;
     begin(out, b"depths")?;
-    for (depth, far) in &graph.depths(alloc, name)? {
+    for (depth, far) in &graph.depths(name)? {
         append_depth(alloc, out, *depth, far)?;
     }
     Ok(())
@@ -116,7 +116,7 @@ fn append_all(
     names: &[UnitName],
 ) -> Result<(), AllocError> {
     begin(out, b"members")?;
-    append_names(out, &graph.members(alloc)?)?;
+    append_names(out, &graph.members()?)?;
     for name in names {
         append_from(alloc, out, graph, kinds, name)?;
     }

@@ -45,13 +45,13 @@ fn append_units(out: &mut Vec<u8>, units: &[&Unit]) -> Result<(), AllocError> {
 }
 
 /// Writes what was asked for, all names with what they stand for, and the units.
-pub fn append_load(alloc: Global, out: &mut Vec<u8>, load: &Loaded) -> Result<(), AllocError> {
+pub fn append_load(out: &mut Vec<u8>, load: &Loaded) -> Result<(), AllocError> {
     begin(out, b"asked")?;
     append_names(out, load.extra())?;
     begin(out, b"names")?;
     append_loads(out, load.names())?;
     begin(out, b"units")?;
-    append_units(out, &load.units(alloc)?)
+    append_units(out, &load.units()?)
 }
 
 // Writes paths, each behind a space.
