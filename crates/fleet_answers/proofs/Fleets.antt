@@ -17,30 +17,35 @@ use Rattle.fleet_answers.specs.declared.questions.Answer.{Answer}
 use Rattle.fleet_answers.specs.declared.questions.Question.{Question}
 use Rattle.fleet_answers.proofs.Held.{if_some, of_found, shown_at}
 
-module _ (n : ℕ) (events : List Event) (world : World) (k : ℕ) (extra : List Name) (question : Question) (r : Replicated) (answer : Answer) (here : slice_get world.replicas.items k ≡ Some r)
-    (is : IsAnswer r.store extra question answer) where
+-- the answer is that of the replica of a node
+pub record IsOfReplica (world : World) (k : ℕ) (extra : List Name) (question : Question) (answer : Answer) : Type 0 where
+  pub replica : Replicated
+  pub here : slice_get world.replicas.items k ≡ Some replica
+  pub answers : IsAnswer replica.store extra question answer
+
+module _ (n : ℕ) (events : List Event) {world : World} {k : ℕ} {extra : List Name} {question : Question} {answer : Answer} (of : IsOfReplica world k extra question answer) where
   pub of_store : IsWorld (world_after n events) world → AnswersItsStore n events k extra question answer
   of_store shows =
-      shown_at (λ (x : Replicated). x.store) (λ (x : Node). x.store) (λ (s : EntryMap). IsAnswer s extra question answer) world.replicas.items (world_after n events).nodes k r
-      shows.stores_are here is
+      shown_at (λ (x : Replicated). x.store) (λ (x : Node). x.store) (λ (s : EntryMap). IsAnswer s extra question answer) world.replicas.items (world_after n events).nodes k
+      of.replica shows.stores_are of.here of.answers
 
   pub of_sum : HoldsSums n events world → AnswersItsSum n events k extra question answer
   of_sum sums honest =
       subst (λ (s : EntryMap). IsAnswer s extra question answer)
-      (of_found (λ (x : Replicated). x.store ≡ sum_of (took_after n events k)) world.replicas.items k r here (sums honest k)) is
+      (of_found (λ (x : Replicated). x.store ≡ sum_of (took_after n events k)) world.replicas.items k of.replica of.here (sums honest k)) of.answers
 
   pub as_told : HoldsSumsAsTold n events world → AnswersAsTold n events k extra question answer
   as_told told honest = record {
-    store = r.store;
-    sum = of_found (λ (x : Replicated). IsSumOf (Took n (reverse events) k) x.store) world.replicas.items k r here (told honest k);
-    answers = is;
+    store = of.replica.store;
+    sum = of_found (λ (x : Replicated). IsSumOf (Took n (reverse events) k) x.store) world.replicas.items k of.replica of.here (told honest k);
+    answers = of.answers;
   }
 
   pub agrees : ((later : List Event) → HoldsLater n events world later) → (later : List Event) → AgreesLater n events k extra question later answer
   agrees same later honest l edits other =
-      if_some (λ (x : Node). r.store ≡ x.store) (λ (x : Node). IsAnswer x.store extra question other → other ≡ answer)
-      (λ x e h. one_answer x.store extra question other answer h (subst (λ (s : EntryMap). IsAnswer s extra question answer) e is)) (slice_get (world_after n (events ++ later)).nodes l)
-      (of_found (λ (x : Replicated). NodeHolds n (events ++ later) l (λ late. x.store ≡ late)) world.replicas.items k r here (same later honest k l edits))
+      if_some (λ (x : Node). of.replica.store ≡ x.store) (λ (x : Node). IsAnswer x.store extra question other → other ≡ answer)
+      (λ x e h. one_answer x.store extra question other answer h (subst (λ (s : EntryMap). IsAnswer s extra question answer) e of.answers)) (slice_get (world_after n (events ++ later)).nodes l)
+      (of_found (λ (x : Replicated). NodeHolds n (events ++ later) l (λ late. x.store ≡ late)) world.replicas.items k of.replica of.here (same later honest k l edits))
 
 -- ---- stores
 

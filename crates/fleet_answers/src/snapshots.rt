@@ -100,14 +100,14 @@ impl Snapshot {
     }
 
     /// Answers a question all of whose names stand for units. It fails for want of memory alone.
-    pub fn answer(self, alloc: Global, question: &Question) -> Result<Answer, AllocError>
+    pub fn answer(self, question: &Question) -> Result<Answer, AllocError>
         requires known { AreKnown self.load (names_asked question.now) }
         ensures told { IfOk result (IsTold self question.now) }
     {
         match question {
-            Question::Unit(name) => Ok(Answer::Unit(self.linked_unit(alloc, name)?)),
+            Question::Unit(name) => Ok(Answer::Unit(self.linked_unit(name)?)),
             Question::Pulled(name) => Ok(Answer::Pulled(self.pulled(name)?)),
-            Question::Plan(request) => self.planned(alloc, request),
+            Question::Plan(request) => self.planned(request),
         }
     }
 
@@ -119,13 +119,13 @@ impl Snapshot {
     }
 
     // The unit for which a name stands, with its edges.
-    fn linked_unit(self, alloc: Global, name: &UnitName) -> Result<LinkedUnit, AllocError>
+    fn linked_unit(self, name: &UnitName) -> Result<LinkedUnit, AllocError>
         requires known { IsKnown self.load name.now }
         ensures unit { IfOk result (IsLinkedUnit self name.now) }
     {
         let Snapshot { loaded, edges } = self;
         let main = main_of(&loaded, name).try_clone()?;
-        let edges = edge_lists(alloc, &edges, &main)?;
+        let edges = edge_lists(loaded.allocator(), &edges, &main)?;
         match loaded.into_unit(&main) {
             Some(unit) => Ok(LinkedUnit { unit, edges }),
             None => unreachable!(),
@@ -141,11 +141,11 @@ impl Snapshot {
     }
 
     // The plan of a request, or why there is none.
-    fn planned(&self, alloc: Global, request: &Request) -> Result<Answer, AllocError>
+    fn planned(&self, request: &Request) -> Result<Answer, AllocError>
         requires names { IsOfGraph self.now.load request.now }
         ensures told { IfOk result (IsPlanTold self.now request.now) }
     {
-        match self.plan(alloc, request) {
+        match self.plan(request) {
             Ok(plan) => Ok(Answer::Planned(plan)),
             Err(Refusal::Memory) => Err(AllocError),
             Err(refusal) => Ok(Answer::Refused(refusal)),
@@ -153,12 +153,12 @@ impl Snapshot {
     }
 
     // The plan of a request, or the first reason why there is none.
-    fn plan(&self, alloc: Global, request: &Request) -> Result<Plan, Refusal>
+    fn plan(&self, request: &Request) -> Result<Plan, Refusal>
         requires names { IsOfGraph self.now.load request.now }
         ensures plan { IfOk result (IsPlanned self.now.load self.now.edges request.now) }
         ensures refusal { IfErr result (IsRefusalOf self.now.load self.now.edges request.now) }
     {
-        plan(alloc, &self.graph(), request)
+        plan(self.loaded.allocator(), &self.graph(), request)
     }
 }
 
