@@ -1,7 +1,7 @@
 -- The order of versions, of entries, and of entries that may not be there yet: by counter, then writer, then content.
 -- Source (last writer wins by timestamps): Shapiro, Preguica, Baquero, Zawirski 2011; that ties go by content is this project's own.
-use Rattle.std.specs.Prelude.{◌≡◌, false, if◌then◌else◌, Option, Some, None}
-use Rattle.std.specs.Ordering.{nat_cmp, ordering_then, is_gt}
+use Rattle.std.specs.Prelude.{◌≡◌, Bool, false, not, if◌then◌else◌, Option, Some, None}
+use Rattle.std.specs.Ordering.{nat_cmp, ordering_then, is_eq, is_gt}
 use Rattle.std.specs.declared.cmp.Ordering.{Ordering}
 use Rattle.std.specs.declared.cmp.Ordering.TheVariants.{Less, Equal, Greater}
 use Rattle.join_law.specs.declared.versions.Version.{Version}
@@ -55,3 +55,8 @@ abbrev pub versioned_max : {C : Type 0} → (C → C → Ordering) → Versioned
 versioned_max R Never y = y
 versioned_max R (At x) Never = At x
 versioned_max R (At x) (At y) = if is_gt (entry_cmp R x y) then At x else At y
+
+-- an entry with another content was written
+abbrev pub has_other : {C : Type 0} → (C → C → Ordering) → C → Versioned C → Bool
+has_other R c Never = false
+has_other R c (At x) = not (is_eq (R x.content c))

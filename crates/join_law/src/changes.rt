@@ -4,47 +4,80 @@ ghost use Rattle.std.specs.Bool.{OnTrue, OnFalse};
 ghost use Rattle.std.specs.FinMap.{find};
 ghost use Rattle.join_law.specs.Maps.{IsMap, MapBelow, is_some_and};
 ghost use Rattle.join_law.specs.Order.{IsJoin};
+ghost use Rattle.join_law.specs.VersionOrder.{has_other};
 
 use crate::joins::Join;
 use crate::maps::JoinMap;
+use crate::versions::{Entry, Versioned};
 use plain_values::Key;
 use sorted_pairs::seek;
 
 /// A change of a value: it joins something, or is not made. It takes no memory.
-pub trait Change<V: Join> {
+pub trait Change: Drop {
+    /// The values that it may change.
+    type Value: Join;
+
     // Whether it is made at a value.
-    ghost is_made: { Self → V → Bool };
+    ghost is_made: { Self → Self.Value → Bool };
 
     // What it joins where it is made.
-    ghost added: { Self → V };
+    ghost added: { Self → Self.Value };
 
     /// Makes it, and answers whether it was made.
-    fn make(&self, value: &mut V) -> bool
-        ensures made { result ≡ is_made self.now value.old }
-        ensures joined { OnTrue result (IsJoin V.below value.old (added self.now) value.new) }
+    fn make(self, value: &mut Self::Value) -> bool
+        ensures made { result ≡ is_made self value.old }
+        ensures joined { OnTrue result (IsJoin Self.Value.below value.old (added self) value.new) }
         ensures same { OnFalse result (value.new ≡ value.old) }
-        ensures valid { V.is_valid value.new };
+        ensures valid { Self.Value.is_valid value.new };
+}
+
+/// A write of an entry, which is made where an entry with another content is held.
+#[derive(Drop)]
+pub struct Overwrite<C: Key> {
+    /// What is written.
+    pub entry: Entry<C>,
+}
+
+impl<C: Key> Change for Overwrite<C> {
+    type Value = Versioned<C>;
+
+    ghost use Rattle.join_law.specs.declared.versions.Versioned.TheVariants.{At};
+    ghost use Rattle.join_law.specs.VersionOrder.{has_other};
+
+    ghost is_made = { λ o value. has_other C.cmp o.entry.content value };
+
+    ghost added = { λ o. At o.entry };
+
+    /// Keeps the greater of the two entries.
+    fn make(self, value: &mut Versioned<C>) -> bool {
+        let Overwrite { entry } = self;
+        is_other(value, &entry.content) && value.join_from(Versioned::At(entry)).is_ok()
+    }
+}
+
+// Whether an entry with another content is held.
+fn is_other<C: Key>(value: &Versioned<C>, content: &C) -> bool
+    ensures other { result ≡ has_other C.cmp content.now value.now }
+{
+    match value {
+        Versioned::Never => false,
+        Versioned::At(entry) => !entry.content.cmp(content).is_eq(),
+    }
 }
 
 /// A change of the value at a key of a map, which is not made where the key is absent. Of maps of maps it is a change at
 /// a key, of a change at a key.
 #[derive(Drop)]
 pub struct ChangeAt<'a, K, C> {
-    key: &'a K,
-    change: C,
+    /// Where it is made.
+    pub key: &'a K,
+    /// What is made there.
+    pub change: C,
 }
 
-impl<'a, K, C> ChangeAt<'a, K, C> {
-    /// A change of the value at a key.
-    pub fn new(key: &'a K, change: C) -> Self
-        ensures key { result.key.now ≡ key.now }
-        ensures change { result.change ≡ change }
-    {
-        ChangeAt { key, change }
-    }
-}
+impl<'a, K: Key, C: Change> Change for ChangeAt<'a, K, C> {
+    type Value = JoinMap<K, C::Value>;
 
-impl<'a, K: Key, V: Join, C: Change<V>> Change<JoinMap<K, V>> for ChangeAt<'a, K, C> {
     ghost use Rattle.join_law.specs.Maps.{is_some_and};
 
     ghost is_made = { λ a map. is_some_and (C.is_made a.change) (find K.cmp a.key.now map) };
@@ -52,20 +85,21 @@ impl<'a, K: Key, V: Join, C: Change<V>> Change<JoinMap<K, V>> for ChangeAt<'a, K
     ghost added = { λ a. (a.key.now, C.added a.change) ∷ [] };
 
     /// A search, and the change of the value that is found.
-    fn make(&self, map: &mut JoinMap<K, V>) -> bool {
+    fn make(self, map: &mut JoinMap<K, C::Value>) -> bool {
+        let ChangeAt { key, change } = self;
         let pairs = &mut map.pairs;
-        change_pair(pairs, self.key, &self.change)
+        change_pair(pairs, key, change)
     }
 }
 
 // Changes the value at a key, and answers whether the change was made.
-fn change_pair<K: Key, V: Join, C: Change<V>>(pairs: &mut Vec<(K, V)>, key: &K, change: &C) -> bool
-    requires { IsMap K.cmp V.below V.is_valid pairs.old.items }
-    ensures made { result ≡ is_some_and (C.is_made change.now) (find K.cmp key.now pairs.old.items) }
-    ensures joined { OnTrue result (IsJoin (MapBelow K.cmp V.below) pairs.old.items
-        ((key.now, C.added change.now) ∷ []) pairs.new.items) }
+fn change_pair<K: Key, C: Change>(pairs: &mut Vec<(K, C::Value)>, key: &K, change: C) -> bool
+    requires { IsMap K.cmp C.Value.below C.Value.is_valid pairs.old.items }
+    ensures made { result ≡ is_some_and (C.is_made change) (find K.cmp key.now pairs.old.items) }
+    ensures joined { OnTrue result (IsJoin (MapBelow K.cmp C.Value.below) pairs.old.items
+        ((key.now, C.added change) ∷ []) pairs.new.items) }
     ensures same { OnFalse result (pairs.new.items ≡ pairs.old.items) }
-    ensures map { IsMap K.cmp V.below V.is_valid pairs.new.items }
+    ensures map { IsMap K.cmp C.Value.below C.Value.is_valid pairs.new.items }
 {
     match seek(pairs, key) {
         Ok(at) => {

@@ -17,7 +17,7 @@ mod nested;
 mod passes;
 mod versions;
 
-pub use changes::{Change, ChangeAt};
+pub use changes::{Change, ChangeAt, Overwrite};
 pub use joins::{Join, Rest};
 pub use maps::JoinMap;
 pub use plain_values::Key;

@@ -10,3 +10,4 @@ pub mod Rises
 pub mod Sizes
 pub mod Merges
 pub mod Singles
+pub mod Removals

@@ -1,8 +1,9 @@
 //! Stores.
-ghost use Rattle.std.specs.Prelude.{◌≡◌, ◌≤◌, ◌↔◌, ◌+◌, None, IsTrue, IsSome, IsOk, IfOk, OnOk, OnErr, IfErr, filter};
+ghost use Rattle.std.specs.Prelude.{◌≡◌, ◌≤◌, ◌↔◌, ◌+◌, None, IsTrue, IsSome, IsOk, IfOk, OnOk, OnErr, IfErr, filter, is_some};
 ghost use Rattle.std.specs.Bool.{OnTrue, OnFalse};
 ghost use Rattle.std.specs.Option.{option_copied, option_map, IfSome};
 ghost use Rattle.std.specs.FinMap as finmap;
+ghost use Rattle.edit_sums.specs.declared.contents.Content.TheVariants.{Gone};
 ghost use Rattle.edit_sums.specs.Sums.{changed_paths, high_of, join, sum_of, visible_at, with_edit, IsStoreBelow};
 ghost use Rattle.path_maps.specs.Beside.{beside};
 ghost use Rattle.path_maps.specs.Folders.{is_in, path_at};
@@ -14,7 +15,7 @@ use crate::counts::{Counts, count_entries};
 use crate::entries::{Entries, Placed};
 use crate::look_ups::{folder_at, pair_at};
 use edit_sums::{Content, Edit, Entry};
-use join_law::{Join, JoinMap, Rest, Versioned};
+use join_law::{Change, ChangeAt, Join, JoinMap, Overwrite, Rest, Version, Versioned};
 use load_path::Path;
 use plain_values::Bytes;
 use std::alloc::{AllocError, Global};
@@ -225,6 +226,36 @@ impl Store {
         self.len += usize::from(added);
         self.high = self.high.max(version.counter);
         Ok(())
+    }
+
+    /// Joins a removal at a path where a content is visible, and answers whether one was. One search in each of three
+    /// maps, without memory.
+    pub fn join_removal(&mut self, path: &Path, version: Version) -> bool
+        ensures visible { result ≡ is_some (visible_at self.old path.now) }
+        ensures removed { OnTrue result (self.new ≡ with_edit self.old (record
+            { path = path.now; version = version; content = Gone })) }
+        ensures same { OnFalse result (self.new ≡ self.old) }
+    {
+        let (rank, folder, name) = path.parts();
+        let content = Content::gone();
+        let entry = Entry { version, content };
+        let at_name = ChangeAt {
+            key: name,
+            change: Overwrite { entry },
+        };
+        let at_folder = ChangeAt {
+            key: folder,
+            change: at_name,
+        };
+        let removal = ChangeAt {
+            key: &rank,
+            change: at_folder,
+        };
+        let removed = removal.make(&mut self.ranks);
+        if removed {
+            self.high = self.high.max(version.counter);
+        }
+        removed
     }
 
     /// Joins copies of what another store holds, and answers how many paths changed. Both are read side by side; where

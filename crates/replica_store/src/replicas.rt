@@ -1,5 +1,5 @@
 //! Replicas.
-ghost use Rattle.std.specs.Prelude.{◌≡◌, ◌↔◌, IfOk, OnOk, OnErr, IfErr, IsErrOf, IsSome, None};
+ghost use Rattle.std.specs.Prelude.{◌≡◌, ◌↔◌, IfOk, OnOk, OnErr, IfErr, IsErrOf, IsSome, None, MatchOption, ◌≢◌};
 ghost use Rattle.std.specs.FinMap as finmap;
 ghost use Rattle.edit_sums.specs.declared.contents.Content.TheVariants.{Gone};
 ghost use Rattle.edit_sums.specs.Sums.{changed_paths, high_of, join, visible_at, IsStoreBelow};
@@ -105,12 +105,8 @@ impl Replica {
         ensures held { IsSome (finmap.get self.old.store path) → IsErrOf result EditFault.Memory → ⊥ }
         ensures err { OnErr result (self.new ≡ self.old) }
     {
-        let Some(counter) = self.store.high().checked_add(1) else {
+        let Some(version) = self.next_version() else {
             return Err(EditFault::VersionsSpent);
-        };
-        let version = Version {
-            counter,
-            writer: self.writer,
         };
         let edit = Edit {
             path,
@@ -127,7 +123,7 @@ impl Replica {
     /// stays.
     ///
     /// It is refused as `Nothing` exactly where nothing is visible, else as `put` is. It takes no
-    /// memory, since the path is held. A refusal changes nothing.
+    /// memory, since the path is held, and seeks it once. A refusal changes nothing.
     pub fn remove(&mut self, path: Path) -> Result<Version, EditFault>
         ensures version { IfOk result (λ version. version ≡ next_version self.old) }
         ensures joined { OnOk result (self.new ≡ with_put self.old (record
@@ -138,10 +134,29 @@ impl Replica {
         ensures without_memory { IsErrOf result EditFault.Memory → ⊥ }
         ensures err { OnErr result (self.new ≡ self.old) }
     {
-        if self.store.visible(&path).is_none() {
-            return Err(EditFault::Nothing);
+        let Some(version) = self.next_version() else {
+            return match self.store.visible(&path) {
+                Some(_) => Err(EditFault::VersionsSpent),
+                None => Err(EditFault::Nothing),
+            };
+        };
+        if self.store.join_removal(&path, version) {
+            Ok(version)
+        } else {
+            Err(EditFault::Nothing)
         }
-        self.put(path, Content::gone())
+    }
+
+    // The version of its next edit: `high` + 1 and the writer; none, where `high` is the greatest counter.
+    fn next_version(&self) -> Option<Version>
+        ensures next { MatchOption result (high_of self.now.store ≡ u64.MAX)
+            (λ version. (version ≡ next_version self.now) × (high_of self.now.store ≢ u64.MAX)) }
+    {
+        let counter = self.store.high().checked_add(1)?;
+        Some(Version {
+            counter,
+            writer: self.writer,
+        })
     }
 
     /// Joins copies of what a store holds, and answers how many paths changed. Both are read side by side; then it costs

@@ -8,17 +8,17 @@ use Rattle.join_law.proofs.changes.change_pair.Goals as goal
 pub returns-in-Ok-clause-made : goal.returns-in-Ok-clause-made
 returns-in-Ok-clause-made g c =
     let found = find_at g.K.Ord.cmp c.args.key.now c.args.pairs.now.items c.in-Ok.at c.index_mut-place.result.now (rw c.deref.ensures.value at c.in-Ok.ensures.found) ∙ ap (λ x. Some x.1) (sym c.index_mut-place.ensures.value) in
-    c.make.ensures.made ∙ sym (ap (is_some_and (g.C.Change.is_made c.args.change.now)) found)
+    c.make.ensures.made ∙ sym (ap (is_some_and (g.C.Change.is_made c.args.change)) found)
 
 pub returns-in-Err-clause-made : goal.returns-in-Err-clause-made
 returns-in-Err-clause-made g c =
     let none = find_gap g.K.Ord.cmp c.args.key.now g.met.K.Ord.total _ _ c.requires.sorted (rw c.deref.ensures.value at c.in-Err.ensures.absent) in
-    sym (ap (is_some_and (g.C.Change.is_made c.args.change.now)) none)
+    sym (ap (is_some_and (g.C.Change.is_made c.args.change)) none)
 
 pub returns-in-Ok-clause-joined : goal.returns-in-Ok-clause-joined
 returns-in-Ok-clause-joined g c =
     on_true_weaker c.make.result
-    (joined_is_join g.K.Ord.cmp g.met.K.Ord.total g.V.Join.is_valid g.V.Join.below g.met.V.Join.reflexive g.met.V.Join.transitive c.args.key.now _ _ c.requires _ (rw c.deref.ensures.value at c.in-Ok.ensures.found) c.index_mut-place.ensures.value (g.C.Change.added c.args.change.now) _)
+    (joined_is_join g.K.Ord.cmp g.met.K.Ord.total g.C.Value.Join.is_valid g.C.Value.Join.below g.met.C.Value.Join.reflexive g.met.C.Value.Join.transitive c.args.key.now _ _ c.requires _ (rw c.deref.ensures.value at c.in-Ok.ensures.found) c.index_mut-place.ensures.value (g.C.Change.added c.args.change) _)
     c.make.ensures.joined
 
 pub returns-in-Ok-clause-same : goal.returns-in-Ok-clause-same
@@ -30,6 +30,6 @@ returns-in-Ok-clause-same g c =
 pub returns-in-Ok-clause-map : goal.returns-in-Ok-clause-map
 returns-in-Ok-clause-map g c =
     by_answer c.make.result
-    (joined_is_map g.K.Ord.cmp g.met.K.Ord.total g.V.Join.is_valid g.V.Join.below g.met.V.Join.reflexive g.met.V.Join.transitive c.args.key.now _ _ c.requires _ (rw c.deref.ensures.value at c.in-Ok.ensures.found) c.index_mut-place.ensures.value (g.C.Change.added c.args.change.now) _ c.make.ensures.valid)
-    (λ same. subst (IsMap g.K.Ord.cmp g.V.Join.below g.V.Join.is_valid) (sym (ap (λ v. set c.args.pairs.now.items c.in-Ok.at (c.index_mut-place.result.now.0, v)) same ∙ set_same c.args.pairs.now.items c.in-Ok.at c.index_mut-place.result.now c.index_mut-place.ensures.value)) c.requires)
+    (joined_is_map g.K.Ord.cmp g.met.K.Ord.total g.C.Value.Join.is_valid g.C.Value.Join.below g.met.C.Value.Join.reflexive g.met.C.Value.Join.transitive c.args.key.now _ _ c.requires _ (rw c.deref.ensures.value at c.in-Ok.ensures.found) c.index_mut-place.ensures.value (g.C.Change.added c.args.change) _ c.make.ensures.valid)
+    (λ same. subst (IsMap g.K.Ord.cmp g.C.Value.Join.below g.C.Value.Join.is_valid) (sym (ap (λ v. set c.args.pairs.now.items c.in-Ok.at (c.index_mut-place.result.now.0, v)) same ∙ set_same c.args.pairs.now.items c.in-Ok.at c.index_mut-place.result.now c.index_mut-place.ensures.value)) c.requires)
     c.make.ensures.joined c.make.ensures.same

@@ -1,0 +1,64 @@
+-- A removal where a content is visible.
+use Rattle.std.proofs.Common.{◌≡◌, Option, Some, None, true, refl, ap, ◌∙◌}
+use Rattle.std.specs.Prelude.{Bool, not, is_some}
+use Rattle.std.specs.Option.{option_and_then}
+use Rattle.std.specs.Ordering.{nat_cmp, is_eq}
+use Rattle.std.specs.FinMap.Entries.{find}
+use Rattle.join_law.specs.declared.versions.Version.{Version}
+use Rattle.join_law.specs.declared.versions.Versioned.{Versioned}
+use Rattle.join_law.specs.declared.versions.Versioned.TheVariants.{Never, At}
+use Rattle.join_law.specs.VersionOrder.{written_at, has_other}
+use Rattle.join_law.specs.Maps.{is_some_and, or_empty}
+use Rattle.load_path.specs.Paths.{PathParts}
+use Rattle.edit_sums.specs.declared.contents.Content.{Content}
+use Rattle.edit_sums.specs.declared.contents.Content.TheVariants.{Gone, Link, File}
+use Rattle.edit_sums.specs.Contents.{content_cmp}
+use Rattle.edit_sums.specs.Entries.{Entry}
+use Rattle.edit_sums.specs.Sums.{EntryMap, shown, visible_at}
+use Rattle.path_maps.specs.PathMaps.{NameMap, FolderMap, RankMap, AreRanks, bytes_cmp, flat, look_up}
+use Rattle.path_maps.proofs.LookUps.{held_is}
+
+-- what is no removal is visible
+other_shown : (version : Version) (content : Content) → not (is_eq (content_cmp content Gone)) ≡ is_some (shown (record { version = version; content = content }))
+other_shown version Gone = refl
+other_shown version (Link target) = refl
+other_shown version (File bytes) = refl
+
+other_visible : (v : Option (Versioned Content)) → is_some_and (has_other content_cmp Gone) v ≡ is_some (option_and_then shown (written_at v))
+other_visible None = refl
+other_visible (Some Never) = refl
+other_visible (Some (At x)) = other_shown x.version x.content
+
+module _ (q : PathParts) (content : Content) where
+  -- a write of this content is made at the path in maps of maps
+  abbrev pub is_made_in_names : NameMap → Bool
+  is_made_in_names names = is_some_and (has_other content_cmp content) (find bytes_cmp q.name names)
+
+  abbrev pub is_made_in_folders : FolderMap → Bool
+  is_made_in_folders folders = is_some_and is_made_in_names (find bytes_cmp q.folder folders)
+
+  abbrev pub is_made : RankMap → Bool
+  is_made m = is_some_and is_made_in_folders (find nat_cmp q.rank m)
+
+-- one of a removal just where a content is visible
+made_visible : (q : PathParts) (m : RankMap) → is_made q Gone m ≡ is_some (option_and_then shown (look_up m q))
+made_visible q m = by_rank (find nat_cmp q.rank m)
+  where
+    by_folder : (names : Option NameMap) → is_some_and (is_made_in_names q Gone) names ≡ is_some (option_and_then shown (written_at (find bytes_cmp q.name (or_empty names))))
+    by_folder None = refl
+    by_folder (Some names) = other_visible (find bytes_cmp q.name names)
+
+    by_rank : (folders : Option FolderMap) → is_some_and (is_made_in_folders q Gone) folders ≡ is_some (option_and_then shown (written_at (find bytes_cmp q.name (or_empty (find bytes_cmp q.folder (or_empty folders))))))
+    by_rank None = refl
+    by_rank (Some folders) = by_folder (find bytes_cmp q.folder folders)
+
+pub removal_visible : (m : RankMap) → AreRanks m → (s : EntryMap) → flat m ≡ s → (q p : PathParts) → q ≡ p → (content : Content) → content ≡ Gone → is_made q content m ≡ is_some (visible_at s p)
+removal_visible m is s e q p at content gone =
+    (λ i. is_made q (gone i) m) ∙ made_visible q m
+    ∙ ap (λ (x : Option Entry). is_some (option_and_then shown x)) (held_is m is s e q (look_up m q) refl)
+    ∙ ap (λ (r : PathParts). is_some (visible_at s r)) at
+
+-- what is visible is held
+pub visible_held : (x : Option Entry) → is_some (option_and_then shown x) ≡ true → is_some x ≡ true
+visible_held None h = h
+visible_held (Some x) h = refl
