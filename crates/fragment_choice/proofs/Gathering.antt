@@ -1,10 +1,8 @@
 -- How the other names of a unit are gathered.
-use Rattle.std.proofs.Common.{◌≡◌, Bool, true, false, cond, Some, None, Result, Ok, Err, IfOk, OnOk, List, [], ◌∷◌, refl, ap, sym, ◌∙◌, subst, ◌⊎◌, inl, inr}
-use Rattle.std.specs.Ordering.{match_ordering}
+use Rattle.std.proofs.Common.{◌≡◌, Bool, true, false, cond, Some, None, Result, Ok, Err, IfOk, OnOk, List, refl, ap, sym, ◌∙◌, subst, ◌⊎◌, inl, inr}
 use Rattle.std.specs.BTreeSet.{insert_key}
-use Rattle.std.specs.declared.cmp.Ordering.{Ordering}
-use Rattle.std.specs.declared.cmp.Ordering.TheVariants.{Less, Equal, Greater}
 use Rattle.std.proofs.lemmas.Option.{same_Some, none-some}
+use Rattle.list_laws.specs.Insertions.{put_kept, put_sound, put_there}
 use Rattle.list_laws.specs.Members.{IsAmong}
 use Rattle.edit_sums.specs.Sums.{EntryMap}
 use Rattle.unit_name.specs.declared.names.Shape.{Shape as UnitShape}
@@ -16,42 +14,6 @@ use Rattle.fragment_choice.specs.UnitNames.{IsOtherName}
 use Rattle.fragment_choice.specs.LinkedNames.{unit_of, Gathers}
 use Rattle.fragment_choice.specs.LinkLaws.{instances_keep_their_part}
 
--- what stands among names where one is put among them
-pub put_there : (k : Name) (ks : List Name) → IsAmong k (insert_key name_cmp ks k)
-put_there k [] = inl refl
-put_there k (x ∷ xs) = by (name_cmp k x) refl (put_there k xs)
-  where
-    by : (r : Ordering) → name_cmp k x ≡ r → IsAmong k (insert_key name_cmp xs k) → IsAmong k (match_ordering r (k ∷ x ∷ xs) (x ∷ xs) (x ∷ insert_key name_cmp xs k))
-    by Less e more = inl refl
-    by Equal e more = inl (sym (name_cmp-IsAntisymmetric k x e))
-    by Greater e more = inr more
-
-pub put_kept : (k : Name) (ks : List Name) (n : Name) → IsAmong n ks → IsAmong n (insert_key name_cmp ks k)
-put_kept k [] n h = absurd h
-put_kept k (x ∷ xs) n h = by (name_cmp k x) h (put_kept k xs n)
-  where
-    by : (r : Ordering) → IsAmong n (x ∷ xs) → (IsAmong n xs → IsAmong n (insert_key name_cmp xs k)) → IsAmong n (match_ordering r (k ∷ x ∷ xs) (x ∷ xs) (x ∷ insert_key name_cmp xs k))
-    by Less a more = inr a
-    by Equal a more = a
-    by Greater (inl a) more = inl a
-    by Greater (inr a) more = inr (more a)
-
-pub put_sound : (k : Name) (ks : List Name) (n : Name) → IsAmong n (insert_key name_cmp ks k) → IsAmong n ks ⊎ (k ≡ n)
-put_sound k [] n (inl h) = inr h
-put_sound k [] n (inr h) = absurd h
-put_sound k (x ∷ xs) n h = by (name_cmp k x) h (put_sound k xs n)
-  where
-    behind : IsAmong n xs ⊎ (k ≡ n) → IsAmong n (x ∷ xs) ⊎ (k ≡ n)
-    behind (inl a) = inl (inr a)
-    behind (inr a) = inr a
-
-    by : (r : Ordering) → IsAmong n (match_ordering r (k ∷ x ∷ xs) (x ∷ xs) (x ∷ insert_key name_cmp xs k)) → (IsAmong n (insert_key name_cmp xs k) → IsAmong n xs ⊎ (k ≡ n)) → IsAmong n (x ∷ xs) ⊎ (k ≡ n)
-    by Less (inl a) more = inr a
-    by Less (inr a) more = inl a
-    by Equal a more = inl a
-    by Greater (inl a) more = inl (inl a)
-    by Greater (inr a) more = behind (more a)
-
 module _ (s : EntryMap) (u : Name) where
   -- nothing that passes was to be added
   pub gathers_none : (P : Name → Type 0) (old : List Name) → ((n : Name) → P n → IsOtherName s u n → ⊥) → Gathers s u P old old
@@ -60,9 +22,9 @@ module _ (s : EntryMap) (u : Name) where
   -- one other name was put among them
   pub gathers_put : (k : Name) (old new : List Name) → IsOtherName s u k → new ≡ insert_key name_cmp old k → Gathers s u (λ n. n ≡ k) old new
   gathers_put k old new o e = record {
-    kept = λ n h. subst (IsAmong n) (sym e) (put_kept k old n h);
-    sound = λ n h. by n (put_sound k old n (subst (IsAmong n) e h));
-    found = λ n p _. subst (λ m. IsAmong m new) (sym p) (subst (IsAmong k) (sym e) (put_there k old));
+    kept = λ n h. subst (IsAmong n) (sym e) (put_kept name_cmp k old n h);
+    sound = λ n h. by n (put_sound name_cmp k old n (subst (IsAmong n) e h));
+    found = λ n p _. subst (λ m. IsAmong m new) (sym p) (subst (IsAmong k) (sym e) (put_there name_cmp name_cmp-IsAntisymmetric k old));
   }
     where
       by : (n : Name) → IsAmong n old ⊎ (k ≡ n) → IsAmong n old ⊎ IsOtherName s u n

@@ -14,19 +14,20 @@ use Rattle.std.specs.declared.cmp.Ordering.TheVariants.{Less, Equal, Greater}
 use Rattle.std.proofs.lemmas.Bool.{and_from, eqb-true, eqb-false}
 use Rattle.load_path.specs.Paths.{PathParts, path_cmp}
 use Rattle.load_path.specs.PathLaws.{path_cmp-IsAntisymmetric}
+use Rattle.list_laws.specs.Insertions.{put_kept, put_there}
 use Rattle.list_laws.specs.Members.{IsAmong, IsAmong-append_cases, IsAmong-append_left, IsAmong-append_right}
 use Rattle.path_maps.specs.Folders.{is_in}
 use Rattle.edit_sums.specs.Entries.{Entry}
 use Rattle.edit_sums.specs.Sums.{EntryMap, shown}
 use Rattle.unit_name.specs.Names.{Name, name_cmp, IsName}
-use Rattle.unit_name.specs.NameLaws.{name_eq-Decides}
+use Rattle.unit_name.specs.NameLaws.{name_cmp-IsAntisymmetric, name_eq-Decides}
 use Rattle.fragment_choice.specs.declared.choices.Choice.TheVariants.{Alias}
 use Rattle.fragment_choice.specs.Choices.{own_path, own_choice}
 use Rattle.fragment_choice.specs.LinkedNames.{is_link, unit_of}
 use Rattle.fragment_choice.specs.LinkLaws.{ByLink, alias_same, own_link}
 use Rattle.load_path.specs.Levels.{IsLevel}
 use Rattle.fragment_choice.specs.Indexes.{IsIndexOf, IsAny, IsOwnAt, IsOwnEntry, IsOwnLink, Collects, Puts, PutsOwn, owners_at, names_in}
-use Rattle.fragment_choice.proofs.Gathering.{put_there, put_kept, read, unread}
+use Rattle.fragment_choice.proofs.Gathering.{read, unread}
 
 -- nothing passes
 pub collects_none : (P : Name → Type 0) (old : List Name) → ((n : Name) → P n → ⊥) → Collects P old old
@@ -35,8 +36,8 @@ collects_none P old none = record { kept = λ n h. h; found = λ n p. absurd (no
 -- one that passes was put among them
 pub collects_put : (P : Name → Type 0) (k : Name) (old new : List Name) → ((n : Name) → P n → k ≡ n) → new ≡ insert_key name_cmp old k → Collects P old new
 collects_put P k old new one e = record {
-  kept = λ n h. subst (IsAmong n) (sym e) (put_kept k old n h);
-  found = λ n p. subst (λ x. IsAmong x new) (one n p) (subst (IsAmong k) (sym e) (put_there k old));
+  kept = λ n h. subst (IsAmong n) (sym e) (put_kept name_cmp k old n h);
+  found = λ n p. subst (λ x. IsAmong x new) (one n p) (subst (IsAmong k) (sym e) (put_there name_cmp name_cmp-IsAntisymmetric k old));
 }
 
 -- one after the other

@@ -4,11 +4,12 @@ use Rattle.std.specs.BTreeSet.{insert_key}
 use Rattle.std.specs.List.Sorted.{IsStrictlySortedBy}
 use Rattle.std.proofs.lemmas.List.{take_all}
 use Rattle.std.proofs.lemmas.Option.{same_Some, none-some}
+use Rattle.list_laws.specs.Insertions.{put_kept, put_sound, put_there}
 use Rattle.list_laws.specs.Members.{IsAmong, IsAmong-append_cases, IsAmong-append_left, IsAmong-append_right}
 use Rattle.edit_sums.specs.Sums.{EntryMap}
 use Rattle.unit_name.specs.Names.{Name, name_cmp, IsName, instance}
 use Rattle.unit_name.specs.Forms.{template_of, with_instance}
-use Rattle.unit_name.specs.NameLaws.{templates_keep_parts}
+use Rattle.unit_name.specs.NameLaws.{name_cmp-IsAntisymmetric, templates_keep_parts}
 use Rattle.fragment_choice.specs.declared.choices.Choice.TheVariants.{Alias}
 use Rattle.fragment_choice.specs.declared.resolutions.Resolution.{Resolution}
 use Rattle.fragment_choice.specs.Choices.{choice, own_choice}
@@ -20,7 +21,7 @@ use Rattle.fragment_choice.specs.LikenessLaws.{aliases_are_alike}
 use Rattle.fragment_choice.specs.UnitNames.{IsOtherName, AreNames}
 use Rattle.fragment_choice.specs.LinkedNames.{Gathers}
 use Rattle.fragment_choice.specs.Indexes.{AreOwners, IsAny, LeadsToAny, IsInstanceOfAny, Adds}
-use Rattle.fragment_choice.proofs.Gathering.{gathers_then, gathers_of, linked_instance, put_there, put_kept, put_sound}
+use Rattle.fragment_choice.proofs.Gathering.{gathers_then, gathers_of, linked_instance}
 use Rattle.fragment_choice.proofs.Leads.{LeadsTemplate, leads_by}
 
 -- one more of a list
@@ -178,17 +179,17 @@ adds_none added old e = record { kept = λ n h. h; there = λ n h. absurd (subst
 
 pub adds_one : (xs added old mid new : List Name) (k : Name) → added ≡ xs ++ k ∷ [] → Adds xs old mid → new ≡ insert_key name_cmp mid k → Adds added old new
 adds_one xs added old mid new k q g e = record {
-  kept = λ n h. to n (put_kept k mid n (g.kept n h));
+  kept = λ n h. to n (put_kept name_cmp k mid n (g.kept n h));
   there = λ n h. to n (there_by n (IsAmong-append_cases n xs (k ∷ []) (subst (IsAmong n) q h)));
-  sound = λ n h. sound_by n (put_sound k mid n (subst (IsAmong n) e h));
+  sound = λ n h. sound_by n (put_sound name_cmp k mid n (subst (IsAmong n) e h));
 }
   where
     to : (n : Name) → IsAmong n (insert_key name_cmp mid k) → IsAmong n new
     to n h = subst (IsAmong n) (sym e) h
 
     there_by : (n : Name) → IsAmong n xs ⊎ IsAmong n (k ∷ []) → IsAmong n (insert_key name_cmp mid k)
-    there_by n (inl a) = put_kept k mid n (g.there n a)
-    there_by n (inr (inl a)) = subst (λ x. IsAmong x (insert_key name_cmp mid k)) a (put_there k mid)
+    there_by n (inl a) = put_kept name_cmp k mid n (g.there n a)
+    there_by n (inr (inl a)) = subst (λ x. IsAmong x (insert_key name_cmp mid k)) a (put_there name_cmp name_cmp-IsAntisymmetric k mid)
     there_by n (inr (inr a)) = absurd a
 
     from : (n : Name) → IsAmong n old ⊎ IsAmong n xs → IsAmong n old ⊎ IsAmong n added

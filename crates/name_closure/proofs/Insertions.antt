@@ -1,5 +1,5 @@
 -- One more key among keys in order, and the keys of two lists together.
-use Rattle.std.specs.Prelude.{◌≡◌, ◌⊎◌, ◌+◌, suc, List, [], ◌∷◌, length}
+use Rattle.std.specs.Prelude.{◌≡◌, ◌+◌, suc, List, [], ◌∷◌, length}
 use Rattle.std.specs.BTreeSet.{insert_key}
 use Rattle.std.specs.Cmp.{IsTotalOrder}
 use Rattle.std.specs.List.{All, AllByRecursion}
@@ -9,47 +9,13 @@ use Rattle.std.specs.declared.cmp.Ordering.{Ordering}
 use Rattle.std.specs.declared.cmp.Ordering.TheVariants.{Less, Equal, Greater}
 use Rattle.std.proofs.Common.{inl, inr, refl, sym, arith, ap, ◌∙◌, subst}
 use Rattle.std.proofs.lemmas.List.Elements.{All-head}
+use Rattle.list_laws.specs.Insertions.{put_kept, put_sound, put_there}
 use Rattle.list_laws.specs.Members.{IsAmong}
 use Rattle.name_closure.specs.Growth.{AreJoined}
 use Rattle.name_closure.specs.LimitLaws.{not_in_tail}
 
 module _ {N : Type 0} (order : N → N → Ordering) where
-  put_kept : (k : N) (ks : List N) (n : N) → IsAmong n ks → IsAmong n (insert_key order ks k)
-  put_kept k [] n h = absurd h
-  put_kept k (x ∷ xs) n h = by (order k x) h (put_kept k xs n)
-    where
-      by : (r : Ordering) → IsAmong n (x ∷ xs) → (IsAmong n xs → IsAmong n (insert_key order xs k)) → IsAmong n (match_ordering r (k ∷ x ∷ xs) (x ∷ xs) (x ∷ insert_key order xs k))
-      by Less a more = inr a
-      by Equal a more = a
-      by Greater (inl a) more = inl a
-      by Greater (inr a) more = inr (more a)
-
-  put_sound : (k : N) (ks : List N) (n : N) → IsAmong n (insert_key order ks k) → IsAmong n ks ⊎ (k ≡ n)
-  put_sound k [] n (inl h) = inr h
-  put_sound k [] n (inr h) = absurd h
-  put_sound k (x ∷ xs) n h = by (order k x) h (put_sound k xs n)
-    where
-      behind : IsAmong n xs ⊎ (k ≡ n) → IsAmong n (x ∷ xs) ⊎ (k ≡ n)
-      behind (inl a) = inl (inr a)
-      behind (inr a) = inr a
-
-      by : (r : Ordering) → IsAmong n (match_ordering r (k ∷ x ∷ xs) (x ∷ xs) (x ∷ insert_key order xs k)) → (IsAmong n (insert_key order xs k) → IsAmong n xs ⊎ (k ≡ n)) → IsAmong n (x ∷ xs) ⊎ (k ≡ n)
-      by Less (inl a) more = inr a
-      by Less (inr a) more = inl a
-      by Equal a more = inl a
-      by Greater (inl a) more = inl (inl a)
-      by Greater (inr a) more = behind (more a)
-
   module _ (exact : (x y : N) → order x y ≡ Equal → x ≡ y) where
-    put_there : (k : N) (ks : List N) → IsAmong k (insert_key order ks k)
-    put_there k [] = inl refl
-    put_there k (x ∷ xs) = by (order k x) refl (put_there k xs)
-      where
-        by : (r : Ordering) → order k x ≡ r → IsAmong k (insert_key order xs k) → IsAmong k (match_ordering r (k ∷ x ∷ xs) (x ∷ xs) (x ∷ insert_key order xs k))
-        by Less e more = inl refl
-        by Equal e more = inl (sym (exact k x e))
-        by Greater e more = inr more
-
     -- a key is put among keys that lack it
     put_length : (k : N) (ks : List N) → ¬ IsAmong k ks → length (insert_key order ks k) ≡ suc (length ks)
     put_length k [] d = refl
@@ -63,12 +29,12 @@ module _ {N : Type 0} (order : N → N → Ordering) where
     -- the keys with one more are those of both
     pub put_joins : (k : N) (ks : List N) → AreJoined ks (k ∷ []) (insert_key order ks k)
     put_joins k ks n = (
-      λ h. elim (put_sound k ks n h) [ inl a ↦ inl a | inr e ↦ inr (inl e) ],
-      λ h. elim h [ inl a ↦ put_kept k ks n a | inr o ↦ elim o [ inl e ↦ moved e | inr f ↦ absurd f ] ],
+      λ h. elim (put_sound order k ks n h) [ inl a ↦ inl a | inr e ↦ inr (inl e) ],
+      λ h. elim h [ inl a ↦ put_kept order k ks n a | inr o ↦ elim o [ inl e ↦ moved e | inr f ↦ absurd f ] ],
     )
       where
         moved : k ≡ n → IsAmong n (insert_key order ks k)
-        moved e = rw (← e) (put_there k ks)
+        moved e = rw (← e) (put_there order exact k ks)
 
   module _ (total : IsTotalOrder order) where
     all_put : (P : N → Type 0) (k : N) (ks : List N) → P k → AllByRecursion P ks → AllByRecursion P (insert_key order ks k)
