@@ -31,17 +31,23 @@ row-below n rows u v below h = All-among (λ w. w < n) (row rows u) v (All-row n
 
 -- ---- how often
 
-push_at : (b : Bool) (s t d : ℕ) → s ≡ t + d → cond b (suc s) s ≡ cond b (suc t) t + d
-push_at true s t d e = omega arith
-push_at false s t d e = e
-
-one_at : (b : Bool) → cond b 1 0 ≡ 0 + cond b 1 0
-one_at true = refl
-one_at false = refl
+-- a count of the nodes that pass a test, with one more node
+pub count-push : (count : List ℕ → ℕ) (passes : ℕ → Bool) → ((x : ℕ) (xs : List ℕ) → count (x ∷ xs) ≡ cond (passes x) (suc (count xs)) (count xs))
+    → (xs : List ℕ) (x : ℕ) → count (xs ++ x ∷ []) ≡ count xs + cond (passes x) 1 0
+count-push count passes counts [] x = counts x [] ∙ by (passes x) (count [])
+  where
+    by : (b : Bool) (s : ℕ) → cond b (suc s) s ≡ s + cond b 1 0
+    by true s = omega arith
+    by false s = omega arith
+count-push count passes counts (y ∷ ys) x =
+    counts y (ys ++ x ∷ []) ∙ by (passes y) _ _ _ (count-push count passes counts ys x) ∙ sym (ap (λ n. n + cond (passes x) 1 0) (counts y ys))
+  where
+    by : (b : Bool) (s t d : ℕ) → s ≡ t + d → cond b (suc s) s ≡ cond b (suc t) t + d
+    by true s t d e = omega arith
+    by false s t d e = e
 
 pub times-push : (v : ℕ) (xs : List ℕ) (x : ℕ) → times v (xs ++ x ∷ []) ≡ times v xs + cond (eqb x v) 1 0
-times-push v [] x = one_at (eqb x v)
-times-push v (y ∷ ys) x = push_at (eqb y v) _ _ _ (times-push v ys x)
+times-push v xs x = count-push (times v) (λ y. eqb y v) (λ y ys. refl) xs x
 
 pub times-push_same : (v : ℕ) (xs : List ℕ) (x : ℕ) → x ≡ v → times v (xs ++ x ∷ []) ≡ times v xs + 1
 times-push_same v xs x e = times-push v xs x ∙ ap (λ (b : Bool). times v xs + cond b 1 0) (eq-eqb x v e)

@@ -1,29 +1,21 @@
 -- Keys that are put in and taken out.
-use Rattle.std.proofs.Common.{◌≡◌, ℕ, ◌<◌, ◌≤◌, ◌⊎◌, inl, inr, List, [], ◌∷◌, length, refl, sym, ◌∙◌, subst, arith, ◌↔◌, Option, Some, None}
+use Rattle.std.proofs.Common.{◌≡◌, ℕ, ◌<◌, ◌≤◌, ◌⊎◌, inl, inr, List, [], ◌∷◌, length, refl, sym, subst, arith, ◌↔◌, Option, Some, None}
 use Rattle.std.specs.List.{All}
 use Rattle.std.specs.BTreeSet.{insert_key}
 use Rattle.std.specs.BTreeMap.Range.{IsLtBy}
-use Rattle.std.specs.Ordering.{nat_cmp, match_ordering, MatchOrdering}
+use Rattle.std.specs.FinMap.{nat_cmp-IsAntisymmetric}
+use Rattle.std.specs.Ordering.{nat_cmp}
 use Rattle.std.specs.Option.{IfSome, IfNone, IsSome, MatchOption}
-use Rattle.std.specs.declared.cmp.Ordering.{Ordering}
-use Rattle.std.specs.declared.cmp.Ordering.TheVariants.{Less, Equal, Greater}
-use Rattle.std.proofs.lemmas.Cmp.{ranked}
+use Rattle.list_laws.specs.Insertions.{put_kept, put_sound, put_there}
 use Rattle.list_laws.specs.Members.{IsAmong}
 use Rattle.index_rows.specs.ListLaws.{All-among, cmp_below}
 
-put_at : (x k v : ℕ) (xs ys : List ℕ) (o : Ordering) → MatchOrdering o (k < x) (k ≡ x) (x < k) → (IsAmong v ys ↔ (IsAmong v xs ⊎ (k ≡ v)))
-    → IsAmong v (match_ordering o (k ∷ x ∷ xs) (x ∷ xs) (x ∷ ys)) ↔ (IsAmong v (x ∷ xs) ⊎ (k ≡ v))
-put_at x k v xs ys Less r rest = (λ h. elim h [ inl e ↦ inr e | inr n ↦ inl n ], λ h. elim h [ inl n ↦ inr n | inr e ↦ inl e ])
-put_at x k v xs ys Equal r rest = (λ h. inl h, λ h. elim h [ inl n ↦ n | inr e ↦ inl (sym r ∙ e) ])
-put_at x k v xs ys Greater r rest = (
-  λ h. elim h [ inl e ↦ inl (inl e) | inr n ↦ elim (rest.0 n) [ inl m ↦ inl (inr m) | inr e ↦ inr e ] ],
-  λ h. elim h [ inl n ↦ elim n [ inl e ↦ inl e | inr m ↦ inr (rest.1 (inl m)) ] | inr e ↦ inr (rest.1 (inr e)) ],
-)
-
 -- a key put in
 pub IsAmong-insert_key : (ks : List ℕ) (k v : ℕ) → IsAmong v (insert_key nat_cmp ks k) ↔ (IsAmong v ks ⊎ (k ≡ v))
-IsAmong-insert_key [] k v = (λ h. elim h [ inl e ↦ inr e | inr n ↦ absurd n ], λ h. elim h [ inl n ↦ absurd n | inr e ↦ inl e ])
-IsAmong-insert_key (x ∷ xs) k v = put_at x k v xs (insert_key nat_cmp xs k) (nat_cmp k x) (ranked k x (nat_cmp k x) refl) (IsAmong-insert_key xs k v)
+IsAmong-insert_key ks k v = (
+  put_sound nat_cmp k ks v,
+  λ h. elim h [ inl n ↦ put_kept nat_cmp k ks v n | inr e ↦ subst (λ w. IsAmong w (insert_key nat_cmp ks k)) e (put_there nat_cmp nat_cmp-IsAntisymmetric k ks) ],
+)
 
 -- the least key taken
 taken : (k : ℕ) (old new : List ℕ) → old ≡ k ∷ new → All (IsLtBy nat_cmp k) new → IsAmong k old × ((v : ℕ) → IsAmong v old → k ≤ v)

@@ -8,22 +8,13 @@ use Rattle.list_laws.specs.Members.{IsAmong, IsAmong-append_left}
 use Rattle.index_rows.specs.Rows.{Marked, row, times}
 use Rattle.index_rows.specs.ListLaws.{IsAmong-push, IsAmong-push_cases}
 use Rattle.index_rows.specs.MarkLaws.{Marked-set_same}
-use Rattle.index_rows.specs.RowLaws.{row-past, times-push_same, times-push_other}
+use Rattle.index_rows.specs.RowLaws.{count-push, row-past, times-push_same, times-push_other}
 use Rattle.start_order.specs.Counts.{waits, waiting, IsLowered}
-
-push_at : (b : Bool) (s t d : ℕ) → s ≡ t + d → cond b (suc s) s ≡ cond b (suc t) t + d
-push_at true s t d e = omega arith
-push_at false s t d e = e
-
-one_at : (b : Bool) → cond b 1 0 ≡ 0 + cond b 1 0
-one_at true = refl
-one_at false = refl
 
 -- ---- what waits
 
 pub waiting-push : (c s : List Bool) (xs : List ℕ) (x : ℕ) → waiting c s (xs ++ x ∷ []) ≡ waiting c s xs + cond (waits c s x) 1 0
-waiting-push c s [] x = one_at (waits c s x)
-waiting-push c s (y ∷ ys) x = push_at (waits c s y) _ _ _ (waiting-push c s ys x)
+waiting-push c s xs x = count-push (waiting c s) (waits c s) (λ y ys. refl) xs x
 
 waits_when : (a b : Bool) → (a ≡ true → b ≡ true) → (a && not b) ≡ false
 waits_when true true h = refl
