@@ -3,7 +3,7 @@ use Rattle.std.specs.Prelude.{slice_get, filter}
 use Rattle.std.proofs.lemmas.List.{append-nil}
 use Rattle.std.proofs.lemmas.List.Elements.{filter_more}
 use Rattle.sorted_pairs.specs.Places.{IsNotBelow}
-use Rattle.std.proofs.Common.{◌≡◌, ◌≢◌, ℕ, suc, ◌+◌, ◌<◌, ◌++◌, take, drop, get_or, drop-cons, add-one, Bool, true, false, cond, Some, None, List, [], ◌∷◌, length, IsTrue, refl, sym, ap, ◌∙◌}
+use Rattle.std.proofs.Common.{◌≡◌, ◌≢◌, ℕ, suc, ◌+◌, ◌<◌, ◌++◌, take, drop, get_or, drop-cons, add-one, Bool, true, false, cond, Option, Some, None, List, [], ◌∷◌, length, IsTrue, refl, sym, ap, subst, ◌∙◌}
 use Rattle.std.specs.declared.cmp.Ordering.TheVariants.{Less, Equal, Greater}
 use Rattle.std.specs.Ordering.{is_eq, eq_by_cmp, ordering_reverse}
 use Rattle.std.specs.Cmp.{tied_itself}
@@ -13,6 +13,7 @@ use Rattle.load_path.specs.Paths.{PathParts, path_cmp}
 use Rattle.load_path.specs.PathLaws.{path_cmp_total}
 use Rattle.edit_sums.specs.Entries.{Entry}
 use Rattle.edit_sums.specs.GreatestLaws.{tied}
+use Rattle.world_law.specs.Cuts.{is_newer}
 use Rattle.sorted_pairs.specs.PlaceLaws.{find_before}
 use Rattle.std.proofs.lemmas.Bool.{and_parts}
 use Rattle.list_laws.specs.Orderings.{is_less, is_equal, is_greater, turned}
@@ -51,6 +52,25 @@ tells_from e es left further versions s held t = (held e.0 (itself e.0) ∙ t.0,
     behind : (fs : List (PathParts × Entry)) → IsTrue (below_all path_cmp e.0 fs) → TellsTheSame left versions fs → TellsTheSame further versions fs
     behind [] b u = tt
     behind (f ∷ fs) b u = (held f.0 (greater e.0 f.0 (is_less _ (and_parts _ _ b).0)) ∙ u.0, behind fs (and_parts _ _ b).1 u.1)
+
+-- what is known where an entry was looked at, with the versions that are left of it
+pub record IsPassed (versions further : List (PathParts × Version)) (e : PathParts × Entry) (es : List (PathParts × Entry)) (newer : Bool) : Type 0 where
+  pub told : newer ≡ is_newer e.1.version (find path_cmp e.0 versions)
+  pub sorted : IsTrue (is_sorted path_cmp es)
+  pub tells : TellsTheSame further versions es
+
+pub passed : (versions left further : List (PathParts × Version)) (e : PathParts × Entry) (es all : List (PathParts × Entry)) (entry : Entry) (version : Option Version) (newer : Bool)
+    → all ≡ e ∷ es → IsTrue (is_sorted path_cmp all) → TellsTheSame left versions all
+    → ((q : PathParts) → path_cmp q e.0 ≢ Less → find path_cmp q further ≡ find path_cmp q left)
+    → entry ≡ e.1 → version ≡ find path_cmp e.0 further → newer ≡ is_newer entry.version version → IsPassed versions further e es newer
+passed versions left further e es all entry version newer is sorted told held same there test =
+    let rises = subst (λ (l : List (PathParts × Entry)). IsTrue (is_sorted path_cmp l)) is sorted in
+    let tells = tells_from e es left further versions rises held (subst (TellsTheSame left versions) is told) in
+    record {
+      told = test ∙ ap (λ (x : Entry). is_newer x.version version) same ∙ ap (is_newer e.1.version) (there ∙ tells.0);
+      sorted = (and_parts (below_all path_cmp e.0 es) _ rises).1;
+      tells = tells.1;
+    }
 
 -- ---- one entry more
 

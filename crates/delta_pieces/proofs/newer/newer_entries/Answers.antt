@@ -1,12 +1,11 @@
-use Rattle.std.proofs.Common.{◌≡◌, List, IsTrue, ap, sym, subst, ◌∙◌}
+use Rattle.std.proofs.Common.{ap, sym, ◌∙◌}
 use Rattle.std.specs.Prelude.{filter}
-use Rattle.std.specs.FinMap.Entries.{find, is_sorted, below_all}
-use Rattle.std.proofs.lemmas.Bool.{and_parts}
+use Rattle.std.specs.FinMap.Entries.{find}
 use Rattle.load_path.specs.Paths.{PathParts, path_cmp}
 use Rattle.edit_sums.specs.Entries.{Entry}
 use Rattle.edit_sums.specs.Sums.{join}
 use Rattle.world_law.specs.Cuts.{is_newer}
-use Rattle.delta_pieces.proofs.Passes.{TellsTheSame, tells_all, tells_from}
+use Rattle.delta_pieces.proofs.Passes.{passed, tells_all}
 use Rattle.delta_pieces.proofs.Joined.{sum_at, joined_all, joined_none, passed_first, failed_first}
 use Rattle.delta_pieces.proofs.newer.newer_entries.Goals as goal
 
@@ -23,37 +22,29 @@ loop-placed-init c =
 pub loop-placed-preserved : goal.loop-placed-preserved
 loop-placed-preserved c =
     let newer = λ (p : PathParts × Entry). is_newer p.1.version (find path_cmp p.0 c.args.versions.now) in
-    let placed = c.in-Some.placed in
-    let next = c.next_entry.new.self in
     let is = c.in-Some.ensures.first in
-    let rises = subst (λ (l : List (PathParts × Entry)). IsTrue (is_sorted path_cmp l)) is c.loop-placed.invariant.sorted in
-    let before = subst (TellsTheSame c.loop-placed.left.now c.args.versions.now) is c.loop-placed.invariant.tells in
-    let tells = tells_from placed next c.loop-placed.left.now c.from_path-left.result.now c.args.versions.now rises c.from_path-left.ensures.held before in
-    let told : c.is_newer.result ≡ newer placed = c.is_newer.ensures.newer ∙ ap (λ (e : Entry). is_newer e.version c.version_at.result) c.entry.ensures.entry ∙ ap (is_newer placed.1.version) (c.version_at.ensures.version ∙ tells.0) in
+    let now = passed c.args.versions.now c.loop-placed.left.now _ c.in-Some.placed c.next_entry.new.self _ _ _ _ is c.loop-placed.invariant.sorted c.loop-placed.invariant.tells
+    c.from_path-left.ensures.held c.entry.ensures.entry c.version_at.ensures.version c.is_newer.ensures.newer in
     record {
-      newer = failed_first c.loop-placed.newer placed next c.loop-placed.entries is newer _ c.loop-placed.invariant.newer (sym told ∙ c.if-is_newer.false);
-      sorted = (and_parts (below_all path_cmp placed.0 next) _ rises).1;
+      newer = failed_first c.loop-placed.newer c.in-Some.placed c.next_entry.new.self c.loop-placed.entries is newer _ c.loop-placed.invariant.newer (sym now.told ∙ c.if-is_newer.false);
+      sorted = now.sorted;
       left_sorted = c.from_path-left.ensures.sorted;
-      tells = tells.1;
+      tells = now.tells;
     }
 
 pub loop-placed-preserved-in-Continue-1 : goal.loop-placed-preserved-in-Continue-1
 loop-placed-preserved-in-Continue-1 c =
     let newer = λ (p : PathParts × Entry). is_newer p.1.version (find path_cmp p.0 c.args.versions.now) in
-    let placed = c.in-Some.placed in
-    let next = c.next_entry.new.self in
     let is = c.in-Some.ensures.first in
-    let rises = subst (λ (l : List (PathParts × Entry)). IsTrue (is_sorted path_cmp l)) is c.loop-placed.invariant.sorted in
-    let before = subst (TellsTheSame c.loop-placed.left.now c.args.versions.now) is c.loop-placed.invariant.tells in
-    let tells = tells_from placed next c.loop-placed.left.now c.from_path-left.result.now c.args.versions.now rises c.from_path-left.ensures.held before in
-    let told : c.is_newer.result ≡ newer placed = c.is_newer.ensures.newer ∙ ap (λ (e : Entry). is_newer e.version c.version_at.result) c.entry.ensures.entry ∙ ap (is_newer placed.1.version) (c.version_at.ensures.version ∙ tells.0) in
+    let now = passed c.args.versions.now c.loop-placed.left.now _ c.in-Some.placed c.next_entry.new.self _ _ _ _ is c.loop-placed.invariant.sorted c.loop-placed.invariant.tells
+    c.from_path-left.ensures.held c.entry.ensures.entry c.version_at.ensures.version c.is_newer.ensures.newer in
     record {
       newer =
-          ap (λ s. join s (sum_at (filter newer next))) c.in_ok-join_copy.ensures.ok
-          ∙ passed_first c.loop-placed.newer placed next c.loop-placed.entries is newer _ c.loop-placed.invariant.newer (sym told ∙ c.if-is_newer.true);
-      sorted = (and_parts (below_all path_cmp placed.0 next) _ rises).1;
+          ap (λ s. join s (sum_at (filter newer c.next_entry.new.self))) c.in_ok-join_copy.ensures.ok
+          ∙ passed_first c.loop-placed.newer c.in-Some.placed c.next_entry.new.self c.loop-placed.entries is newer _ c.loop-placed.invariant.newer (sym now.told ∙ c.if-is_newer.true);
+      sorted = now.sorted;
       left_sorted = c.from_path-left.ensures.sorted;
-      tells = tells.1;
+      tells = now.tells;
     }
 
 pub returns : goal.returns
