@@ -1,13 +1,14 @@
 -- Turns, which stand for an event that is to come next.
-use Rattle.std.proofs.Common.{◌≡◌, ℕ, List, [], ◌∷◌, ◌++◌, refl, sym, ap, subst, ◌∙◌}
+use Rattle.std.proofs.Common.{◌≡◌, ℕ, ◌+◌, List, [], ◌∷◌, ◌++◌, refl, sym, ap, subst, ◌∙◌}
+use Rattle.join_law.specs.declared.versions.Version.{Version}
 use Rattle.edit_sums.specs.declared.entries.Edit.{Edit}
-use Rattle.edit_sums.specs.Sums.{EntryMap, join, with_edit}
+use Rattle.edit_sums.specs.Sums.{EntryMap, high_of, join, with_edit}
 use Rattle.replica_store.specs.Replicas.{Replicated, next_version}
 use Rattle.node_histories.specs.declared.events.HistoryEvent.{HistoryEvent}
 use Rattle.node_histories.specs.declared.events.HistoryEvent.TheVariants.{Edited, Absorbed}
 use Rattle.node_histories.specs.Books.{TurnNow}
-use Rattle.node_histories.specs.Histories.{all_edits, store_of, replica_of, opening_of, IsNext}
-use Rattle.node_histories.specs.HistoryLaws.{store_of-edited, store_of-absorbed, next_edit}
+use Rattle.node_histories.specs.Histories.{all_edits, counter_of, store_of, replica_of, opening_of, IsLegal, IsNext}
+use Rattle.node_histories.specs.HistoryLaws.{high_of-store_of, legal_filled, store_of-edited, store_of-absorbed, next_edit, opening_of-snoc}
 
 -- the edit of a turn may come next, if its version is the next one of what the history gives
 pub turn_next : (t : TurnNow) (h : List HistoryEvent) (seat : ℕ) (e : Edit) (o : Replicated) → t.seen ≡ h → t.ask ≡ Edited seat e → opening_of h ≡ o → e.version ≡ next_version (replica_of h)
@@ -17,18 +18,27 @@ turn_next t h seat e o seen ask opening version =
     let at : IsNext o.writer (all_edits h) t.ask = subst (IsNext o.writer (all_edits h)) (sym ask) n in
     subst (λ (k : List HistoryEvent). IsNext o.writer (all_edits k) t.ask) (sym seen) at
 
--- what stands after an edit is the sum of the longer history
-pub turned_edit : (t : TurnNow) (f h : List HistoryEvent) (seat : ℕ) (e : Edit) (r r' : Replicated) → f ≡ t.seen ++ t.ask ∷ [] → t.seen ≡ h → t.ask ≡ Edited seat e
-    → opening_of f ≡ opening_of h → r ≡ replica_of h → r' ≡ record r { store = with_edit r.store e } → r' ≡ replica_of f
-turned_edit t f h seat e r r' is seen ask opening kept more =
-    let all : f ≡ h ++ Edited seat e ∷ [] = cc in
-    let store : with_edit (store_of h) e ≡ store_of f = sym (store_of-edited h seat e) ∙ sym (ap store_of all) in
-    more ∙ ap (λ (x : Replicated). record x { store = with_edit x.store e }) kept ∙ (λ i. record { store = store i; writer = (sym opening i).writer })
+-- the version behind the greatest counter that the history has is the next one of what the history gives
+pub version_next : (h : List HistoryEvent) (r : Replicated) (counter writer : ℕ) → r ≡ replica_of h → counter ≡ counter_of h → writer ≡ r.writer
+    → ◌≡◌ {A = Version} (record { counter = counter + 1; writer = writer }) (next_version r)
+version_next h r counter writer kept read own =
+    let high : counter ≡ high_of r.store = read ∙ sym (ap (λ q. high_of q.store) kept ∙ high_of-store_of h) in
+    λ i. record { counter = high i + 1; writer = own i }
 
--- and after a piece
-pub turned_piece : (t : TurnNow) (f h : List HistoryEvent) (seat : ℕ) (p : EntryMap) (r r' : Replicated) → f ≡ t.seen ++ t.ask ∷ [] → t.seen ≡ h → t.ask ≡ Absorbed seat p
-    → opening_of f ≡ opening_of h → r ≡ replica_of h → r' ≡ record r { store = join r.store p } → r' ≡ replica_of f
-turned_piece t f h seat p r r' is seen ask opening kept more =
-    let all : f ≡ h ++ Absorbed seat p ∷ [] = cc in
-    let store : join (store_of h) p ≡ store_of f = sym (store_of-absorbed h seat p) ∙ sym (ap store_of all) in
-    more ∙ ap (λ (x : Replicated). record x { store = join x.store p }) kept ∙ (λ i. record { store = store i; writer = (sym opening i).writer })
+-- what stands after the event of a turn is what the longer history gives, where the event changes what the history gives in that way
+turned : (t : TurnNow) (h : List HistoryEvent) (event : HistoryEvent) (change : EntryMap → EntryMap) (r r' : Replicated)
+    → IsLegal (opening_of h) h → t.seen ≡ h → t.ask ≡ event → store_of (h ++ event ∷ []) ≡ change (store_of h)
+    → r ≡ replica_of h → r' ≡ record r { store = change r.store } → r' ≡ replica_of (t.seen ++ t.ask ∷ [])
+turned t h event change r r' legal seen ask changed kept more =
+    let all : t.seen ++ t.ask ∷ [] ≡ h ++ event ∷ [] = cc in
+    let opening : opening_of (t.seen ++ t.ask ∷ []) ≡ opening_of h = ap opening_of all ∙ opening_of-snoc h event (legal_filled (opening_of h) h legal) in
+    let store : change (store_of h) ≡ store_of (t.seen ++ t.ask ∷ []) = sym (ap store_of all ∙ changed) in
+    more ∙ ap (λ (x : Replicated). record x { store = change x.store }) kept ∙ (λ i. record { store = store i; writer = (sym opening i).writer })
+
+pub turned_edit : (t : TurnNow) (h : List HistoryEvent) (seat : ℕ) (e : Edit) (r r' : Replicated) → IsLegal (opening_of h) h → t.seen ≡ h → t.ask ≡ Edited seat e
+    → r ≡ replica_of h → r' ≡ record r { store = with_edit r.store e } → r' ≡ replica_of (t.seen ++ t.ask ∷ [])
+turned_edit t h seat e r r' legal seen ask kept more = turned t h (Edited seat e) (λ s. with_edit s e) r r' legal seen ask (store_of-edited h seat e) kept more
+
+pub turned_piece : (t : TurnNow) (h : List HistoryEvent) (seat : ℕ) (p : EntryMap) (r r' : Replicated) → IsLegal (opening_of h) h → t.seen ≡ h → t.ask ≡ Absorbed seat p
+    → r ≡ replica_of h → r' ≡ record r { store = join r.store p } → r' ≡ replica_of (t.seen ++ t.ask ∷ [])
+turned_piece t h seat p r r' legal seen ask kept more = turned t h (Absorbed seat p) (λ s. join s p) r r' legal seen ask (store_of-absorbed h seat p) kept more

@@ -1,8 +1,7 @@
-use Rattle.std.proofs.Common.{refl, ◌≡◌, ◌++◌, ◌∷◌, [], ◌∙◌, ap}
+use Rattle.std.proofs.Common.{◌≡◌, ◌∙◌, ap}
 use Rattle.edit_sums.specs.Sums.{EntryMap, join, changed_paths}
 use Rattle.node_histories.specs.declared.events.HistoryEvent.TheVariants.{Absorbed}
-use Rattle.node_histories.specs.Histories.{replica_of, store_of, opening_of}
-use Rattle.node_histories.specs.HistoryLaws.{legal_filled, opening_of-snoc}
+use Rattle.node_histories.specs.Histories.{replica_of, store_of}
 use Rattle.node_histories.proofs.Turned.{turned_piece}
 use Rattle.node_histories.proofs.page.Page.with_piece.Goals as goal
 
@@ -11,15 +10,11 @@ turned_page-requires-clause-kept g c =
     let r = c.in_ok-replica.replica in
     let h = c.args.self.now.seen.log in
     let t = c.turn_to_piece-turn.result.0 in
-    let f = t.seen ++ t.ask ∷ [] in
     let seen : t.seen ≡ h = cc in
     let ask : t.ask ≡ Absorbed c.args.seat c.args.piece = cc in
     let kept : r ≡ replica_of h = c.in_ok-replica.ensures.copy ∙ c.deref.ensures ∙ c.args.self.now.kept in
-    let all : f ≡ h ++ Absorbed c.args.seat c.args.piece ∷ [] = cc in
-    let filled = legal_filled (opening_of h) h c.args.self.now.legal in
-    let opening : opening_of f ≡ opening_of h = ap opening_of all ∙ opening_of-snoc h (Absorbed c.args.seat c.args.piece) filled in
     let taken : c.take.new.replica ≡ record r { store = join r.store c.args.piece } = c.in-Ok.ensures.ok ∙ ap (λ (p : EntryMap). record r { store = join r.store p }) c.turn_to_piece-turn.ensures.piece in
-    turned_piece t f h c.args.seat c.args.piece r c.take.new.replica refl seen ask opening kept taken
+    turned_piece t h c.args.seat c.args.piece r c.take.new.replica c.args.self.now.legal seen ask kept taken
 
 pub returns-clause-changed : goal.returns-clause-changed
 returns-clause-changed g c =
