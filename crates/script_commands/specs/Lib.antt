@@ -1,4 +1,5 @@
 pub mod Commands
+pub mod Each
 pub mod Faults
 pub mod Fields
 pub mod Files

@@ -1,21 +1,16 @@
 -- The paths that words write.
 -- Source: this project's own.
-use Rattle.std.specs.Prelude.{◌≡◌, ◌⊎◌, ℕ, List, [], ◌∷◌, Result, Ok, Err}
+use Rattle.std.specs.Prelude.{◌≡◌, ◌⊎◌, ℕ, List, Result, Err}
 use Rattle.load_path.specs.Paths.{PathParts, path_of}
 use Rattle.load_path.specs.declared.paths.PathFault.{PathFault}
 use Rattle.script_commands.specs.declared.commands.Fault.{Fault}
 use Rattle.script_commands.specs.declared.commands.Fault.TheVariants.{Memory}
+use Rattle.script_commands.specs.Each.{each_read}
 use Rattle.script_commands.specs.Faults.{fault_of_path}
-
-abbrev path_then : Result PathParts PathFault → Result (List PathParts) PathFault → Result (List PathParts) PathFault
-path_then (Err fault) paths = Err fault
-path_then (Ok path) (Err fault) = Err fault
-path_then (Ok path) (Ok paths) = Ok (path ∷ paths)
 
 -- the paths that some texts write, or the first thing wrong with the first that writes none
 abbrev pub paths_of : List (List ℕ) → Result (List PathParts) PathFault
-paths_of [] = Ok []
-paths_of (text ∷ texts) = path_then (path_of text) (paths_of texts)
+paths_of = each_read path_of
 
 -- the fault of words that write no path, or want of memory
 abbrev pub IsPathFault : {T : Type 0} → Result T PathFault → Fault → Type 0
