@@ -1,6 +1,6 @@
 -- What a seat stands for.
 -- Source: this project's own.
-use Rattle.std.specs.Prelude.{◌≡◌, ℕ, List, slice_get, Some}
+use Rattle.std.specs.Prelude.{◌≡◌, ℕ, ◌+◌, List, slice_get, Some}
 use mathlib.Core.List.{IsPrefix}
 use Rattle.node_histories.specs.declared.events.HistoryEvent.{HistoryEvent}
 use Rattle.node_histories.specs.Histories.{takes_of}
@@ -10,6 +10,10 @@ pub record SeatNow : Type 0 where
   pub seen : List HistoryEvent
   pub calls : ℕ
   pub number : ℕ
+
+-- one take more is counted at the seat
+abbrev pub CountsOneMore : SeatNow → SeatNow → Type 0
+CountsOneMore old new = (new.calls ≡ old.calls + 1) × (new.number ≡ old.number)
 
 -- the history begins with what the seat has seen, and has just as many takes of it as it made
 abbrev pub Agrees : List HistoryEvent → SeatNow → Type 0

@@ -4,7 +4,7 @@ ghost use Rattle.std.specs.List.{sum_by};
 ghost use Rattle.node_histories.specs.declared.events.HistoryEvent.TheVariants.{Edited, Absorbed};
 ghost use Rattle.node_histories.specs.Histories.{IsLegal, EndsWith, EndsChanging, opening_of, replica_of, takes_in};
 ghost use Rattle.node_histories.specs.Codes.{replica-prop, IsLegal-prop};
-ghost use Rattle.shared_node.specs.Seats.{AllAgree};
+ghost use Rattle.shared_node.specs.Seats.{AllAgree, CountsOneMore};
 ghost use Rattle.shared_node.specs.Faults.{AtFault, IsEditFault, IsPieceFault, IsSeatFault, AcceptsEdit, AcceptsPiece};
 
 use crate::blank::Blank;
@@ -109,8 +109,7 @@ impl<N: NodeName> Node<N> {
             EndsWith seat.old.seen r.1 (Edited seat.old.number
             (record { path = path; version = r.0; content = content }))) }
         ensures told { IfOk result (λ r. IsLegal N.opening r.1 × (seat.new.seen ≡ r.1)) }
-        ensures counted { IfOk result (λ _. (seat.new.calls ≡ seat.old.calls + 1)
-            × (seat.new.number ≡ seat.old.number)) }
+        ensures counted { IfOk result (λ _. CountsOneMore seat.old seat.new) }
         ensures fault { IfErr result (λ f. AtFault N.opening f seat.old seat.new) }
         ensures kind { IfErr result (λ f. IsEditFault f) }
     {
@@ -133,8 +132,7 @@ impl<N: NodeName> Node<N> {
     ) -> Result<(u64, Told<N>), NodeFault<N>>
         ensures taken { IfOk result (λ r. EndsChanging seat.old.seen r.1 (Absorbed seat.old.number piece) r.0) }
         ensures told { IfOk result (λ r. IsLegal N.opening r.1 × (seat.new.seen ≡ r.1)) }
-        ensures counted { IfOk result (λ _. (seat.new.calls ≡ seat.old.calls + 1)
-            × (seat.new.number ≡ seat.old.number)) }
+        ensures counted { IfOk result (λ _. CountsOneMore seat.old seat.new) }
         ensures fault { IfErr result (λ f. AtFault N.opening f seat.old seat.new) }
         ensures kind { IfErr result (λ f. IsPieceFault f) }
     {

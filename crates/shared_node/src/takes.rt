@@ -6,6 +6,7 @@ ghost use Rattle.node_histories.specs.declared.events.HistoryEvent.TheVariants.{
 ghost use Rattle.node_histories.specs.Histories.{IsLegal, EndsWith, EndsChanging, store_of, counter_of, opening_of, takes_in};
 ghost use Rattle.shared_node.specs.Accounts.{IsTakenAfter};
 ghost use Rattle.shared_node.specs.Faults.{AtFault, AtCheck, IsEarly, IsEditFault, IsPieceFault, AcceptsEdit, AcceptsPiece};
+ghost use Rattle.shared_node.specs.Seats.{CountsOneMore};
 
 use crate::faults::NodeFault;
 use crate::keeper::Keeper;
@@ -123,7 +124,7 @@ impl<N: NodeName> Keeper<N> {
         requires calls { seat.old.calls < 2 ^ 64 - 1 }
         ensures given { self.new.given ≡ self.old.given }
         ensures accepted { self.new.accepted ≡ self.old.accepted }
-        ensures counted { (seat.new.calls ≡ seat.old.calls + 1) × (seat.new.number ≡ seat.old.number) }
+        ensures counted { CountsOneMore seat.old seat.new }
         ensures shown { MatchOption result (seat.new.seen ≡ seat.old.seen) (λ told.
             (told ≡ self.old.accepted) × (seat.new.seen ≡ told) × (self.new.shown ≡ told) × IsLegal N.opening told) }
     {
@@ -147,8 +148,7 @@ impl<N: NodeName> Keeper<N> {
             EndsWith seat.old.seen r.1 (Edited seat.old.number
             (record { path = path; version = r.0; content = content }))) }
         ensures told { IfOk result (λ r. IsLegal N.opening r.1 × (seat.new.seen ≡ r.1)) }
-        ensures counted { IfOk result (λ _. (seat.new.calls ≡ seat.old.calls + 1)
-            × (seat.new.number ≡ seat.old.number)) }
+        ensures counted { IfOk result (λ _. CountsOneMore seat.old seat.new) }
         ensures shown { IfOk result (λ r. (self.new.shown ≡ r.1) × (self.new.accepted ≡ r.1)) }
         ensures fault { IfErr result (λ f. AtFault N.opening f seat.old seat.new) }
         ensures kind { IfErr result (λ f. IsEditFault f) }
@@ -179,8 +179,7 @@ impl<N: NodeName> Keeper<N> {
         ensures given { self.new.given ≡ self.old.given }
         ensures taken { IfOk result (λ r. EndsChanging seat.old.seen r.1 (Absorbed seat.old.number piece) r.0) }
         ensures told { IfOk result (λ r. IsLegal N.opening r.1 × (seat.new.seen ≡ r.1)) }
-        ensures counted { IfOk result (λ _. (seat.new.calls ≡ seat.old.calls + 1)
-            × (seat.new.number ≡ seat.old.number)) }
+        ensures counted { IfOk result (λ _. CountsOneMore seat.old seat.new) }
         ensures shown { IfOk result (λ r. (self.new.shown ≡ r.1) × (self.new.accepted ≡ r.1)) }
         ensures fault { IfErr result (λ f. AtFault N.opening f seat.old seat.new) }
         ensures kind { IfErr result (λ f. IsPieceFault f) }
