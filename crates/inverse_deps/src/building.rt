@@ -6,7 +6,7 @@ ghost use Rattle.inverse_deps.specs.Tables.{AreKept, AreTables, lists_from};
 
 use crate::kind_rows::KindRows;
 use crate::lists::Edges;
-use crate::numbers::names_of;
+use crate::numbers::names_at;
 use crate::steps::dependency_rows;
 use index_rows::{joined, row, turned};
 use parallel_load::Loaded;
@@ -71,7 +71,7 @@ fn lists_at(
     let kinds = DepKind::all();
     let mut lists = Vec::with_capacity(alloc, kinds.len())?;
     for kind in kinds {
-        let names = names_of(alloc, loaded, row(rows.of(*kind), number))?;
+        let names = names_at(alloc, loaded, row(rows.of(*kind), number))?;
         lists.push(Items::from_vec(names))?;
     }
     Ok(Items::from_vec(lists))

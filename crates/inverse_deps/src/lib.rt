@@ -16,4 +16,4 @@ mod steps;
 pub use building::edges;
 pub use laws::edge_laws;
 pub use lists::Edges;
-pub use numbers::{names_of, number_of};
+pub use numbers::{names_at, number_of};

@@ -25,7 +25,7 @@ pub fn number_of(loaded: &Loaded, name: &UnitName) -> Option<usize>
 }
 
 /// The names of numbers. Linear in them. It fails for want of memory alone.
-pub fn names_of(
+pub fn names_at(
     alloc: Global,
     loaded: &Loaded,
     numbers: &[usize],

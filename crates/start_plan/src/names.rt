@@ -9,7 +9,7 @@ ghost use Rattle.start_plan.specs.Requests.{is_loaded};
 ghost use Rattle.start_plan.specs.Tellings.{IsFaultOf, IsToldBy, IsTellable};
 
 use crate::requests::{Plan, Refusal};
-use inverse_deps::names_of;
+use inverse_deps::names_at;
 use parallel_load::{Loaded, NameLoad, Status};
 use plain_values::Items;
 use plan_choice::{RowPlan, RowRefusal};
@@ -23,8 +23,8 @@ pub(crate) fn named_plan(alloc: Global, loaded: &Loaded, plan: &RowPlan) -> Resu
     ensures stop { IfOk result (λ named. named.stop ≡ map (name_at loaded.now) plan.now.stops.items) }
     ensures start { IfOk result (λ named. named.start ≡ map (name_at loaded.now) plan.now.starts.items) }
 {
-    let stop = Items::from_vec(names_of(alloc, loaded, &plan.stops)?);
-    let start = Items::from_vec(names_of(alloc, loaded, &plan.starts)?);
+    let stop = Items::from_vec(names_at(alloc, loaded, &plan.stops)?);
+    let start = Items::from_vec(names_at(alloc, loaded, &plan.starts)?);
     Ok(Plan { stop, start })
 }
 
@@ -49,7 +49,7 @@ pub(crate) fn named_refusal(
             name_of(loaded, *unit)?,
             name_of(loaded, *rival)?,
         )),
-        RowRefusal::Cycle(units) => Ok(Refusal::Cycle(Items::from_vec(names_of(
+        RowRefusal::Cycle(units) => Ok(Refusal::Cycle(Items::from_vec(names_at(
             alloc, loaded, units,
         )?))),
     }

@@ -6,7 +6,7 @@ ghost use Rattle.unit_graph.specs.Graphs.{AreDepths, IsKnown, IsNumberFor, IsRea
 
 use crate::graph::Graph;
 use index_rows::{closure, distances};
-use inverse_deps::names_of;
+use inverse_deps::names_at;
 use parallel_load::Loaded;
 use setting_rules::DepKind;
 use std::alloc::AllocError;
@@ -31,7 +31,7 @@ impl<'a> Graph<'a> {
         let source = self.source(from);
         let steps = self.steps(kinds)?;
         let numbers = closure(load.allocator(), load.names().len(), &steps, &[source])?;
-        Ok(names_of(load.allocator(), load, &numbers)?)
+        Ok(names_at(load.allocator(), load, &numbers)?)
     }
 
     /// All units that are reached over `Requires`, `Requisite`, `BindsTo` and `Wants` from the unit for which a name stands,

@@ -26,8 +26,8 @@ row-requires c =
     let r = subst P (sym c.of.ensures.rows) (c.requires.rows.each dep) in
     omega (arith, r.within.one_each, c.requires.number)
 
-pub names_of-requires : goal.names_of-requires
-names_of-requires c =
+pub names_at-requires : goal.names_at-requires
+names_at-requires c =
     let load = c.args.loaded.now in
     let dep = get_or c.all-kinds.result.now c.loop-kind.kind-index Before in
     let P : List (Vec ℕ Global) → Type 0 = λ rs. AreEdgeRows load dep rs in

@@ -10,8 +10,8 @@ use Rattle.unit_graph.specs.Graphs.{LeadsBy}
 use Rattle.unit_graph.proofs.Stepping.{reach_below, reach_named}
 use Rattle.unit_graph.proofs.graph.Graph.reach.Goals as goal
 
-pub names_of-requires : goal.names_of-requires
-names_of-requires c =
+pub names_at-requires : goal.names_at-requires
+names_at-requires c =
     let load = c.args.self.now.load in
     let A : List ℕ → Type 0 = λ ps. All (λ p. p < count_of load) ps in
     let L : LoadMap → Type 0 = λ m. All (λ p. p < count_of m) c.deref.result.now in
@@ -25,8 +25,8 @@ pub returns : goal.returns
 returns c =
     let load = c.args.self.now.load in
     let f : LoadMap → ℕ → Name = λ m p. name_at m p in
-    let named : c.in_ok-names_of.field-0.items ≡ map (f load) c.in_ok-numbers.numbers.items =
-    c.in_ok-names_of.ensures.names ∙ ap (λ m. map (f m) c.deref.result.now) c.loaded-load.ensures.load ∙ ap (map (f load)) c.deref.ensures.value in
+    let named : c.in_ok-names_at.field-0.items ≡ map (f load) c.in_ok-numbers.numbers.items =
+    c.in_ok-names_at.ensures.names ∙ ap (λ m. map (f m) c.deref.result.now) c.loaded-load.ensures.load ∙ ap (map (f load)) c.deref.ensures.value in
     record {
       reached = λ main s. (let R : List Name → Type 0 = λ ps. IsClosure (Listed (main ∷ [])) (LeadsBy c.args.self.now.edges c.args.kinds.now) name_cmp ps in
           subst R (sym named)

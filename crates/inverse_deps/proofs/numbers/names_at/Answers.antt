@@ -4,7 +4,7 @@ use Rattle.std.specs.Map.{keys_of}
 use Rattle.unit_name.specs.Names.{Name}
 use Rattle.inverse_deps.specs.Numbers.{name_at}
 use Rattle.inverse_deps.specs.NumberLaws.{key_at_place}
-use Rattle.inverse_deps.proofs.numbers.names_of.Goals as goal
+use Rattle.inverse_deps.proofs.numbers.names_at.Goals as goal
 
 pub loop-number-init : goal.loop-number-init
 loop-number-init c = c.in_ok-named.ensures.items
