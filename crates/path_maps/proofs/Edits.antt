@@ -1,6 +1,6 @@
 -- One edit more.
 use Rattle.std.proofs.Common.{◌≡◌, ℕ, Bool, true, false, cond, [], ◌∷◌, Option, Some, None, IsSome, refl, sym, ap, subst, ◌∙◌, arith}
-use Rattle.std.specs.Prelude.{max, length, ◌+◌}
+use Rattle.std.specs.Prelude.{max, length, ◌+◌, ◌-◌, ◌^◌, ◌≤◌}
 use Rattle.std.specs.Ordering.{eq_by_cmp}
 use Rattle.std.specs.Cmp.Lexicographic.{nat_list_cmp_total}
 use Rattle.std.specs.FinMap as finmap
@@ -36,6 +36,7 @@ nothing_kept = record {
     counted = sym (ap (λ (s : EntryMap). finmap.len s) nothing_is_empty ∙ finmap.len-empty path_cmp Entry);
     greatest = sym (ap high_of nothing_is_empty ∙ high_of-sum_of []);
   };
+  fits = omega arith;
 }
 
 -- ---- the maps of one edit
@@ -76,10 +77,11 @@ counted_edit s len high len' e lawful c is = record {
     path q x true t h = subst IsPath (sym (tied q e.path t)) lawful
     path q x false t h = c.paths q h
 
-pub kept_edit : (m n : RankMap) (s : EntryMap) (len high len' : ℕ) (e : Edit) (p : PathParts) → p ≡ e.path → IsPath e.path → flat m ≡ s → IsKept m len high → AreRanks n → IsJoin RanksBelow m (one_edit (record e { path = p })) n → len' ≡ cond (finmap.contains_key s e.path) (finmap.len s) (finmap.len s + 1) → IsKept n len' (max high e.version.counter)
-kept_edit m n s len high len' e p parts lawful is k is_n j counted = record {
+pub kept_edit : (m n : RankMap) (s : EntryMap) (len high len' : ℕ) (e : Edit) (p : PathParts) → p ≡ e.path → IsPath e.path → flat m ≡ s → IsKept m len high → AreRanks n → IsJoin RanksBelow m (one_edit (record e { path = p })) n → len' ≡ cond (finmap.contains_key s e.path) (finmap.len s) (finmap.len s + 1) → len' ≤ 2 ^ 64 - 1 → IsKept n len' (max high e.version.counter)
+kept_edit m n s len high len' e p parts lawful is k is_n j counted fits = record {
   ranks = is_n;
   counted =
       subst (λ (t : EntryMap). IsCounted t len' (max high e.version.counter)) (sym (joined_edit m n s e p parts is k.ranks is_n j))
       (counted_edit s len high len' e lawful (subst (λ (t : EntryMap). IsCounted t len high) is k.counted) counted);
+  fits = fits;
 }

@@ -1,6 +1,6 @@
 -- What a store keeps when another is joined, or is joined in part.
 use Rattle.std.proofs.Common.{◌≡◌, ◌⊎◌, inl, inr, ℕ, ◌+◌, ◌≤◌, Option, IsSome, sym, ap, subst, ◌∙◌, arith, length}
-use Rattle.std.specs.Prelude.{max}
+use Rattle.std.specs.Prelude.{max, ◌-◌, ◌^◌}
 use Rattle.std.specs.FinMap as finmap
 use Rattle.join_law.specs.Order.{IsJoin, IsBetween, IsPartialJoin}
 use Rattle.load_path.specs.Paths.{PathParts, IsPath}
@@ -62,8 +62,12 @@ module _ (m o : RankMap) (s t : EntryMap) (a b g h : ℕ) (is : flat m ≡ s) (i
       pub merged : flat n ≡ join s t
       merged = flat-join m o n k.ranks l.ranks is_n j ∙ (λ i. join (is i) (is_t i))
 
-      pub merged_kept : (len : ℕ) → len ≡ a + additions s (finmap.entries t) → IsKept n len (max g h)
-      merged_kept len e = record { ranks = is_n; counted = subst (λ (x : EntryMap). IsCounted x len (max g h)) (sym merged) (counted_join s t a b g h len counted_s counted_t e) }
+      pub merged_kept : (len : ℕ) → len ≡ a + additions s (finmap.entries t) → len ≤ 2 ^ 64 - 1 → IsKept n len (max g h)
+      merged_kept len e fits = record {
+        ranks = is_n;
+        counted = subst (λ (x : EntryMap). IsCounted x len (max g h)) (sym merged) (counted_join s t a b g h len counted_s counted_t e);
+        fits = fits;
+      }
 
       pub merged_changes : (changed : ℕ) → changed ≡ rises s (finmap.entries t) → changed ≡ changed_paths s (flat n)
       merged_changes changed e = e ∙ sym (changed-join s t) ∙ ap (changed_paths s) (sym merged)
@@ -97,10 +101,11 @@ module _ (m o : RankMap) (s t : EntryMap) (a b g h : ℕ) (is : flat m ≡ s) (i
           let four = same_len in
           omega (arith, one, two, three, four, fits)
 
-      pub within_counted : (len high : ℕ) → len ≡ length (listed n) → high ≡ greatest_counter (listed n) → IsKept n len high
-      within_counted len high e f = record {
+      pub within_counted : (len high : ℕ) → len ≡ length (listed n) → high ≡ greatest_counter (listed n) → len ≤ 2 ^ 64 - 1 → IsKept n len high
+      within_counted len high e f fits = record {
         ranks = is_n;
         counted = record { paths = within_paths; counted = e ∙ same_len; greatest = f ∙ ap greatest_counter (sym (entries-flat n is_n)) };
+        fits = fits;
       }
 
     -- what is left of a join that was refused

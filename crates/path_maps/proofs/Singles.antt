@@ -1,15 +1,13 @@
 -- A store of one entry is maps of one pair each.
 use Rattle.std.proofs.Common.{◌≡◌, ◌≢◌, ◌≤◌, ℕ, List, [], ◌∷◌, ◌++◌, refl, sym, ap, ◌∙◌, length, arith, length-append}
 use Rattle.std.specs.FinMap as finmap
-use Rattle.join_law.specs.declared.versions.Versioned.{Versioned}
 use Rattle.join_law.specs.Order.{IsLeast}
 use Rattle.join_law.specs.VersionOrder.{IsUpTo}
 use Rattle.join_law.specs.Maps.{AllHeld, IsSinglePair}
-use Rattle.edit_sums.specs.declared.contents.Content.{Content}
 use Rattle.edit_sums.specs.Contents.{content_cmp}
 use Rattle.edit_sums.specs.Sums.{EntryMap}
 use Rattle.path_maps.specs.Spread.{spread}
-use Rattle.path_maps.specs.PathMaps.{NameMap, FolderMap, RankMap, NamesBelow, FoldersBelow, AreNames, AreFolders, AreRanks, at_name, in_folder, in_rank, listed, flat}
+use Rattle.path_maps.specs.PathMaps.{NameMap, FolderMap, RankMap, NamesBelow, FoldersBelow, AreNames, AreFolders, AreRanks, at_name, in_folder, in_rank, flat}
 use Rattle.path_maps.specs.PathMapLaws.{entries-flat}
 use Rattle.path_maps.proofs.Cursors.{at_name_some, in_folder_some, in_rank_some}
 

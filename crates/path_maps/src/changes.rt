@@ -17,7 +17,6 @@ pub fn count_changes(store: &Store, other: &Store) -> Changes
     ensures changed { result.changed ≡ rises store.now (finmap.entries other.now) }
     ensures added { result.added ≡ additions store.now (finmap.entries other.now) }
 {
-    let _most = other.len();
     let mut both = other.entries_beside(store);
     let mut changes = Changes {
         changed: 0,

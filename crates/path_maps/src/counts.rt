@@ -20,6 +20,7 @@ pub fn count_entries(ranks: &RankMap) -> Counts
     requires paths { AllKeys IsPath (listed ranks.now) }
     requires fits { length (listed ranks.now) ≤ usize.MAX }
     ensures len { result.len ≡ length (listed ranks.now) }
+    ensures within { result.len ≤ usize.MAX }
     ensures high { result.high ≡ greatest_counter (listed ranks.now) }
 {
     let mut entries = Entries::of_ranks(ranks);

@@ -183,6 +183,7 @@ impl Store {
     /// without memory.
     pub fn entries_beside<'a>(&'a self, other: &'a Store) -> Beside<'a>
         ensures entries { result ≡ beside (finmap.get other.now) (finmap.entries self.now) }
+        ensures within { finmap.len self.now ≤ u64.MAX }
     {
         Beside::of_ranks(&self.ranks, &other.ranks)
     }

@@ -1,4 +1,4 @@
-use Rattle.std.proofs.Common.{◌+◌, ap, subst, sym, ◌∙◌}
+use Rattle.std.proofs.Common.{arith, ◌+◌, ap, subst, sym, ◌∙◌}
 use Rattle.std.specs.Prelude.{◌≤◌}
 use Rattle.edit_sums.specs.SumLaws.{store_below_refl, join-left}
 use Rattle.path_maps.proofs.Merges.{merged, merged_kept, merged_changes, part_kept, part_within, partly, rest_joined, rest_within, within_listed, within_fits, within_counted}
@@ -16,7 +16,7 @@ returns-in_default-clause-within c = join-left c.args.self.now c.args.other
 pub invariant_of-self : goal.invariant_of-self
 invariant_of-self c =
     rw c.max-self-inside.ensures
-    (merged_kept c.self.inside.ranks c.other.inside.ranks c.args.self.now c.args.other c.self.inside.len c.other.inside.len c.self.inside.high c.other.inside.high c.self.view_is c.other.view_is c.self.invariant c.other.invariant c.join_from.new.self c.join_from.ensures.valid c.in-Ok-join_from.ensures.ok c.in-Ok.len (c.in-Ok.ensures.sum ∙ ap (λ n. c.self.inside.len + n) c.count_changes-changes.ensures.added))
+    (merged_kept c.self.inside.ranks c.other.inside.ranks c.args.self.now c.args.other c.self.inside.len c.other.inside.len c.self.inside.high c.other.inside.high c.self.view_is c.other.view_is c.self.invariant c.other.invariant c.join_from.new.self c.join_from.ensures.valid c.in-Ok-join_from.ensures.ok c.in-Ok.len (c.in-Ok.ensures.sum ∙ ap (λ n. c.self.inside.len + n) c.count_changes-changes.ensures.added) (let sum = c.in-Ok.ensures.sum in let within = c.in-Ok.ensures.within in omega (arith, sum, within)))
 
 pub count_entries-counts-requires-clause-paths : goal.count_entries-counts-requires-clause-paths
 count_entries-counts-requires-clause-paths c = within_listed c.self.inside.ranks c.other.inside.ranks c.args.self.now c.args.other c.self.inside.len c.other.inside.len c.self.inside.high c.other.inside.high c.self.view_is c.other.view_is c.self.invariant c.other.invariant c.join_from.new.self c.join_from.ensures.valid (part_within c.self.inside.ranks c.other.inside.ranks c.args.self.now c.args.other c.self.inside.len c.other.inside.len c.self.inside.high c.other.inside.high c.self.view_is c.other.view_is c.self.invariant c.other.invariant c.join_from.new.self c.join_from.ensures.valid (partly c.self.inside.ranks c.other.inside.ranks c.args.self.now c.args.other c.self.inside.len c.other.inside.len c.self.inside.high c.other.inside.high c.self.view_is c.other.view_is c.self.invariant c.other.invariant c.join_from.new.self c.join_from.ensures.valid c.in-Err.field-0.rest c.in-Err.ensures.rest_valid c.in-Err.ensures.refused))
@@ -31,10 +31,10 @@ pub count_entries-len-requires-clause-fits : goal.count_entries-len-requires-cla
 count_entries-len-requires-clause-fits c = within_fits c.self.inside.ranks c.other.inside.ranks c.args.self.now c.args.other c.self.inside.len c.other.inside.len c.self.inside.high c.other.inside.high c.self.view_is c.other.view_is c.self.invariant c.other.invariant c.in-Err.field-0.rest c.in-Err.ensures.rest_valid (rest_within c.self.inside.ranks c.other.inside.ranks c.args.self.now c.args.other c.self.inside.len c.other.inside.len c.self.inside.high c.other.inside.high c.self.view_is c.other.view_is c.self.invariant c.other.invariant c.join_from.new.self c.join_from.ensures.valid c.in-Err.field-0.rest c.in-Err.ensures.rest_valid c.in-Err.ensures.refused) _ (subst (λ n. c.self.inside.len + n ≤ _) c.count_changes-changes.ensures.added c.in-Ok.ensures.within)
 
 pub invariant_of-result : goal.invariant_of-result
-invariant_of-result c = within_counted c.self.inside.ranks c.other.inside.ranks c.args.self.now c.args.other c.self.inside.len c.other.inside.len c.self.inside.high c.other.inside.high c.self.view_is c.other.view_is c.self.invariant c.other.invariant c.in-Err.field-0.rest c.in-Err.ensures.rest_valid (rest_within c.self.inside.ranks c.other.inside.ranks c.args.self.now c.args.other c.self.inside.len c.other.inside.len c.self.inside.high c.other.inside.high c.self.view_is c.other.view_is c.self.invariant c.other.invariant c.join_from.new.self c.join_from.ensures.valid c.in-Err.field-0.rest c.in-Err.ensures.rest_valid c.in-Err.ensures.refused) c.count_entries-len.result.len c.count_entries-len.result.high c.count_entries-len.ensures.len c.count_entries-len.ensures.high
+invariant_of-result c = within_counted c.self.inside.ranks c.other.inside.ranks c.args.self.now c.args.other c.self.inside.len c.other.inside.len c.self.inside.high c.other.inside.high c.self.view_is c.other.view_is c.self.invariant c.other.invariant c.in-Err.field-0.rest c.in-Err.ensures.rest_valid (rest_within c.self.inside.ranks c.other.inside.ranks c.args.self.now c.args.other c.self.inside.len c.other.inside.len c.self.inside.high c.other.inside.high c.self.view_is c.other.view_is c.self.invariant c.other.invariant c.join_from.new.self c.join_from.ensures.valid c.in-Err.field-0.rest c.in-Err.ensures.rest_valid c.in-Err.ensures.refused) c.count_entries-len.result.len c.count_entries-len.result.high c.count_entries-len.ensures.len c.count_entries-len.ensures.high c.count_entries-len.ensures.within
 
 pub invariant_of-self-in-Err : goal.invariant_of-self-in-Err
-invariant_of-self-in-Err c = within_counted c.self.inside.ranks c.other.inside.ranks c.args.self.now c.args.other c.self.inside.len c.other.inside.len c.self.inside.high c.other.inside.high c.self.view_is c.other.view_is c.self.invariant c.other.invariant c.join_from.new.self c.join_from.ensures.valid (part_within c.self.inside.ranks c.other.inside.ranks c.args.self.now c.args.other c.self.inside.len c.other.inside.len c.self.inside.high c.other.inside.high c.self.view_is c.other.view_is c.self.invariant c.other.invariant c.join_from.new.self c.join_from.ensures.valid (partly c.self.inside.ranks c.other.inside.ranks c.args.self.now c.args.other c.self.inside.len c.other.inside.len c.self.inside.high c.other.inside.high c.self.view_is c.other.view_is c.self.invariant c.other.invariant c.join_from.new.self c.join_from.ensures.valid c.in-Err.field-0.rest c.in-Err.ensures.rest_valid c.in-Err.ensures.refused)) c.count_entries-counts.result.len c.count_entries-counts.result.high c.count_entries-counts.ensures.len c.count_entries-counts.ensures.high
+invariant_of-self-in-Err c = within_counted c.self.inside.ranks c.other.inside.ranks c.args.self.now c.args.other c.self.inside.len c.other.inside.len c.self.inside.high c.other.inside.high c.self.view_is c.other.view_is c.self.invariant c.other.invariant c.join_from.new.self c.join_from.ensures.valid (part_within c.self.inside.ranks c.other.inside.ranks c.args.self.now c.args.other c.self.inside.len c.other.inside.len c.self.inside.high c.other.inside.high c.self.view_is c.other.view_is c.self.invariant c.other.invariant c.join_from.new.self c.join_from.ensures.valid (partly c.self.inside.ranks c.other.inside.ranks c.args.self.now c.args.other c.self.inside.len c.other.inside.len c.self.inside.high c.other.inside.high c.self.view_is c.other.view_is c.self.invariant c.other.invariant c.join_from.new.self c.join_from.ensures.valid c.in-Err.field-0.rest c.in-Err.ensures.rest_valid c.in-Err.ensures.refused)) c.count_entries-counts.result.len c.count_entries-counts.result.high c.count_entries-counts.ensures.len c.count_entries-counts.ensures.high c.count_entries-counts.ensures.within
 
 pub returns-in-Ok-join_from-clause-ok : goal.returns-in-Ok-join_from-clause-ok
 returns-in-Ok-join_from-clause-ok c = merged c.self.inside.ranks c.other.inside.ranks c.args.self.now c.args.other c.self.inside.len c.other.inside.len c.self.inside.high c.other.inside.high c.self.view_is c.other.view_is c.self.invariant c.other.invariant c.join_from.new.self c.join_from.ensures.valid c.in-Ok-join_from.ensures.ok

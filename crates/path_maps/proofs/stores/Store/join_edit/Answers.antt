@@ -15,9 +15,15 @@ invariant_of-self-2 c =
     (λ i. len i + c.from.ensures i)
     ∙ counted_with c.self.inside.ranks c.self.invariant.ranks c.args.self.now c.self.view_is q (entry_of c.args.edit) c.in_ok-added.added c.in_ok-added.ensures.added
     ∙ ap (λ (p : PathParts). cond (finmap.contains_key c.args.self.now p) (finmap.len c.args.self.now) (finmap.len c.args.self.now + 1)) c.into_parts-rank.ensures.parts in
+    let room = subst (λ (p : PathParts). finmap.get c.args.self.now p ≡ None → finmap.len c.args.self.now + 1 ≤ 2 ^ 64 - 1) (sym c.into_parts-rank.ensures.parts) c.if-is_full_for.ensures.room in
+    let now = c.self.invariant.fits in
+    let most : finmap.len c.args.self.now ≤ 2 ^ 64 - 1 = omega (arith, len, now) in
+    let more = fits_with c.self.inside.ranks c.self.invariant.ranks c.args.self.now c.self.view_is q (2 ^ 64 - 1) (entry_of c.args.edit) c.in_ok-added.added c.in_ok-added.ensures.added most room in
+    let from = c.from.ensures in
+    let fits : c.self.inside.len + c.from.result ≤ 2 ^ 64 - 1 = omega (arith, more, from, len) in
     rw c.max-self-inside.ensures
     (kept_edit c.self.inside.ranks c.join_deep.new.self c.args.self.now c.self.inside.len c.self.inside.high (c.self.inside.len + c.from.result) c.args.edit q
-    c.into_parts-rank.ensures.parts c.into_parts-rank.ensures.lawful c.self.view_is c.self.invariant c.in_ok-added.ensures.map c.in_ok-added.ensures.ok counted)
+    c.into_parts-rank.ensures.parts c.into_parts-rank.ensures.lawful c.self.view_is c.self.invariant c.in_ok-added.ensures.map c.in_ok-added.ensures.ok counted fits)
 
 pub overflow_add-self : goal.overflow_add-self
 overflow_add-self c =

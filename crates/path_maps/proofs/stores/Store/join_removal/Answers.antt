@@ -43,4 +43,4 @@ invariant_of-self c =
     c.self.invariant.counted.counted ∙ ap (λ s. finmap.len s) c.self.view_is ∙ sym (ap (λ b. cond b (finmap.len c.args.self.now) (finmap.len c.args.self.now + 1)) held) in
     let lawful = c.self.invariant.counted.paths c.args.path.now (ap (λ s. finmap.contains_key s c.args.path.now) c.self.view_is ∙ held) in
     rw c.max-self-inside.ensures
-    (kept_edit c.self.inside.ranks c.make-removed.new.map c.args.self.now c.self.inside.len c.self.inside.high c.self.inside.len edit q at lawful c.self.view_is c.self.invariant c.make-removed.ensures.valid c.if-removed.ensures.joined counted)
+    (kept_edit c.self.inside.ranks c.make-removed.new.map c.args.self.now c.self.inside.len c.self.inside.high c.self.inside.len edit q at lawful c.self.view_is c.self.invariant c.make-removed.ensures.valid c.if-removed.ensures.joined counted c.self.invariant.fits)

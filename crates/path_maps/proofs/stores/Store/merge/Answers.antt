@@ -1,4 +1,4 @@
-use Rattle.std.proofs.Common.{◌+◌, ap, subst, sym, ◌∙◌}
+use Rattle.std.proofs.Common.{arith, ◌+◌, ap, subst, sym, ◌∙◌}
 use Rattle.std.specs.Prelude.{Result, Ok, Err, OnErr, ◌≤◌}
 use Rattle.edit_sums.specs.SumLaws.{store_below_refl, join-left}
 use Rattle.path_maps.proofs.Merges.{merged, merged_kept, merged_changes, part_kept, part_within, part_again, within_listed, within_fits, within_counted}
@@ -21,7 +21,7 @@ pub invariant_of-self : goal.invariant_of-self
 invariant_of-self c =
     rw c.max-self-inside.ensures
     (merged_kept c.self.inside.ranks c.other.inside.ranks c.args.self.now c.args.other.now c.self.inside.len c.other.inside.len c.self.inside.high c.other.inside.high c.self.view_is c.other.view_is c.self.invariant c.other.invariant c.join_copy.new.self
-    c.in-Ok.ensures.valid c.in-Ok.ensures.ok c.in_ok-len.len (c.in_ok-len.ensures.sum ∙ ap (λ n. c.self.inside.len + n) c.count_changes-changes.ensures.added))
+    c.in-Ok.ensures.valid c.in-Ok.ensures.ok c.in_ok-len.len (c.in_ok-len.ensures.sum ∙ ap (λ n. c.self.inside.len + n) c.count_changes-changes.ensures.added) (let sum = c.in_ok-len.ensures.sum in let within = c.in_ok-len.ensures.within in omega (arith, sum, within)))
 
 pub count_entries-counts-requires-clause-paths : goal.count_entries-counts-requires-clause-paths
 count_entries-counts-requires-clause-paths c =
@@ -36,7 +36,7 @@ count_entries-counts-requires-clause-fits c =
 pub invariant_of-self-in-Err : goal.invariant_of-self-in-Err
 invariant_of-self-in-Err c =
     within_counted c.self.inside.ranks c.other.inside.ranks c.args.self.now c.args.other.now c.self.inside.len c.other.inside.len c.self.inside.high c.other.inside.high c.self.view_is c.other.view_is c.self.invariant c.other.invariant c.join_copy.new.self
-    c.in-Err.ensures.valid (part_within c.self.inside.ranks c.other.inside.ranks c.args.self.now c.args.other.now c.self.inside.len c.other.inside.len c.self.inside.high c.other.inside.high c.self.view_is c.other.view_is c.self.invariant c.other.invariant c.join_copy.new.self c.in-Err.ensures.valid c.in-Err.ensures.refused) c.count_entries-counts.result.len c.count_entries-counts.result.high c.count_entries-counts.ensures.len c.count_entries-counts.ensures.high
+    c.in-Err.ensures.valid (part_within c.self.inside.ranks c.other.inside.ranks c.args.self.now c.args.other.now c.self.inside.len c.other.inside.len c.self.inside.high c.other.inside.high c.self.view_is c.other.view_is c.self.invariant c.other.invariant c.join_copy.new.self c.in-Err.ensures.valid c.in-Err.ensures.refused) c.count_entries-counts.result.len c.count_entries-counts.result.high c.count_entries-counts.ensures.len c.count_entries-counts.ensures.high c.count_entries-counts.ensures.within
 
 pub returns-in-Ok-clause-ok : goal.returns-in-Ok-clause-ok
 returns-in-Ok-clause-ok c =
