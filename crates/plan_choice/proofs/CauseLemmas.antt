@@ -1,10 +1,11 @@
 -- The causes of refusals, by marks and rows.
-use Rattle.std.proofs.Common.{◌≡◌, ℕ, ◌↔◌, Bool, false, IsTrue, List, arith}
+use Rattle.std.proofs.Common.{◌≡◌, ◌<◌, ℕ, ◌↔◌, Bool, true, false, IsTrue, List, length, get_or, arith}
 use Rattle.std.specs.Ordering.{nat_cmp}
 use Rattle.std.specs.declared.vec.Vec.{Vec}
 use Rattle.std.specs.declared.alloc.Global.{Global}
 use Rattle.list_laws.specs.Members.{IsAmong}
 use Rattle.index_rows.specs.Least.{IsLeast}
+use Rattle.index_rows.specs.MarkLaws.{marked_read, unmarked_read}
 use Rattle.index_rows.specs.Rows.{Marked}
 use Rattle.index_rows.specs.StepLaws.{steps-below}
 use Rattle.index_rows.specs.Steps.{steps_from}
@@ -25,8 +26,23 @@ pair_along R S same a b f = record {
 
 module _ (p : PlanRows) (needed : List Bool) (n : AreMarksOf (count_of p) (IsNeeded (case_of p)) needed) where
   module _ (unloaded : List Bool) (left : (v : ℕ) → Marked unloaded v ↔ (Marked needed v × ¬ Marked p.loaded.items v)) where
-    pub all_loaded : ((v : ℕ) → ¬ Marked unloaded v) → (u : ℕ) → IsNeeded (case_of p) u → IsTrue ((case_of p).is_loaded u)
+    all_loaded : ((v : ℕ) → ¬ Marked unloaded v) → (u : ℕ) → IsNeeded (case_of p) u → IsTrue ((case_of p).is_loaded u)
     all_loaded none u h = stable ((case_of p).is_loaded u) (λ out. none u ((left u).1 ((n.marked u).1 h, out)))
+
+    -- the target and what it needs are loaded, and it may be started, as was read
+    pub clear_4 : (loaded refuses : Bool) → loaded ≡ get_or p.loaded.items p.target loaded → loaded ≡ true
+        → refuses ≡ get_or p.refuses_manual_start.items p.target refuses → refuses ≡ false
+        → ((v : ℕ) → ¬ Marked unloaded v) → IsClearBelow nat_cmp (case_of p) 4
+    clear_4 loaded refuses load_read is switch_read may none =
+        let inside : p.target < length p.refuses_manual_start.items = omega (arith, p.lawful_target, p.lawful_refuses) in
+        record {
+          target_loaded = λ l. marked_read p.loaded.items p.target loaded load_read p.lawful_target is;
+          needs_loaded = λ l. all_loaded none;
+          may_start = λ l. is_false _ (unmarked_read p.refuses_manual_start.items p.target refuses switch_read inside may);
+          requisites_run = λ l. absurd (omega arith);
+          at_peace = λ l. absurd (omega arith);
+          none_waits = λ l. absurd (omega arith);
+        }
 
     pub first_unloaded : (u : ℕ) → IsLeast nat_cmp (Marked unloaded) u → IsLeast nat_cmp (IsUnloadedNeed nat_cmp (case_of p)) u
     first_unloaded u l = least_along nat_cmp (Marked unloaded) (IsUnloadedNeed nat_cmp (case_of p))
@@ -62,44 +78,26 @@ module _ (p : PlanRows) where
     none_waits = λ l. absurd (omega arith);
   }
 
-  pub clear_3 : IsTrue ((case_of p).is_loaded p.target) → ((u : ℕ) → IsNeeded (case_of p) u → IsTrue ((case_of p).is_loaded u)) → IsClearBelow nat_cmp (case_of p) 3
-  clear_3 t n = record {
-    target_loaded = λ l. t;
-    needs_loaded = λ l. n;
-    may_start = λ l. absurd (omega arith);
-    requisites_run = λ l. absurd (omega arith);
+  pub clear_5 : IsClearBelow nat_cmp (case_of p) 4
+      → ((u v : ℕ) → IsNeeded (case_of p) u → IsAmong v ((case_of p).requisites u) → IsTrue ((case_of p).is_running v))
+      → IsClearBelow nat_cmp (case_of p) 5
+  clear_5 k run = record {
+    target_loaded = λ l. k.target_loaded (omega arith);
+    needs_loaded = λ l. k.needs_loaded (omega arith);
+    may_start = λ l. k.may_start (omega arith);
+    requisites_run = λ l. run;
     at_peace = λ l. absurd (omega arith);
     none_waits = λ l. absurd (omega arith);
   }
 
-  module _ (t : IsTrue ((case_of p).is_loaded p.target)) (n : (u : ℕ) → IsNeeded (case_of p) u → IsTrue ((case_of p).is_loaded u)) (m : (case_of p).refuses_manual_start p.target ≡ false) where
-    pub clear_4 : IsClearBelow nat_cmp (case_of p) 4
-    clear_4 = record {
-      target_loaded = λ l. t;
-      needs_loaded = λ l. n;
-      may_start = λ l. m;
-      requisites_run = λ l. absurd (omega arith);
-      at_peace = λ l. absurd (omega arith);
-      none_waits = λ l. absurd (omega arith);
-    }
-
-    pub clear_5 : ((u v : ℕ) → IsNeeded (case_of p) u → IsAmong v ((case_of p).requisites u) → IsTrue ((case_of p).is_running v)) → IsClearBelow nat_cmp (case_of p) 5
-    clear_5 r = record {
-      target_loaded = λ l. t;
-      needs_loaded = λ l. n;
-      may_start = λ l. m;
-      requisites_run = λ l. r;
-      at_peace = λ l. absurd (omega arith);
-      none_waits = λ l. absurd (omega arith);
-    }
-
-    pub clear_6 : ((u v : ℕ) → IsNeeded (case_of p) u → IsAmong v ((case_of p).requisites u) → IsTrue ((case_of p).is_running v))
-        → ((u v : ℕ) → IsNeeded (case_of p) u → IsNeeded (case_of p) v → ¬ AreInConflict (case_of p) u v) → IsClearBelow nat_cmp (case_of p) 6
-    clear_6 r a = record {
-      target_loaded = λ l. t;
-      needs_loaded = λ l. n;
-      may_start = λ l. m;
-      requisites_run = λ l. r;
-      at_peace = λ l. a;
-      none_waits = λ l. absurd (omega arith);
-    }
+  pub clear_6 : IsClearBelow nat_cmp (case_of p) 5
+      → ((u v : ℕ) → IsNeeded (case_of p) u → IsNeeded (case_of p) v → ¬ AreInConflict (case_of p) u v)
+      → IsClearBelow nat_cmp (case_of p) 6
+  clear_6 k peace = record {
+    target_loaded = λ l. k.target_loaded (omega arith);
+    needs_loaded = λ l. k.needs_loaded (omega arith);
+    may_start = λ l. k.may_start (omega arith);
+    requisites_run = λ l. k.requisites_run (omega arith);
+    at_peace = λ l. peace;
+    none_waits = λ l. absurd (omega arith);
+  }

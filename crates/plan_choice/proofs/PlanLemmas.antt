@@ -1,5 +1,5 @@
 -- What starts and what stops, by marks and rows.
-use Rattle.std.proofs.Common.{ℕ, ◌↔◌, Bool, List, arith}
+use Rattle.std.proofs.Common.{◌≡◌, ℕ, ◌↔◌, Bool, List, subst, arith}
 use Rattle.std.specs.Ordering.{nat_cmp}
 use Rattle.std.specs.declared.vec.Vec.{Vec}
 use Rattle.std.specs.declared.alloc.Global.{Global}
@@ -43,11 +43,16 @@ module _ (s t : ℕ → Type 0) (before : ℕ → ℕ → Type 0) (same : (u : �
   cycle_same list = cycle_along nat_cmp (IsStuck s before) (IsStuck t before) before stuck_same stuck_back list
 
 module _ (p : PlanRows) (chosen : List Bool) (c : AreMarksOf (count_of p) (IsChosen nat_cmp (case_of p)) chosen) where
-  pub starting_is : (starting : List Bool) → ((v : ℕ) → Marked starting v ↔ (Marked chosen v × ¬ Marked p.running.items v)) → (u : ℕ) → Marked starting u ↔ Starts nat_cmp (case_of p) u
-  starting_is starting left u = (
+  pub starting_is : (rows : PlanRows) → rows ≡ p → (starting : List Bool)
+      → ((v : ℕ) → Marked starting v ↔ (Marked chosen v × ¬ Marked rows.running.items v))
+      → (u : ℕ) → Marked starting u ↔ Starts nat_cmp (case_of p) u
+  starting_is rows is starting there u = (
     λ m. (let k = (left u).0 m in record { chosen = (c.marked u).0 k.0; rests = k.1 }),
     λ h. (left u).1 ((c.marked u).1 h.chosen, h.rests),
   )
+    where
+      left : (v : ℕ) → Marked starting v ↔ (Marked chosen v × ¬ Marked p.running.items v)
+      left = subst (λ (r : PlanRows). (v : ℕ) → Marked starting v ↔ (Marked chosen v × ¬ Marked r.running.items v)) is there
 
   module _ (outside : List Bool) (left : (v : ℕ) → Marked outside v ↔ (Marked p.running.items v × ¬ Marked chosen v)) where
     pub outside_is : (u : ℕ) → Marked outside u ↔ IsOutside nat_cmp (case_of p) u

@@ -285,27 +285,26 @@ module _ {N : Type 0} (count : ℕ) (name : ℕ → N) (order : N → N → Orde
         let o = needed_named.numbered v k.1 in
         (o.0, ((number_of count name order total n (IsNeeded c) (IsNeeded d) needed_named i l k.0, o.1.0, conflict_number i o.0 l (needed_named.within o.0 o.1.0) (subst (λ x. AreInConflict d (name i) x) (sym o.1.1) k.2)), o.1.1))
 
+    -- the first pair of a relation between what is needed and other units, by name
+    needed_pair_named : (R : ℕ → ℕ → Type 0) (S : N → N → Type 0) → ((i j : ℕ) → R i j → IsNeeded c i) → ((x y : N) → S x y → IsNeeded d x)
+        → AreNamedSteps count name R S → (a b : ℕ) → IsFirstPair nat_cmp R a b → IsFirstPair order S (name a) (name b)
+    needed_pair_named R S numbers names s = pair_named R S
+        (record {
+          within = λ i k. needed_named.within i (numbers i k.0 k.1);
+          named = λ i k. (name k.0, (s i (needed_named.within i (numbers i k.0 k.1))).named k.0 k.1);
+          numbered = λ x k. (let r = needed_named.numbered x (names x k.0 k.1) in
+              let j = (s r.0 (needed_named.within r.0 r.1.0)).numbered k.0 (subst (λ y. S y k.0) (sym r.1.1) k.1) in
+              (r.0, ((j.0, j.1.0), r.1.1)));
+        })
+        s
+
     stands_named : (r : Refusal ℕ) → Stands nat_cmp c r → Stands order d (named_refusal name r)
     stands_named (target_fault u) s = (ap name s.0 ∙ h.target, subst (λ t. d.is_loaded t ≡ false) h.target (false_named c.is_loaded d.is_loaded h.loaded c.target h.below s.1))
     stands_named (need_fault u) s = (least_named count name order total n (IsUnloadedNeed nat_cmp c) (IsUnloadedNeed order d) unloaded_named).named u s
     stands_named manual_start s = h.refuses ∙ s
-    stands_named (requisite u v) s = pair_named (LacksRequisite nat_cmp c) (LacksRequisite order d)
-        (record {
-          within = λ i k. needed_named.within i k.1.0;
-          named = λ i k. (name k.0, lacks_to i k.0 k.1);
-          numbered = λ x k. (let r = needed_named.numbered x k.1.0 in
-              let j = lacks_from r.0 (needed_named.within r.0 r.1.0) k.0 (subst (λ y. LacksRequisite order d y k.0) (sym r.1.1) k.1) in
-              (r.0, ((j.0, j.1.0), r.1.1)));
-        })
+    stands_named (requisite u v) s = needed_pair_named (LacksRequisite nat_cmp c) (LacksRequisite order d) (λ i j k. k.0) (λ x y k. k.0)
         (λ i l. record { within = λ j k. (h.requisites i l).within j k.1; named = lacks_to i; numbered = lacks_from i l }) u v s
-    stands_named (conflict u v) s = pair_named (AreNeededRivals nat_cmp c) (AreNeededRivals order d)
-        (record {
-          within = λ i k. needed_named.within i k.1.0;
-          named = λ i k. (name k.0, rivals_to i k.0 k.1);
-          numbered = λ x k. (let r = needed_named.numbered x k.1.0 in
-              let j = rivals_from r.0 (needed_named.within r.0 r.1.0) k.0 (subst (λ y. AreNeededRivals order d y k.0) (sym r.1.1) k.1) in
-              (r.0, ((j.0, j.1.0), r.1.1)));
-        })
+    stands_named (conflict u v) s = needed_pair_named (AreNeededRivals nat_cmp c) (AreNeededRivals order d) (λ i j k. k.0) (λ x y k. k.0)
         (λ i l. record { within = λ j k. needed_named.within j k.1; named = rivals_to i; numbered = rivals_from i l }) u v s
     stands_named (cycle list) s = cycle_named count name order total n (WaitsForever nat_cmp c) (Precedes c) (WaitsForever order d) (Precedes d) waits_named h.predecessors list s
 

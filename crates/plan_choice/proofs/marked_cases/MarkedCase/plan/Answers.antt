@@ -1,4 +1,4 @@
-use Rattle.std.proofs.Common.{ℕ, ◌↔◌, subst}
+use Rattle.std.proofs.Common.{ℕ, subst}
 use Rattle.std.specs.Ordering.{nat_cmp}
 use Rattle.index_rows.specs.Rows.{Marked}
 use Rattle.start_order.specs.Precedes.{Precedes}
@@ -15,8 +15,7 @@ returns-in-Err c =
     let case = c.args.self.now in
     let starting = c.in_ok-starting.starting.items in
     let there = rw (c.deref.ensures.value, c.deref-2.ensures.value) at c.in_ok-starting.ensures.left in
-    let left = subst (λ (rows : PlanRows). (v : ℕ) → Marked starting v ↔ (Marked c.in_ok-chosen.chosen.items v × ¬ Marked rows.running.items v)) c.self.view_is there in
-    let same = starting_is case c.in_ok-chosen.chosen.items c.in_ok-chosen.ensures starting left in
+    let same = starting_is case c.in_ok-chosen.chosen.items c.in_ok-chosen.ensures _ c.self.view_is starting there in
     let told = rw c.in-Err.is at c.in_ok-cycle.ensures.cycle in
     let cycle = subst (λ (rows : PlanRows). IsCycle nat_cmp (IsStuck (Marked c.deref-3.result.now) (Precedes rows.predecessors.now)) (Precedes rows.predecessors.now) c.in-Err.cycle.items) c.self.view_is told in
     let here = subst (λ m. IsCycle nat_cmp (IsStuck (Marked m) (Precedes case.predecessors.now)) (Precedes case.predecessors.now) c.in-Err.cycle.items) c.deref-3.ensures.value cycle in
@@ -34,8 +33,7 @@ returns c =
     let case = c.args.self.now in
     let starting = c.in_ok-starting.starting.items in
     let there = rw (c.deref.ensures.value, c.deref-2.ensures.value) at c.in_ok-starting.ensures.left in
-    let left = subst (λ (rows : PlanRows). (v : ℕ) → Marked starting v ↔ (Marked c.in_ok-chosen.chosen.items v × ¬ Marked rows.running.items v)) c.self.view_is there in
-    let same = starting_is case c.in_ok-chosen.chosen.items c.in_ok-chosen.ensures starting left in
+    let same = starting_is case c.in_ok-chosen.chosen.items c.in_ok-chosen.ensures _ c.self.view_is starting there in
     let told = rw c.in-Ok.is at c.in_ok-cycle.ensures.list in
     let list = subst (λ (rows : PlanRows). IsStartList nat_cmp (Marked c.deref-3.result.now) (Precedes rows.predecessors.now) c.in-Ok.starts.items) c.self.view_is told in
     let list_here = subst (λ m. IsStartList nat_cmp (Marked m) (Precedes case.predecessors.now) c.in-Ok.starts.items) c.deref-3.ensures.value list in
