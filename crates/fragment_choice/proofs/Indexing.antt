@@ -2,11 +2,11 @@
 use Rattle.std.proofs.Common.{◌≡◌, ℕ, suc, ◌<◌, Bool, true, false, cond, ◌==◌, Option, Some, None, List, [], ◌∷◌, ◌++◌, filter, refl, ap, sym, ◌∙◌, subst, arith, ◌⊎◌, inl, inr, eq-eqb, unwrap_or}
 use Rattle.std.specs.Option.{option_and_then}
 use Rattle.std.specs.Ordering.{is_eq}
-use Rattle.std.specs.BTreeMap.{BTreeMap, get, UpdatesBy, is_at}
+use Rattle.std.specs.BTreeMap.{BTreeMap, get, Updates, UpdatesBy, is_at}
 use Rattle.std.specs.BTreeSet.{insert_key}
 use Rattle.std.specs.FinMap as finmap
 use Rattle.std.specs.Map.{lookup}
-use Rattle.std.proofs.lemmas.Option.{same_Some}
+use Rattle.std.proofs.lemmas.Option.{same_Some, none-some}
 use Rattle.std.specs.FinMap.Entries.{find}
 use Rattle.std.specs.Global.{Vec}
 use Rattle.std.specs.declared.cmp.Ordering.{Ordering}
@@ -21,12 +21,13 @@ use Rattle.edit_sums.specs.Entries.{Entry}
 use Rattle.edit_sums.specs.Sums.{EntryMap, shown}
 use Rattle.unit_name.specs.Names.{Name, name_cmp, IsName}
 use Rattle.unit_name.specs.NameLaws.{name_cmp-IsAntisymmetric, name_eq-Decides}
+use Rattle.fragment_choice.specs.declared.choices.Choice.{Choice}
 use Rattle.fragment_choice.specs.declared.choices.Choice.TheVariants.{Alias}
 use Rattle.fragment_choice.specs.Choices.{own_path, own_choice}
 use Rattle.fragment_choice.specs.LinkedNames.{is_link, unit_of}
 use Rattle.fragment_choice.specs.LinkLaws.{ByLink, alias_same, own_link}
 use Rattle.load_path.specs.Levels.{IsLevel}
-use Rattle.fragment_choice.specs.Indexes.{IsIndexOf, IsAny, IsOwnAt, IsOwnEntry, IsOwnLink, Collects, Puts, PutsOwn, owners_at, names_in}
+use Rattle.fragment_choice.specs.Indexes.{AreOwnChoices, IsIndexOf, IsAny, IsOwnAt, IsOwnEntry, IsOwnLink, Collects, Puts, PutsSaid, owners_at, names_in}
 use Rattle.fragment_choice.proofs.Gathering.{read, unread}
 
 -- nothing passes
@@ -174,41 +175,73 @@ pub names_or : (taken : Option (Vec Name)) (none : Vec Name) → none.items ≡ 
 names_or None none e = e
 names_or (Some names) none e = refl
 
--- a name put under what its own links make it an alias of
-pub puts_own : (s : EntryMap) (o t : Name) (old new : BTreeMap Name (Vec Name)) → own_choice s o o ≡ Some (Alias t) → Puts o t old new → PutsOwn s o old new
-puts_own s o t old new e p = record {
+-- a name put under what was said
+pub puts_said : (said : Option Choice) (o t : Name) (old new : BTreeMap Name (Vec Name)) → said ≡ Some (Alias t) → Puts o t old new → PutsSaid said o old new
+puts_said said o t old new e p = record {
   kept = p.kept;
   there = λ k q. subst (λ x. IsAmong o (owners_at new x)) (alias_same t k (same_Some _ _ (sym e ∙ q))) p.there;
   sound = λ n k h. by n k (p.sound n k h);
 }
   where
-    by : (n k : Name) → IsAmong n (owners_at old k) ⊎ ((o ≡ n) × (t ≡ k)) → IsAmong n (owners_at old k) ⊎ (own_choice s n n ≡ Some (Alias k))
+    by : (n k : Name) → IsAmong n (owners_at old k) ⊎ ((o ≡ n) × (t ≡ k)) → IsAmong n (owners_at old k) ⊎ ((o ≡ n) × (said ≡ Some (Alias k)))
     by n k (inl a) = inl a
-    by n k (inr (a, q)) = inr (sym (ap (λ x. own_choice s x x) a) ∙ e ∙ ap (λ x. Some (Alias x)) q)
+    by n k (inr (a, q)) = inr (a, e ∙ ap (λ x. Some (Alias x)) q)
 
--- the index has what the own links of these names make them aliases of, and nothing else
-pub record AreIndexed (s : EntryMap) (names : List Name) (owners : BTreeMap Name (Vec Name)) : Type 0 where
+-- the maps have what the own links of these names make them aliases of, and nothing else
+pub record AreIndexed (s : EntryMap) (names : List Name) (choices : BTreeMap Name (Option Choice)) (owners : BTreeMap Name (Vec Name)) : Type 0 where
+  pub known : AreOwnChoices s choices
   pub there : (o t : Name) → IsAmong o names → own_choice s o o ≡ Some (Alias t) → IsAmong o (owners_at owners t)
   pub sound : (o t : Name) → IsAmong o (owners_at owners t) → own_choice s o o ≡ Some (Alias t)
+  pub lawful : (o t : Name) → IsAmong o (owners_at owners t) → IsName o
 
-pub none_indexed : (s : EntryMap) (owners : BTreeMap Name (Vec Name)) → owners.entries ≡ [] → AreIndexed s [] owners
-none_indexed s owners e = record { there = λ o t h q. absurd h; sound = λ o t h. absurd (subst (IsAmong o) (ap (λ es. names_in (lookup (is_at (name_cmp t)) es)) e) h) }
+pub none_indexed : (s : EntryMap) (choices : BTreeMap Name (Option Choice)) (owners : BTreeMap Name (Vec Name)) → choices.entries ≡ [] → owners.entries ≡ [] → AreIndexed s [] choices owners
+none_indexed s choices owners f e = record {
+  known = record { each = λ o said h. absurd (none-some _ (sym (ap (λ es. lookup (is_at (name_cmp o)) es) f) ∙ h)) };
+  there = λ o t h q. absurd h;
+  sound = λ o t h. absurd (nothing o t h);
+  lawful = λ o t h. absurd (nothing o t h);
+}
+  where
+    nothing : (o t : Name) → IsAmong o (owners_at owners t) → ⊥
+    nothing o t h = subst (IsAmong o) (ap (λ es. names_in (lookup (is_at (name_cmp t)) es)) e) h
 
-pub more_indexed : (s : EntryMap) (names : List Name) (k : Name) (old new : BTreeMap Name (Vec Name)) → AreIndexed s names old → PutsOwn s k old new → AreIndexed s (names ++ k ∷ []) new
-more_indexed s names k old new g p = record { there = λ o t h e. by o t e (IsAmong-append_cases o names (k ∷ []) h); sound = λ o t h. back o t (p.sound o t h) }
+-- one choice more is known
+more_known : (s : EntryMap) (k : Name) (said : Option Choice) (old new : BTreeMap Name (Option Choice)) → said ≡ own_choice s k k → AreOwnChoices s old → Updates name_cmp old new k (Some said) → AreOwnChoices s new
+more_known s k said old new e g u = record { each = λ o x h. by o x (is_at (name_cmp k) o) refl (sym (u.0 o) ∙ h) }
+  where
+    by : (o : Name) (x : Option Choice) (b : Bool) → is_at (name_cmp k) o ≡ b → cond (is_at (name_cmp k) o) (Some said) (get name_cmp old o) ≡ Some x → x ≡ own_choice s o o
+    by o x true q h =
+        sym (same_Some _ _ (sym (ap (λ b. cond b (Some said) (get name_cmp old o)) q) ∙ h)) ∙ e ∙ ap (λ y. own_choice s y y) ((name_eq-Decides k o).0 q)
+    by o x false q h = g.each o x (sym (ap (λ b. cond b (Some said) (get name_cmp old o)) q) ∙ h)
+
+pub more_indexed : (s : EntryMap) (names : List Name) (k : Name) (said : Option Choice) (choices kept : BTreeMap Name (Option Choice)) (old new : BTreeMap Name (Vec Name))
+    → said ≡ own_choice s k k → IsName k → AreIndexed s names choices old → PutsSaid said k old new → Updates name_cmp choices kept k (Some said) → AreIndexed s (names ++ k ∷ []) kept new
+more_indexed s names k said choices kept old new e lawful g p u = record {
+  known = more_known s k said choices kept e g.known u;
+  there = λ o t h q. by o t q (IsAmong-append_cases o names (k ∷ []) h);
+  sound = λ o t h. back o t (p.sound o t h);
+  lawful = λ o t h. named o t (p.sound o t h);
+}
   where
     by : (o t : Name) → own_choice s o o ≡ Some (Alias t) → IsAmong o names ⊎ IsAmong o (k ∷ []) → IsAmong o (owners_at new t)
-    by o t e (inl a) = p.kept o t (g.there o t a e)
-    by o t e (inr (inl a)) = subst (λ x. IsAmong x (owners_at new t)) a (p.there t (subst (λ x. own_choice s x x ≡ Some (Alias t)) (sym a) e))
-    by o t e (inr (inr a)) = absurd a
+    by o t q (inl a) = p.kept o t (g.there o t a q)
+    by o t q (inr (inl a)) = subst (λ x. IsAmong x (owners_at new t)) a (p.there t (e ∙ subst (λ x. own_choice s x x ≡ Some (Alias t)) (sym a) q))
+    by o t q (inr (inr a)) = absurd a
 
-    back : (o t : Name) → IsAmong o (owners_at old t) ⊎ (own_choice s o o ≡ Some (Alias t)) → own_choice s o o ≡ Some (Alias t)
+    back : (o t : Name) → IsAmong o (owners_at old t) ⊎ ((k ≡ o) × (said ≡ Some (Alias t))) → own_choice s o o ≡ Some (Alias t)
     back o t (inl a) = g.sound o t a
-    back o t (inr e) = e
+    back o t (inr (a, q)) = sym (ap (λ x. own_choice s x x) a) ∙ sym e ∙ q
+
+    named : (o t : Name) → IsAmong o (owners_at old t) ⊎ ((k ≡ o) × (said ≡ Some (Alias t))) → IsName o
+    named o t (inl a) = g.lawful o t a
+    named o t (inr (a, q)) = subst IsName a lawful
 
 -- a name that its own links make an alias has a visible link
-pub all_indexed : (s : EntryMap) (names : List Name) (owners : BTreeMap Name (Vec Name)) → Collects (IsOwnLink s) [] names → AreIndexed s names owners → IsIndexOf s owners
-all_indexed s names owners g f = record { each = λ t. record { there = λ o lawful e. by o t lawful e (own_link s o o t e); sound = λ o h. f.sound o t h } }
+pub all_indexed : (s : EntryMap) (names : List Name) (choices : BTreeMap Name (Option Choice)) (owners : BTreeMap Name (Vec Name)) → Collects (IsOwnLink s) [] names → AreIndexed s names choices owners → IsIndexOf s choices owners
+all_indexed s names choices owners g f = record {
+  known = f.known;
+  each = λ t. record { there = λ o lawful e. by o t lawful e (own_link s o o t e); sound = λ o h. f.sound o t h; lawful = λ o h. f.lawful o t h };
+}
   where
     by : (o t : Name) → IsName o → own_choice s o o ≡ Some (Alias t) → ByLink s o o t → IsAmong o (owners_at owners t)
     by o t lawful e l = f.there o t (g.found o (l.rank, l.within, record { name = lawful; link = ap is_link l.there })) e

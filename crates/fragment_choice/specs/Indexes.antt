@@ -1,6 +1,7 @@
 -- The links of a store by the names that they lead to: words for private clauses.
 -- Source: this project's own.
-use Rattle.std.specs.Prelude.{◌≡◌, ℕ, Option, Some, None, List, [], ◌∷◌, ◌⊎◌, IsTrue}
+use Rattle.std.specs.Prelude.{◌≡◌, ℕ, Option, Some, None, List, [], ◌∷◌, ◌⊎◌, IsTrue, unwrap_or}
+use Rattle.std.specs.Option.{option_and_then}
 use Rattle.std.specs.BTreeMap.{BTreeMap, get}
 use Rattle.std.specs.Global.{Vec}
 use Rattle.list_laws.specs.Members.{IsAmong}
@@ -9,8 +10,9 @@ use Rattle.edit_sums.specs.Sums.{EntryMap, shown, visible_at}
 use Rattle.load_path.specs.Paths.{PathParts}
 use Rattle.load_path.specs.Levels.{IsLevel}
 use Rattle.unit_name.specs.Names.{Name, name_cmp, IsName}
-use Rattle.unit_name.specs.Forms.{with_instance}
-use Rattle.fragment_choice.specs.declared.choices.Choice.TheVariants.{Alias}
+use Rattle.unit_name.specs.Forms.{template_of, with_instance}
+use Rattle.fragment_choice.specs.declared.choices.Choice.{Choice}
+use Rattle.fragment_choice.specs.declared.choices.Choice.TheVariants.{Alias, NotFound}
 use Rattle.fragment_choice.specs.Choices.{own_path, own_choice}
 use Rattle.fragment_choice.specs.Resolutions.{Leads}
 use Rattle.fragment_choice.specs.LinkedNames.{is_link}
@@ -28,10 +30,20 @@ owners_at m t = names_in (get name_cmp m t)
 pub record AreOwners (s : EntryMap) (t : Name) (owners : List Name) : Type 0 where
   pub there : (o : Name) → IsName o → own_choice s o o ≡ Some (Alias t) → IsAmong o owners
   pub sound : (o : Name) → IsAmong o owners → own_choice s o o ≡ Some (Alias t)
+  pub lawful : (o : Name) → IsAmong o owners → IsName o
 
--- the map has for each name just those
-pub record IsIndexOf (s : EntryMap) (owners : BTreeMap Name (Vec Name)) : Type 0 where
+-- the map has for a name, if it has any, what the name's own paths say
+pub record AreOwnChoices (s : EntryMap) (choices : BTreeMap Name (Option Choice)) : Type 0 where
+  pub each : (o : Name) (said : Option Choice) → get name_cmp choices o ≡ Some said → said ≡ own_choice s o o
+
+-- the first map has for names what their own paths say, and the second for each name just those that their own links make aliases of it
+pub record IsIndexOf (s : EntryMap) (choices : BTreeMap Name (Option Choice)) (owners : BTreeMap Name (Vec Name)) : Type 0 where
+  pub known : AreOwnChoices s choices
   pub each : (t : Name) → AreOwners s t (owners_at owners t)
+
+-- what the paths of the template of n say of n
+abbrev pub template_choice : EntryMap → Name → Choice
+template_choice s n = unwrap_or (option_and_then (own_choice s n) (template_of n)) NotFound
 
 -- one of these has the name
 abbrev pub IsAny : {A : Type 0} → (A → Name → Type 0) → List A → Name → Type 0
@@ -78,8 +90,8 @@ pub record Puts (o t : Name) (old new : BTreeMap Name (Vec Name)) : Type 0 where
   pub there : IsAmong o (owners_at new t)
   pub sound : (n k : Name) → IsAmong n (owners_at new k) → IsAmong n (owners_at old k) ⊎ ((o ≡ n) × (t ≡ k))
 
--- all names stay, and o is there under what its own links make it an alias of; no others were added
-pub record PutsOwn (s : EntryMap) (o : Name) (old new : BTreeMap Name (Vec Name)) : Type 0 where
+-- all names stay, and o is there under what this makes it an alias of; no others were added
+pub record PutsSaid (said : Option Choice) (o : Name) (old new : BTreeMap Name (Vec Name)) : Type 0 where
   pub kept : (n k : Name) → IsAmong n (owners_at old k) → IsAmong n (owners_at new k)
-  pub there : (t : Name) → own_choice s o o ≡ Some (Alias t) → IsAmong o (owners_at new t)
-  pub sound : (n k : Name) → IsAmong n (owners_at new k) → IsAmong n (owners_at old k) ⊎ (own_choice s n n ≡ Some (Alias k))
+  pub there : (t : Name) → said ≡ Some (Alias t) → IsAmong o (owners_at new t)
+  pub sound : (n k : Name) → IsAmong n (owners_at new k) → IsAmong n (owners_at old k) ⊎ ((o ≡ n) × (said ≡ Some (Alias k)))

@@ -1,10 +1,13 @@
 //! An index of a store's aliases by what they are aliases of.
-ghost use Rattle.std.specs.Prelude.{◌≡◌, [], IfOk, OnOk};
+ghost use Rattle.std.specs.Prelude.{◌≡◌, [], Some, IfOk, OnOk};
+ghost use Rattle.std.specs.BTreeMap.{Updates};
 ghost use Rattle.edit_sums.specs.Sums.{shown};
-ghost use Rattle.fragment_choice.specs.Indexes.{AreOwners, Collects, IsIndexOf, IsOwnAt, IsOwnEntry, IsOwnLink, Puts, PutsOwn};
+ghost use Rattle.unit_name.specs.Names.{name_cmp};
+ghost use Rattle.fragment_choice.specs.Choices.{own_choice};
+ghost use Rattle.fragment_choice.specs.Indexes.{AreOwners, Collects, IsIndexOf, IsOwnAt, IsOwnEntry, IsOwnLink, Puts, PutsSaid};
 ghost use Rattle.fragment_choice.specs.LinkedNames.{is_link, unit_of};
 
-use crate::choices::{Choice, own_choice};
+use crate::choices::{Choice, Chooses, own_choice, template_choice};
 use crate::names::put;
 use load_path::LEVELS;
 use replica_store::{Content, Placed, Store};
@@ -16,11 +19,16 @@ use unit_name::{NameFault, UnitName};
 // For each name the names whose own links make them aliases of it.
 type Owners = BTreeMap<UnitName, Vec<UnitName>>;
 
-/// The aliases of a store by what they are aliases of. Made once, it finds the names of each unit
-/// of the store, which it borrows: in contracts it is the store.
+// What their own paths say, for names.
+type OwnChoices = BTreeMap<UnitName, Option<Choice>>;
+
+/// The aliases of a store by what they are aliases of, and what each name chooses that has a link
+/// of its own. Made once, it resolves the names of the store, which it borrows, and finds those of
+/// each unit: in contracts it is the store.
 #[derive(Drop)]
 pub struct AliasIndex<'a> {
     store: &'a Store,
+    choices: OwnChoices,
     owners: Owners,
 }
 
@@ -37,17 +45,22 @@ impl<'a> Model for AliasIndex<'a> {
 
     ghost view = { λ index. index.store.now };
 
-    ghost invariant = { λ index. IsIndexOf index.store.now index.owners };
+    ghost invariant = { λ index. IsIndexOf index.store.now index.choices index.owners };
 }
 
 impl<'a> AliasIndex<'a> {
     /// The index of a store. One pass over its paths of one component; then for each unit name that
-    /// has a link there one choice, and a place is found for it. It fails for want of memory alone.
+    /// has a link there one choice, which is kept, and places for it are found. It fails for want of
+    /// memory alone.
     pub fn of(alloc: Global, store: &'a Store) -> Result<AliasIndex<'a>, AllocError>
         ensures store { IfOk result (λ index. index ≡ store.now) }
     {
-        let owners = owners_in(alloc, store)?;
-        Ok(AliasIndex { store, owners })
+        let (choices, owners) = indexed(alloc, store)?;
+        Ok(AliasIndex {
+            store,
+            choices,
+            owners,
+        })
     }
 
     /// The store that it is of.
@@ -66,30 +79,72 @@ impl<'a> AliasIndex<'a> {
             None => &[],
         }
     }
+
+    // What a name's own paths say of it: known where it has a link of its own, and asked for elsewhere.
+    fn own_choice_of(&self, alloc: Global, name: &UnitName) -> Result<Option<Choice>, AllocError>
+        ensures choice { IfOk result (λ said. said ≡ own_choice self.now name.now name.now) }
+    {
+        match self.choices.get(name) {
+            Some(Some(said)) => Ok(Some(said.try_clone()?)),
+            Some(None) => Ok(None),
+            None => own_choice(alloc, self.store, name, name),
+        }
+    }
 }
 
-// All aliases that their own links make, by what they are aliases of.
-fn owners_in(alloc: Global, store: &Store) -> Result<Owners, AllocError>
-    ensures index { IfOk result (IsIndexOf store.now) }
+impl<'a> Chooses for AliasIndex<'a> {
+    ghost in_store = { λ index. index };
+
+    fn choose(&self, alloc: Global, name: &UnitName) -> Result<Choice, AllocError> {
+        match self.own_choice_of(alloc, name)? {
+            Some(said) => Ok(said),
+            None => template_choice(alloc, self.store(), name),
+        }
+    }
+}
+
+// What each name chooses that has a link of its own, and those that are aliases so by what they are
+// aliases of.
+fn indexed(alloc: Global, store: &Store) -> Result<(OwnChoices, Owners), AllocError>
+    ensures index { IfOk result (λ it. IsIndexOf store.now it.0 it.1) }
 {
+    let mut choices = BTreeMap::new(alloc);
     let mut owners = BTreeMap::new(alloc);
     for own in linked_names(alloc, store)? {
-        put_own(alloc, &mut owners, store, own)?;
+        let said = own_choice(alloc, store, &own, &own)?;
+        put_owner(alloc, &mut owners, &own, &said)?;
+        put_choice(&mut choices, own, said)?;
     }
-    Ok(owners)
+    Ok((choices, owners))
 }
 
-// Puts a name under what its own links make it an alias of.
-fn put_own(
+// Puts what its own paths say under a name.
+fn put_choice(
+    choices: &mut OwnChoices,
+    own: UnitName,
+    said: Option<Choice>,
+) -> Result<(), AllocError>
+    ensures put { OnOk result (Updates name_cmp choices.old choices.new own (Some said)) }
+{
+    match choices.insert(own, said) {
+        Ok(_) => Ok(()),
+        Err(_) => Err(AllocError),
+    }
+}
+
+// Puts a name under what this makes it an alias of.
+fn put_owner(
     alloc: Global,
     owners: &mut Owners,
-    store: &Store,
-    own: UnitName,
+    own: &UnitName,
+    said: &Option<Choice>,
 ) -> Result<(), AllocError>
-    ensures put { OnOk result (PutsOwn store.now own owners.old owners.new) }
+    ensures put { OnOk result (PutsSaid said.now own.now owners.old owners.new) }
 {
-    match own_choice(alloc, store, &own, &own)? {
-        Some(Choice::Alias(target)) => put_under(alloc, owners, target, own),
+    match said.as_ref() {
+        Some(Choice::Alias(target)) => {
+            put_under(alloc, owners, target.try_clone()?, own.try_clone()?)
+        }
         _ => Ok(()),
     }
 }

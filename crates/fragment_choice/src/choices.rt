@@ -1,6 +1,9 @@
 //! The choice of a unit's main file.
 ghost use Rattle.std.specs.Prelude.{◌≡◌, IfOk};
+ghost use Rattle.edit_sums.specs.Sums.{EntryMap};
+ghost use Rattle.unit_name.specs.Names.{IsName};
 ghost use Rattle.fragment_choice.specs.Choices.{choice, own_choice, says, content_says, link_says};
+ghost use Rattle.fragment_choice.specs.Indexes.{template_choice};
 
 use crate::links::{last_component, target_says};
 use load_path::LEVELS;
@@ -41,6 +44,39 @@ pub enum Choice {
     Bad(Cause),
 }
 
+impl Choice {
+    /// An equal choice. It fails for want of memory alone.
+    pub fn try_clone(&self) -> Result<Choice, AllocError>
+        ensures copy { IfOk result (λ copy. copy ≡ self.now) }
+    {
+        match self {
+            Choice::NotFound => Ok(Choice::NotFound),
+            Choice::Masked => Ok(Choice::Masked),
+            Choice::Fragment(path) => Ok(Choice::Fragment(path.try_clone()?)),
+            Choice::Alias(name) => Ok(Choice::Alias(name.try_clone()?)),
+            Choice::Bad(cause) => Ok(Choice::Bad(*cause)),
+        }
+    }
+}
+
+// What chooses for the names of a store.
+pub(crate) trait Chooses {
+    // The store.
+    ghost in_store: { Self → EntryMap };
+
+    // What stands for a name.
+    fn choose(&self, alloc: Global, name: &UnitName) -> Result<Choice, AllocError>
+        ensures choice { IfOk result (λ chosen. chosen ≡ choice (in_store self.now) name.now) };
+}
+
+impl Chooses for Store {
+    ghost in_store = { λ store. store };
+
+    fn choose(&self, alloc: Global, name: &UnitName) -> Result<Choice, AllocError> {
+        choose(alloc, self, name)
+    }
+}
+
 /// What stands for a name: what is visible of it at the least rank that isn't passed over, and
 /// for an instance that has nothing of its own what is visible of its template
 /// (systemd.unit(5), "Unit File Load Path").
@@ -50,9 +86,21 @@ pub enum Choice {
 pub fn choose(alloc: Global, store: &Store, name: &UnitName) -> Result<Choice, AllocError>
     ensures choice { IfOk result (λ chosen. chosen ≡ choice store.now name.now) }
 {
-    if let Some(said) = own_choice(alloc, store, name, name)? {
-        return Ok(said);
+    match own_choice(alloc, store, name, name)? {
+        Some(said) => Ok(said),
+        None => template_choice(alloc, store, name),
     }
+}
+
+/// What the visible paths of a name's template say of the name: nothing stands for it where there
+/// is no template.
+pub(crate) fn template_choice(
+    alloc: Global,
+    store: &Store,
+    name: &UnitName,
+) -> Result<Choice, AllocError>
+    ensures choice { IfOk result (λ chosen. chosen ≡ template_choice store.now name.now) }
+{
     let Some(template) = name.template_of()? else {
         return Ok(Choice::NotFound);
     };
@@ -67,6 +115,7 @@ pub(crate) fn own_choice(
     own: &UnitName,
 ) -> Result<Option<Choice>, AllocError>
     ensures choice { IfOk result (λ said. said ≡ own_choice store.now name.now own.now) }
+    ensures lawful { IsName own.now }
 {
     for level in 0..LEVELS {
         if let Some(said) = says(alloc, store, name, own, level)? {
@@ -85,6 +134,7 @@ fn says(
     level: u8,
 ) -> Result<Option<Choice>, AllocError>
     ensures said { IfOk result (λ said. said ≡ says store.now name.now own.now level) }
+    ensures lawful { IsName own.now }
 {
     match store.placed_at(level, b"", own.bytes()) {
         None => Ok(None),

@@ -2,7 +2,8 @@
 ghost use Rattle.std.specs.Prelude.{◌≡◌, IfOk};
 ghost use Rattle.fragment_choice.specs.Resolutions.{IsEnd, Resolves, resolution};
 
-use crate::choices::{Cause, Choice, choose};
+use crate::aliases::AliasIndex;
+use crate::choices::{Cause, Choice, Chooses};
 use replica_store::Store;
 use std::alloc::{AllocError, Global};
 use unit_name::UnitName;
@@ -24,9 +25,36 @@ pub fn resolve(alloc: Global, store: &Store, name: &UnitName) -> Result<Resoluti
     ensures chain { IfOk result (Resolves store.now name.now) }
     ensures no_alias { IfOk result (λ it. IsEnd it.choice) }
 {
+    follow_aliases(alloc, store, name)
+}
+
+impl<'a> AliasIndex<'a> {
+    /// The end of a name's aliases in the index's store, as the function of this name gives it.
+    ///
+    /// It makes as many choices, but what the own links of a name say is known and asks the store
+    /// for nothing. It fails for want of memory alone.
+    pub fn resolve(&self, alloc: Global, name: &UnitName) -> Result<Resolution, AllocError>
+        ensures resolution { IfOk result (λ it. it ≡ resolution self.now name.now) }
+        ensures chain { IfOk result (Resolves self.now name.now) }
+        ensures no_alias { IfOk result (λ it. IsEnd it.choice) }
+    {
+        follow_aliases(alloc, self, name)
+    }
+}
+
+// The end of a name's aliases, by what chooses for names.
+fn follow_aliases<C: Chooses>(
+    alloc: Global,
+    chooser: &C,
+    name: &UnitName,
+) -> Result<Resolution, AllocError>
+    ensures resolution { IfOk result (λ it. it ≡ resolution (C.in_store chooser.now) name.now) }
+    ensures chain { IfOk result (Resolves (C.in_store chooser.now) name.now) }
+    ensures no_alias { IfOk result (λ it. IsEnd it.choice) }
+{
     let mut main = name.try_clone()?;
     for step in 0..9u8 {
-        match choose(alloc, store, &main)? {
+        match chooser.choose(alloc, &main)? {
             Choice::Alias(alias) => main = alias,
             choice => return Ok(Resolution { main, choice }),
         }

@@ -9,7 +9,7 @@ use Rattle.fragment_choice.proofs.choices.says.Goals as goal
 pub returns-in-None : goal.returns-in-None
 returns-in-None c =
     let store = c.args.store.now in
-    record { said = nothing_says store c.args.name.now c.args.own.now c.args.level (c.in-None.ensures.held ∙ ap (λ b. finmap.get store (path_at c.args.level [] b)) c.bytes.ensures.bytes) }
+    record { said = nothing_says store c.args.name.now c.args.own.now c.args.level (c.in-None.ensures.held ∙ ap (λ b. finmap.get store (path_at c.args.level [] b)) c.bytes.ensures.bytes); lawful = c.bytes.ensures.lawful }
 
 pub returns-in-Some : goal.returns-in-Some
 returns-in-Some c =
@@ -20,4 +20,4 @@ returns-in-Some c =
     let held : Some placed.1 ≡ finmap.get store (own_path own c.args.level) = c.in-Some.ensures.held ∙ ap (λ b. finmap.get store (path_at c.args.level [] b)) c.bytes.ensures.bytes in
     let path : placed.0 ≡ own_path own c.args.level = c.in-Some.ensures.path ∙ ap (path_at c.args.level []) c.bytes.ensures.bytes in
     let says = ap (λ p. content_says name own p placed.1.content) path ∙ entry_says store name own c.args.level placed.1 held in
-    record { said = subst (λ v. IfOk c.entry_says.result (λ said. said ≡ v)) says c.entry_says.ensures.said }
+    record { said = subst (λ v. IfOk c.entry_says.result (λ said. said ≡ v)) says c.entry_says.ensures.said; lawful = c.bytes.ensures.lawful }

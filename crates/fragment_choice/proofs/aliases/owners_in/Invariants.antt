@@ -1,5 +1,0 @@
-use Rattle.fragment_choice.proofs.Indexing.{AreIndexed}
-use Rattle.fragment_choice.proofs.aliases.owners_in.Given as goal
-
-abbrev pub invariant-loop-own : goal.invariant-loop-own
-invariant-loop-own l = AreIndexed l.store l.yielded l.owners
