@@ -1,6 +1,8 @@
 -- What is left of two stores that are read side by side, behind the first name, folder or rank.
-use Rattle.std.proofs.Common.{◌≡◌, ◌≢◌, ℕ, List, [], ◌∷◌, ◌++◌, Option, Some, IsTrue, refl, sym, ap, subst, ◌∙◌}
+use Rattle.std.proofs.Common.{◌≡◌, ℕ, List, [], ◌∷◌, ◌++◌, Option, Some, IsTrue, refl, sym, ap, subst, ◌∙◌}
 use Rattle.std.proofs.lemmas.List.{map-append}
+use Rattle.std.proofs.lemmas.List.Concat.{flat_map-append}
+use Rattle.std.specs.List.{flat_map}
 use Rattle.std.proofs.lemmas.Bool.{and_parts}
 use Rattle.std.specs.Ordering.{nat_cmp}
 use Rattle.std.specs.declared.cmp.Ordering.TheVariants.{Less}
@@ -14,22 +16,18 @@ use Rattle.load_path.specs.Paths.{PathParts, IsPath}
 use Rattle.edit_sums.specs.declared.contents.Content.{Content}
 use Rattle.edit_sums.specs.Entries.{Entry}
 use Rattle.path_maps.specs.Spread.{AllKeys}
-use Rattle.path_maps.specs.SpreadLaws.{all_keys-append, all_keys_weaker}
+use Rattle.path_maps.specs.SpreadLaws.{all_keys-append}
 use Rattle.path_maps.specs.Folders.{path_at}
 use Rattle.path_maps.specs.PathMaps.{NameMap, FolderMap, RankMap, bytes_cmp, at_name, in_folder, in_rank, listed, look_up}
 use Rattle.path_maps.specs.PathMapLaws.{IsInFolder, IsInRank, of_folder, of_rank}
-use Rattle.path_maps.specs.Beside.{beside, held_in_names, held_in_folders, names_beside, folders_beside, ranks_beside}
+use Rattle.path_maps.specs.Beside.{beside, held_in_names, held_in_folders, names_beside, folders_beside, ranks_beside, by_folder_beside, by_rank_beside}
 use Rattle.path_maps.specs.Cursors.{AreNamesLeft}
-use Rattle.path_maps.proofs.Cursors.{back_keys}
+use Rattle.path_maps.proofs.LeftBehind.{back_keys}
 
 -- two that hold the same at the paths of some entries
 same_beside : (f g : PathParts → Option Entry) (P : PathParts → Type 0) → ((q : PathParts) → P q → f q ≡ g q) → (es : List (PathParts × Entry)) → AllKeys P es → beside f es ≡ beside g es
 same_beside f g P alike [] h = refl
 same_beside f g P alike (x ∷ xs) h = λ i. (x, alike x.0 h.0 i) ∷ same_beside f g P alike xs h.1 i
-
-pub some_beside : (f : PathParts → Option Entry) (es : List (PathParts × Entry)) → es ≢ [] → beside f es ≢ []
-some_beside f [] h = absurd (h refl)
-some_beside f (x ∷ xs) h = λ e. cc (e)
 
 -- what was written is held so
 pub at_of : (v : Versioned Content) (x : Entry) → Some x ≡ written v → v ≡ At x
@@ -74,36 +72,50 @@ module _ (rank : ℕ) (folder : List ℕ) where
 -- ---- the first folder of a rank, and the rest
 
 module _ (rank : ℕ) where
-  above_folders : (k : List ℕ) (folders : FolderMap) → IsTrue (below_all bytes_cmp k folders) → AllKeys (λ q. bytes_cmp k q.folder ≡ Less) (in_rank rank folders)
-  above_folders k [] b = tt
-  above_folders k (f ∷ fs) b =
-      let p = and_parts _ _ b in
-      all_keys-append (λ q. bytes_cmp k q.folder ≡ Less) (in_folder rank f.0 f.1) (in_rank rank fs)
-      (all_keys_weaker (IsInFolder rank f.0) (λ q. bytes_cmp k q.folder ≡ Less) (λ q at. ap (bytes_cmp k) at.1 ∙ is_less _ p.0) (in_folder rank f.0 f.1) (of_folder rank f.0 f.1))
-      (above_folders k fs p.1)
-
   module _ (folders rest : FolderMap) (f : List ℕ × NameMap) (is : folders ≡ f ∷ rest) where
     pub more_folders_sorted : IsTrue (is_sorted bytes_cmp folders) → IsTrue (is_sorted bytes_cmp rest)
     more_folders_sorted s = (and_parts (below_all bytes_cmp f.0 rest) _ (subst (λ (x : FolderMap). IsTrue (is_sorted bytes_cmp x)) is s)).1
 
-    pub next_folders : (others left : FolderMap) (names held_names : NameMap) (held : Option NameMap) → names ≡ f.1 → IsTrue (is_sorted bytes_cmp folders) → held ≡ find bytes_cmp f.0 others → held_names ≡ or_empty held →
-        IsSameBehind f.0 left others → folders_beside rank folders others ≡ names_beside rank f.0 names held_names ++ folders_beside rank rest left
-    next_folders others left names held_names held of_first s found is_held same =
-        let below = (and_parts _ _ (subst (λ (fs : FolderMap). IsTrue (is_sorted bytes_cmp fs)) is s)).0 in
-        let here : or_empty (find bytes_cmp f.0 others) ≡ held_names = ap or_empty (sym found) ∙ sym is_held in
-        let first = same_beside (held_in_folders others) (held_in_names (or_empty (find bytes_cmp f.0 others))) (IsInFolder rank f.0) (λ q at. ap (λ (x : List ℕ). held_in_names (or_empty (find bytes_cmp x others)) q) at.1) (in_folder rank f.0 f.1) (of_folder rank f.0 f.1) in
-        let more = same_beside (held_in_folders others) (held_in_folders left) (λ q. bytes_cmp f.0 q.folder ≡ Less) (λ q less. ap (λ (x : Option NameMap). held_in_names (or_empty x) q) (sym (same q.folder less))) (in_rank rank rest) (above_folders f.0 rest below) in
-        ap (λ (fs : FolderMap). folders_beside rank fs others) is
-        ∙ map-append _ (in_folder rank f.0 f.1) (in_rank rank rest)
-        ∙ (λ i. (first ∙ (λ j. names_beside rank f.0 (sym of_first j) (here j))) i ++ more i)
+    -- what is left of another store holds the same in greater folders
+    module _ (others left : FolderMap) (same : IsSameBehind f.0 left others) where
+      same_folders : (fs : FolderMap) → IsTrue (below_all bytes_cmp f.0 fs) → by_folder_beside rank fs others ≡ by_folder_beside rank fs left
+      same_folders [] b = refl
+      same_folders (g ∷ gs) b =
+          let p = and_parts _ _ b in
+          let alike = same g.0 (is_less _ p.0) in
+          λ i. names_beside rank g.0 g.1 (or_empty (sym alike i)) ∷ same_folders gs p.1 i
+
+      pub next_folders : (names held_names : NameMap) (held : Option NameMap) → names ≡ f.1 → IsTrue (is_sorted bytes_cmp folders) → held ≡ find bytes_cmp f.0 others → held_names ≡ or_empty held →
+          by_folder_beside rank folders others ≡ names_beside rank f.0 names held_names ∷ by_folder_beside rank rest left
+      next_folders names held_names held of_first s found is_held =
+          let below = (and_parts _ _ (subst (λ (fs : FolderMap). IsTrue (is_sorted bytes_cmp fs)) is s)).0 in
+          let here : or_empty (find bytes_cmp f.0 others) ≡ held_names = ap or_empty (sym found) ∙ sym is_held in
+          ap (λ (fs : FolderMap). by_folder_beside rank fs others) is
+          ∙ (λ i. names_beside rank f.0 (sym of_first i) (here i) ∷ same_folders rest below i)
 
 -- ---- the first rank, and the rest
 
 pub next_ranks : (ranks rest others : RankMap) (r : ℕ × FolderMap) (folders held_folders : FolderMap) (held : Option FolderMap) → ranks ≡ r ∷ rest → folders ≡ r.1 → held ≡ find nat_cmp r.0 others → held_folders ≡ or_empty held →
-    ranks_beside ranks others ≡ folders_beside r.0 folders held_folders ++ ranks_beside rest others
+    by_rank_beside ranks others ≡ by_folder_beside r.0 folders held_folders ∷ by_rank_beside rest others
 next_ranks ranks rest others r folders held_folders held is of_first found is_held =
     let here : or_empty (find nat_cmp r.0 others) ≡ held_folders = ap or_empty (sym found) ∙ sym is_held in
-    let first = same_beside (look_up others) (held_in_folders (or_empty (find nat_cmp r.0 others))) (IsInRank r.0) (λ q at. ap (λ (x : ℕ). held_in_folders (or_empty (find nat_cmp x others)) q) at) (in_rank r.0 r.1) (of_rank r.0 r.1) in
-    ap (λ (rs : RankMap). ranks_beside rs others) is
-    ∙ map-append _ (in_rank r.0 r.1) (listed rest)
-    ∙ (λ i. (first ∙ (λ j. folders_beside r.0 (sym of_first j) (here j))) i ++ ranks_beside rest others)
+    ap (λ (rs : RankMap). by_rank_beside rs others) is
+    ∙ (λ i. by_folder_beside r.0 (sym of_first i) (here i) ∷ by_rank_beside rest others)
+
+-- ---- lists of lists, joined
+
+folders_compared : (rank : ℕ) (folders others : FolderMap) → flat_map (λ xs. xs) (by_folder_beside rank folders others) ≡ folders_beside rank folders others
+folders_compared rank [] others = refl
+folders_compared rank (f ∷ fs) others =
+    let first = same_beside (held_in_folders others) (held_in_names (or_empty (find bytes_cmp f.0 others))) (IsInFolder rank f.0) (λ q at. ap (λ (x : List ℕ). held_in_names (or_empty (find bytes_cmp x others)) q) at.1) (in_folder rank f.0 f.1) (of_folder rank f.0 f.1) in
+    (λ i. sym first i ++ folders_compared rank fs others i)
+    ∙ sym (map-append _ (in_folder rank f.0 f.1) (in_rank rank fs))
+
+pub ranks_compared : (ranks others : RankMap) → flat_map (λ xs. xs) (flat_map (λ xs. xs) (by_rank_beside ranks others)) ≡ ranks_beside ranks others
+ranks_compared [] others = refl
+ranks_compared (r ∷ rs) others =
+    let held = or_empty (find nat_cmp r.0 others) in
+    let first = same_beside (look_up others) (held_in_folders held) (IsInRank r.0) (λ q at. ap (λ (x : ℕ). held_in_folders (or_empty (find nat_cmp x others)) q) at) (in_rank r.0 r.1) (of_rank r.0 r.1) in
+    flat_map-append (λ xs. xs) (by_folder_beside r.0 r.1 held) (flat_map (λ xs. xs) (by_rank_beside rs others))
+    ∙ (λ i. (folders_compared r.0 r.1 held ∙ sym first) i ++ ranks_compared rs others i)
+    ∙ sym (map-append _ (in_rank r.0 r.1) (listed rs))

@@ -2,7 +2,7 @@ pub mod Searches
 pub mod LookUps
 pub mod Edits
 pub mod Sames
-pub mod Cursors
+pub mod LeftBehind
 pub mod Listed
 pub mod FoundBehind
 pub mod LeftBeside

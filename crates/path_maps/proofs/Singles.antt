@@ -9,7 +9,7 @@ use Rattle.edit_sums.specs.Sums.{EntryMap}
 use Rattle.path_maps.specs.Spread.{spread}
 use Rattle.path_maps.specs.PathMaps.{NameMap, FolderMap, RankMap, NamesBelow, FoldersBelow, AreNames, AreFolders, AreRanks, at_name, in_folder, in_rank, flat}
 use Rattle.path_maps.specs.PathMapLaws.{entries-flat}
-use Rattle.path_maps.proofs.Cursors.{at_name_some, in_folder_some, in_rank_some}
+use Rattle.path_maps.proofs.LeftBehind.{at_name_some, in_folder_some, in_rank_some}
 
 some_length : {A : Type 0} (xs : List A) → xs ≢ [] → 1 ≤ length xs
 some_length [] h = absurd (h refl)

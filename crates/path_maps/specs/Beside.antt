@@ -1,6 +1,7 @@
 -- The entries of one store, each with what another holds at its path.
 -- Source: this project's own.
 use Rattle.std.specs.Prelude.{ℕ, List, Option, IsTrue, map}
+use Rattle.std.specs.Ordering.{nat_cmp}
 use Rattle.std.specs.FinMap.{find, is_sorted}
 use Rattle.join_law.specs.VersionOrder.{written_at}
 use Rattle.join_law.specs.Maps.{or_empty}
@@ -32,6 +33,13 @@ folders_beside rank folders others = beside (held_in_folders others) (in_rank ra
 
 abbrev pub ranks_beside : RankMap → RankMap → List Compared
 ranks_beside ranks others = beside (look_up others) (listed ranks)
+
+-- the entries of each folder of a rank, and of each folder of each rank, beside those of another
+abbrev pub by_folder_beside : ℕ → FolderMap → FolderMap → List (List Compared)
+by_folder_beside rank folders others = map (λ f. names_beside rank f.0 f.1 (or_empty (find bytes_cmp f.0 others))) folders
+
+abbrev pub by_rank_beside : RankMap → RankMap → List (List (List Compared))
+by_rank_beside ranks others = map (λ r. by_folder_beside r.0 r.1 (or_empty (find nat_cmp r.0 others))) ranks
 
 -- where a reader of two stands: what is left of each is in order
 pub record AreNamesBeside (rank : ℕ) (folder : List ℕ) (names others : NameMap) : Type 0 where

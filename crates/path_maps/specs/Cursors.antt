@@ -1,10 +1,12 @@
 -- Where a reader stands in maps of maps: what is left is in order, and its paths are lawful.
 -- Source: this project's own.
-use Rattle.std.specs.Prelude.{ℕ, List, [], Option, Some, None}
+use Rattle.std.specs.Prelude.{ℕ, List, [], ◌++◌, Option, Some, None, map}
+use Rattle.std.specs.List.{flat_map}
 use Rattle.join_law.specs.Maps.{AllHeld}
 use Rattle.join_law.specs.VersionOrder.{IsUpTo}
-use Rattle.load_path.specs.Paths.{IsPath}
+use Rattle.load_path.specs.Paths.{PathParts, IsPath}
 use Rattle.edit_sums.specs.Contents.{content_cmp}
+use Rattle.edit_sums.specs.Entries.{Entry}
 use Rattle.path_maps.specs.Spread.{AllKeys}
 use Rattle.path_maps.specs.PathMaps.{NameMap, FolderMap, RankMap, NamesBelow, FoldersBelow, AreNames, AreFolders, in_folder, in_rank, listed}
 
@@ -21,7 +23,22 @@ pub record AreRanksLeft (ranks : RankMap) : Type 0 where
   pub held : AllHeld FoldersBelow AreFolders ranks
   pub paths : AllKeys IsPath (listed ranks)
 
+-- the entries of each folder of a rank, and of each folder of each rank
+abbrev pub by_folder : ℕ → FolderMap → List (List (PathParts × Entry))
+by_folder rank = map (λ f. in_folder rank f.0 f.1)
+
+abbrev pub by_rank : RankMap → List (List (List (PathParts × Entry)))
+by_rank = map (λ r. by_folder r.0 r.1)
+
+-- what something that may be absent has: then nothing
+abbrev pub in_hand : {A B : Type 0} → (A → List B) → Option A → List B
+in_hand items None = []
+in_hand items (Some x) = items x
+
 -- a list that may be absent: then it has nothing
 abbrev pub or_nothing : {A : Type 0} → Option (List A) → List A
-or_nothing None = []
-or_nothing (Some xs) = xs
+or_nothing = in_hand (λ xs. xs)
+
+-- the rest of a list, and all lists behind it
+abbrev pub left_of : {A : Type 0} → Option (List A) → List (List A) → List A
+left_of first rest = or_nothing first ++ flat_map (λ xs. xs) rest

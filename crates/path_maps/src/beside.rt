@@ -1,14 +1,14 @@
 //! The entries of one store, one after another in path order, each with what another holds at its path.
-ghost use Rattle.std.specs.Prelude.{◌≡◌, ◌≢◌, ◌++◌, ◌∷◌, [], MatchOption};
-ghost use Rattle.std.specs.Option.{option_copied, IfSome};
+ghost use Rattle.std.specs.Prelude.{◌≡◌, ◌∷◌, [], MatchOption};
+ghost use Rattle.std.specs.Option.{option_copied};
 ghost use Rattle.join_law.specs.VersionOrder.{written_at};
 ghost use Rattle.join_law.specs.Maps.{or_empty};
 ghost use Rattle.load_path.specs.Paths.{IsPath};
 ghost use Rattle.path_maps.specs.Beside.{ranks_beside};
-ghost use Rattle.path_maps.specs.Cursors.{or_nothing};
 ghost use Rattle.path_maps.specs.PathMaps.{AreNames, AreFolders, AreRanks, listed};
 ghost use Rattle.path_maps.specs.Spread.{AllKeys};
 
+use crate::cursors::{Cursor, Nested};
 use crate::entries::Placed;
 use crate::meets::meet;
 use crate::stores::{FolderMap, NameMap, RankMap};
@@ -16,6 +16,22 @@ use edit_sums::{Content, Entry};
 use join_law::Versioned;
 use plain_values::Bytes;
 use std::marker::Model;
+
+// An entry with its path, and what another store holds there.
+#[derive(Drop)]
+struct Both<'a> {
+    placed: Placed<'a>,
+    held: Option<&'a Entry>,
+}
+
+impl<'a> Model for Both<'a> {
+    ghost use Rattle.std.specs.Option.{option_copied};
+    ghost use Rattle.path_maps.specs.Beside.{Compared};
+
+    ghost Value = { Compared };
+
+    ghost view = { λ b. (b.placed, option_copied b.held) };
+}
 
 // The names that are left of a folder, and those of the same folder of another store.
 #[derive(Drop)]
@@ -37,20 +53,21 @@ impl<'a> Model for NamesBeside<'a> {
     ghost invariant = { λ n. AreNamesBeside n.rank n.folder.now n.names.now n.others.now };
 }
 
-impl<'a> NamesBeside<'a> {
-    // Takes the first of them, if there is one.
+impl<'a> Cursor<Both<'a>> for NamesBeside<'a> {
+    ghost left = { λ n. n };
+
     #[inline(always)]
-    fn next_name(&mut self) -> Option<(Placed<'a>, Option<&'a Entry>)>
-        ensures first { MatchOption result ((self.old ≡ []) × (self.new ≡ []))
-            (λ both. self.old ≡ (both.0, option_copied both.1) ∷ self.new) }
-    {
+    fn next(&mut self) -> Option<Both<'a>> {
         let ((name, value), rest) = self.names.split_first()?;
         let entry = value.entry()?;
         let (held, others) = meet(self.others, name);
         let (rank, folder) = (self.rank, self.folder);
         self.names = rest;
         self.others = others;
-        Some((Placed::new(rank, folder, name, entry), entry_of(held)))
+        Some(Both {
+            placed: Placed::new(rank, folder, name, entry),
+            held: entry_of(held),
+        })
     }
 }
 
@@ -75,22 +92,20 @@ struct FoldersBeside<'a> {
 
 impl<'a> Model for FoldersBeside<'a> {
     ghost use Rattle.std.specs.Prelude.{List};
-    ghost use Rattle.path_maps.specs.Beside.{AreFoldersBeside, Compared, folders_beside};
+    ghost use Rattle.path_maps.specs.Beside.{AreFoldersBeside, Compared, by_folder_beside};
 
-    ghost Value = { List Compared };
+    ghost Value = { List (List Compared) };
 
-    ghost view = { λ f. folders_beside f.rank f.folders.now f.others.now };
+    ghost view = { λ f. by_folder_beside f.rank f.folders.now f.others.now };
 
     ghost invariant = { λ f. AreFoldersBeside f.rank f.folders.now f.others.now };
 }
 
-impl<'a> FoldersBeside<'a> {
-    // Takes the first of them, if there is one. Each has a name.
+impl<'a> Cursor<NamesBeside<'a>> for FoldersBeside<'a> {
+    ghost left = { λ f. f };
+
     #[inline(always)]
-    fn next_folder(&mut self) -> Option<NamesBeside<'a>>
-        ensures first { MatchOption result ((self.old ≡ []) × (self.new ≡ [])) (λ names. self.old ≡ names ++ self.new) }
-        ensures some { IfSome result (λ names. names ≢ []) }
-    {
+    fn next(&mut self) -> Option<NamesBeside<'a>> {
         let ((folder, names), rest) = self.folders.split_first()?;
         let (held, others) = meet(self.others, folder);
         let rank = self.rank;
@@ -125,22 +140,21 @@ struct RanksBeside<'a> {
 
 impl<'a> Model for RanksBeside<'a> {
     ghost use Rattle.std.specs.Prelude.{List};
-    ghost use Rattle.path_maps.specs.Beside.{Compared, ranks_beside};
+    ghost use Rattle.path_maps.specs.Beside.{Compared, by_rank_beside};
     ghost use Rattle.path_maps.specs.Cursors.{AreRanksLeft};
 
-    ghost Value = { List Compared };
+    ghost Value = { List (List (List Compared)) };
 
-    ghost view = { λ r. ranks_beside r.ranks.now r.others.now };
+    ghost view = { λ r. by_rank_beside r.ranks.now r.others.now };
 
     ghost invariant = { λ r. AreRanksLeft r.ranks.now };
 }
 
-impl<'a> RanksBeside<'a> {
-    // Takes the first of them, if there is one. Each has a folder.
-    fn next_rank(&mut self) -> Option<FoldersBeside<'a>>
-        ensures first { MatchOption result ((self.old ≡ []) × (self.new ≡ [])) (λ folders. self.old ≡ folders ++ self.new) }
-        ensures some { IfSome result (λ folders. folders ≢ []) }
-    {
+impl<'a> Cursor<FoldersBeside<'a>> for RanksBeside<'a> {
+    ghost left = { λ r. r };
+
+    #[inline(always)]
+    fn next(&mut self) -> Option<FoldersBeside<'a>> {
         let ((rank, folders), rest) = self.ranks.split_first()?;
         self.ranks = rest;
         Some(FoldersBeside {
@@ -168,20 +182,18 @@ fn folders_of<'a>(held: Option<&'a FolderMap>) -> &'a [(Bytes, NameMap)]
 /// where it holds many more.
 #[derive(Drop)]
 pub struct Beside<'a> {
-    // Of the folder and of the rank that are being read, if any are.
-    names: Option<NamesBeside<'a>>,
-    folders: Option<FoldersBeside<'a>>,
-    ranks: RanksBeside<'a>,
+    // By folder and by rank.
+    entries: Nested<NamesBeside<'a>, Nested<FoldersBeside<'a>, RanksBeside<'a>>>,
 }
 
 impl<'a> Model for Beside<'a> {
-    ghost use Rattle.std.specs.Prelude.{List, ◌++◌};
+    ghost use Rattle.std.specs.Prelude.{List};
     ghost use Rattle.path_maps.specs.Beside.{Compared};
-    ghost use Rattle.path_maps.specs.Cursors.{or_nothing};
+    ghost use Rattle.path_maps.specs.Cursors.{left_of};
 
     ghost Value = { List Compared };
 
-    ghost view = { λ b. or_nothing b.names ++ (or_nothing b.folders ++ b.ranks) };
+    ghost view = { λ b. left_of b.entries.inner (left_of b.entries.outer.inner b.entries.outer.outer) };
 }
 
 impl<'a> Beside<'a> {
@@ -190,12 +202,17 @@ impl<'a> Beside<'a> {
         requires paths { AllKeys IsPath (listed ranks.now) }
         ensures entries { result ≡ ranks_beside ranks.now others.now }
     {
+        let ranks = RanksBeside {
+            ranks: ranks.pairs(),
+            others,
+        };
         Beside {
-            names: None,
-            folders: None,
-            ranks: RanksBeside {
-                ranks: ranks.pairs(),
-                others,
+            entries: Nested {
+                inner: None,
+                outer: Nested {
+                    inner: None,
+                    outer: ranks,
+                },
             },
         }
     }
@@ -206,57 +223,7 @@ impl<'a> Beside<'a> {
         ensures first { MatchOption result ((self.old ≡ []) × (self.new ≡ []))
             (λ both. self.old ≡ (both.0, option_copied both.1) ∷ self.new) }
     {
-        if let Some(both) = next_of(&mut self.names) {
-            return Some(both);
-        }
-        let mut names = next_folder(&mut self.folders, &mut self.ranks)?;
-        let both = names.next_name()?;
-        self.names = Some(names);
-        Some(both)
+        let Both { placed, held } = self.entries.next()?;
+        Some((placed, held))
     }
-}
-
-// Takes the first name of a folder, if one is being read and has any left.
-#[inline(always)]
-fn next_of<'a>(names: &mut Option<NamesBeside<'a>>) -> Option<(Placed<'a>, Option<&'a Entry>)>
-    ensures first { MatchOption result ((or_nothing names.old ≡ []) × (or_nothing names.new ≡ []))
-        (λ both. or_nothing names.old ≡ (both.0, option_copied both.1) ∷ or_nothing names.new) }
-{
-    match names {
-        None => None,
-        Some(names) => names.next_name(),
-    }
-}
-
-// Takes the first folder of a rank, if one is being read and has any left.
-#[inline(always)]
-fn folder_of<'a>(folders: &mut Option<FoldersBeside<'a>>) -> Option<NamesBeside<'a>>
-    ensures first { MatchOption result ((or_nothing folders.old ≡ []) × (or_nothing folders.new ≡ []))
-        (λ names. or_nothing folders.old ≡ names ++ or_nothing folders.new) }
-    ensures some { IfSome result (λ names. names ≢ []) }
-{
-    match folders {
-        None => None,
-        Some(folders) => folders.next_folder(),
-    }
-}
-
-// Takes the next folder, of the rank that is being read or of the next one.
-#[inline(always)]
-fn next_folder<'a>(
-    folders: &mut Option<FoldersBeside<'a>>,
-    ranks: &mut RanksBeside<'a>,
-) -> Option<NamesBeside<'a>>
-    ensures first { MatchOption result
-        ((or_nothing folders.old ++ ranks.old ≡ []) × (or_nothing folders.new ++ ranks.new ≡ []))
-        (λ names. or_nothing folders.old ++ ranks.old ≡ names ++ (or_nothing folders.new ++ ranks.new)) }
-    ensures some { IfSome result (λ names. names ≢ []) }
-{
-    if let Some(names) = folder_of(folders) {
-        return Some(names);
-    }
-    let mut next = ranks.next_rank()?;
-    let names = next.next_folder()?;
-    *folders = Some(next);
-    Some(names)
 }

@@ -1,13 +1,15 @@
 //! The entries of a store, one after another in path order: ranks, folders and names that are left.
-ghost use Rattle.std.specs.Prelude.{◌≡◌, ◌≢◌, ◌++◌, ◌∷◌, [], map, IfOk, IfSome, MatchOption};
+ghost use Rattle.std.specs.Prelude.{◌≡◌, ◌∷◌, [], map, IfOk, IfSome, MatchOption};
 ghost use Rattle.load_path.specs.Paths.{IsPath, path_cmp};
-ghost use Rattle.path_maps.specs.Cursors.{or_nothing};
+ghost use Rattle.path_maps.specs.Cursors.{or_nothing, left_of};
+ghost use Rattle.std.specs.List.{flat_map};
 ghost use Rattle.std.specs.Option.{option_copied, option_map};
 ghost use Rattle.edit_sums.specs.Sums.{shown};
 ghost use Rattle.path_maps.specs.Folders.{path_at};
 ghost use Rattle.path_maps.specs.PathMaps.{in_folder, listed};
 ghost use Rattle.path_maps.specs.Spread.{AllKeys};
 
+use crate::cursors::{Cursor, Nested};
 use crate::stores::{FolderMap, NameMap, RankMap};
 use edit_sums::{Content, Entry};
 use join_law::Versioned;
@@ -122,11 +124,10 @@ impl<'a> Model for NamesLeft<'a> {
     ghost invariant = { λ n. AreNamesLeft n.rank n.folder.now n.names.now };
 }
 
-impl<'a> NamesLeft<'a> {
-    // Takes the first of them, if there is one.
-    fn next_name(&mut self) -> Option<Placed<'a>>
-        ensures first { MatchOption result ((self.old ≡ []) × (self.new ≡ [])) (λ placed. self.old ≡ placed ∷ self.new) }
-    {
+impl<'a> Cursor<Placed<'a>> for NamesLeft<'a> {
+    ghost left = { λ n. n };
+
+    fn next(&mut self) -> Option<Placed<'a>> {
         let ((name, value), rest) = self.names.split_first()?;
         let entry = value.entry()?;
         let (rank, folder) = (self.rank, self.folder);
@@ -146,22 +147,19 @@ impl<'a> Model for FoldersLeft<'a> {
     ghost use Rattle.std.specs.Prelude.{List};
     ghost use Rattle.load_path.specs.Paths.{PathParts};
     ghost use Rattle.edit_sums.specs.Entries.{Entry};
-    ghost use Rattle.path_maps.specs.PathMaps.{in_rank};
-    ghost use Rattle.path_maps.specs.Cursors.{AreFoldersLeft};
+    ghost use Rattle.path_maps.specs.Cursors.{AreFoldersLeft, by_folder};
 
-    ghost Value = { List (PathParts × Entry) };
+    ghost Value = { List (List (PathParts × Entry)) };
 
-    ghost view = { λ f. in_rank f.rank f.folders.now };
+    ghost view = { λ f. by_folder f.rank f.folders.now };
 
     ghost invariant = { λ f. AreFoldersLeft f.rank f.folders.now };
 }
 
-impl<'a> FoldersLeft<'a> {
-    // Takes the first of them, if there is one. Each has a name.
-    fn next_folder(&mut self) -> Option<NamesLeft<'a>>
-        ensures first { MatchOption result ((self.old ≡ []) × (self.new ≡ [])) (λ names. self.old ≡ names ++ self.new) }
-        ensures some { IfSome result (λ names. names ≢ []) }
-    {
+impl<'a> Cursor<NamesLeft<'a>> for FoldersLeft<'a> {
+    ghost left = { λ f. f };
+
+    fn next(&mut self) -> Option<NamesLeft<'a>> {
         let ((folder, names), rest) = self.folders.split_first()?;
         let rank = self.rank;
         self.folders = rest;
@@ -183,22 +181,19 @@ impl<'a> Model for RanksLeft<'a> {
     ghost use Rattle.std.specs.Prelude.{List};
     ghost use Rattle.load_path.specs.Paths.{PathParts};
     ghost use Rattle.edit_sums.specs.Entries.{Entry};
-    ghost use Rattle.path_maps.specs.PathMaps.{listed};
-    ghost use Rattle.path_maps.specs.Cursors.{AreRanksLeft};
+    ghost use Rattle.path_maps.specs.Cursors.{AreRanksLeft, by_rank};
 
-    ghost Value = { List (PathParts × Entry) };
+    ghost Value = { List (List (List (PathParts × Entry))) };
 
-    ghost view = { λ r. listed r.ranks.now };
+    ghost view = { λ r. by_rank r.ranks.now };
 
     ghost invariant = { λ r. AreRanksLeft r.ranks.now };
 }
 
-impl<'a> RanksLeft<'a> {
-    // Takes the first of them, if there is one. Each has a folder.
-    fn next_rank(&mut self) -> Option<FoldersLeft<'a>>
-        ensures first { MatchOption result ((self.old ≡ []) × (self.new ≡ [])) (λ folders. self.old ≡ folders ++ self.new) }
-        ensures some { IfSome result (λ folders. folders ≢ []) }
-    {
+impl<'a> Cursor<FoldersLeft<'a>> for RanksLeft<'a> {
+    ghost left = { λ r. r };
+
+    fn next(&mut self) -> Option<FoldersLeft<'a>> {
         let ((rank, folders), rest) = self.ranks.split_first()?;
         self.ranks = rest;
         Some(FoldersLeft {
@@ -208,24 +203,25 @@ impl<'a> RanksLeft<'a> {
     }
 }
 
+// All folders that are left.
+type AllFolders<'a> = Nested<FoldersLeft<'a>, RanksLeft<'a>>;
+
 /// The entries of a store that are left, in path order.
 #[derive(Drop)]
 pub struct Entries<'a> {
-    // Of the folder and of the rank that are being read, if any are.
-    names: Option<NamesLeft<'a>>,
-    folders: Option<FoldersLeft<'a>>,
-    ranks: RanksLeft<'a>,
+    // By folder and by rank.
+    entries: Nested<NamesLeft<'a>, AllFolders<'a>>,
 }
 
 impl<'a> Model for Entries<'a> {
-    ghost use Rattle.std.specs.Prelude.{List, ◌++◌};
+    ghost use Rattle.std.specs.Prelude.{List};
     ghost use Rattle.load_path.specs.Paths.{PathParts};
     ghost use Rattle.edit_sums.specs.Entries.{Entry};
-    ghost use Rattle.path_maps.specs.Cursors.{or_nothing};
+    ghost use Rattle.path_maps.specs.Cursors.{left_of};
 
     ghost Value = { List (PathParts × Entry) };
 
-    ghost view = { λ e. or_nothing e.names ++ (or_nothing e.folders ++ e.ranks) };
+    ghost view = { λ e. left_of e.entries.inner (left_of e.entries.outer.inner e.entries.outer.outer) };
 }
 
 impl<'a> Entries<'a> {
@@ -234,13 +230,8 @@ impl<'a> Entries<'a> {
         requires paths { AllKeys IsPath (listed ranks.now) }
         ensures entries { result ≡ listed ranks.now }
     {
-        Entries {
-            names: None,
-            folders: None,
-            ranks: RanksLeft {
-                ranks: ranks.pairs(),
-            },
-        }
+        let ranks = ranks.pairs();
+        Entries::from_folder(None, RanksLeft { ranks })
     }
 
     // Those of the names in a folder, whose paths are lawful; none, where there is no folder.
@@ -256,10 +247,21 @@ impl<'a> Entries<'a> {
                 names: names.pairs(),
             }),
         };
+        Entries::from_folder(names, RanksLeft { ranks: &[] })
+    }
+
+    // Those of a folder, if there is one, and those of ranks behind it.
+    fn from_folder(names: Option<NamesLeft<'a>>, ranks: RanksLeft<'a>) -> Self
+        ensures entries { result ≡ left_of names.entry (flat_map (λ xs. xs) ranks.entry) }
+    {
         Entries {
-            names,
-            folders: None,
-            ranks: RanksLeft { ranks: &[] },
+            entries: Nested {
+                inner: names,
+                outer: Nested {
+                    inner: None,
+                    outer: ranks,
+                },
+            },
         }
     }
 
@@ -267,13 +269,7 @@ impl<'a> Entries<'a> {
     pub fn next_entry(&mut self) -> Option<Placed<'a>>
         ensures first { MatchOption result ((self.old ≡ []) × (self.new ≡ [])) (λ placed. self.old ≡ placed ∷ self.new) }
     {
-        if let Some(placed) = next_of(&mut self.names) {
-            return Some(placed);
-        }
-        let mut names = next_folder(&mut self.folders, &mut self.ranks)?;
-        let placed = names.next_name()?;
-        self.names = Some(names);
-        Some(placed)
+        self.entries.next()
     }
 
     /// The paths of all of them. It fails for want of memory alone, and copies no bytes.
@@ -286,46 +282,4 @@ impl<'a> Entries<'a> {
         }
         Ok(paths)
     }
-}
-
-// Takes the first name of a folder, if one is being read and has any left.
-fn next_of<'a>(names: &mut Option<NamesLeft<'a>>) -> Option<Placed<'a>>
-    ensures first { MatchOption result ((or_nothing names.old ≡ []) × (or_nothing names.new ≡ []))
-        (λ placed. or_nothing names.old ≡ placed ∷ or_nothing names.new) }
-{
-    match names {
-        None => None,
-        Some(names) => names.next_name(),
-    }
-}
-
-// Takes the first folder of a rank, if one is being read and has any left.
-fn folder_of<'a>(folders: &mut Option<FoldersLeft<'a>>) -> Option<NamesLeft<'a>>
-    ensures first { MatchOption result ((or_nothing folders.old ≡ []) × (or_nothing folders.new ≡ []))
-        (λ names. or_nothing folders.old ≡ names ++ or_nothing folders.new) }
-    ensures some { IfSome result (λ names. names ≢ []) }
-{
-    match folders {
-        None => None,
-        Some(folders) => folders.next_folder(),
-    }
-}
-
-// Takes the next folder, of the rank that is being read or of the next one.
-fn next_folder<'a>(
-    folders: &mut Option<FoldersLeft<'a>>,
-    ranks: &mut RanksLeft<'a>,
-) -> Option<NamesLeft<'a>>
-    ensures first { MatchOption result
-        ((or_nothing folders.old ++ ranks.old ≡ []) × (or_nothing folders.new ++ ranks.new ≡ []))
-        (λ names. or_nothing folders.old ++ ranks.old ≡ names ++ (or_nothing folders.new ++ ranks.new)) }
-    ensures some { IfSome result (λ names. names ≢ []) }
-{
-    if let Some(names) = folder_of(folders) {
-        return Some(names);
-    }
-    let mut next = ranks.next_rank()?;
-    let names = next.next_folder()?;
-    *folders = Some(next);
-    Some(names)
 }

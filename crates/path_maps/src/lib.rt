@@ -7,6 +7,7 @@
 mod beside;
 mod changes;
 mod counts;
+mod cursors;
 mod entries;
 mod look_ups;
 mod meets;

@@ -1,9 +1,9 @@
 use Rattle.std.proofs.Common.{◌∙◌, sym, subst, IsTrue}
 use Rattle.std.specs.FinMap.Entries.{is_sorted}
 use Rattle.path_maps.specs.PathMaps.{NameMap, bytes_cmp}
-use Rattle.path_maps.proofs.Cursors.{first_names, more_folders, first_names_some}
-use Rattle.path_maps.proofs.LeftBeside.{next_folders, more_folders_sorted, some_beside}
-use Rattle.path_maps.proofs.beside.FoldersBeside.next_folder.Goals as goal
+use Rattle.path_maps.proofs.LeftBehind.{first_names, more_folders}
+use Rattle.path_maps.proofs.LeftBeside.{next_folders, more_folders_sorted}
+use Rattle.path_maps.proofs.beside.FoldersBesideCursorNamesBeside.next.Goals as goal
 
 pub invariant_of-result : goal.invariant_of-result
 invariant_of-result c = record {
@@ -19,12 +19,10 @@ invariant_of-self c = record {
   others_sorted = c.meet.ensures.sorted;
 }
 
-pub returns-clause-first : goal.returns-clause-first
-returns-clause-first c =
-    sym c.self.view_is
-    ∙ next_folders c.self.inside.rank c.self.inside.folders.now c.in_ok-folder.rest.now c.in_ok-folder.field-0-0.now c.in_ok-folder.ensures.cases.0
-    c.self.inside.others.now c.meet.result.1.now _ _ _ c.pairs.ensures.pairs c.self.invariant.sorted c.meet.ensures.found c.names_of.ensures.names c.meet.ensures.behind
-
-pub returns-clause-some : goal.returns-clause-some
-returns-clause-some c =
-    some_beside _ _ (first_names_some c.self.inside.rank c.self.inside.folders.now c.in_ok-folder.rest.now c.in_ok-folder.field-0-0.now c.in_ok-folder.ensures.cases.0 c.self.invariant.left _ c.pairs.ensures.pairs)
+pub returns : goal.returns
+returns c = record {
+  first =
+      sym c.self.view_is
+      ∙ next_folders c.self.inside.rank c.self.inside.folders.now c.in_ok-folder.rest.now c.in_ok-folder.field-0-0.now c.in_ok-folder.ensures.cases.0
+      c.self.inside.others.now c.meet.result.1.now c.meet.ensures.behind _ _ _ c.pairs.ensures.pairs c.self.invariant.sorted c.meet.ensures.found c.names_of.ensures.names;
+}

@@ -1,5 +1,7 @@
 -- What is left behind the first name, folder or rank.
-use Rattle.std.proofs.Common.{◌≡◌, ◌≢◌, ℕ, List, [], ◌∷◌, ◌++◌, refl, sym, subst}
+use Rattle.std.proofs.Common.{◌≡◌, ◌≢◌, ℕ, List, [], ◌∷◌, ◌++◌, refl, sym, subst, ap, ◌∙◌}
+use Rattle.std.proofs.lemmas.List.Concat.{flat_map-append}
+use Rattle.std.specs.List.{flat_map}
 use Rattle.join_law.specs.declared.versions.Versioned.{Versioned}
 use Rattle.join_law.specs.declared.versions.Versioned.TheVariants.{Never, At}
 use Rattle.join_law.specs.Order.{IsLeast}
@@ -9,10 +11,10 @@ use Rattle.join_law.specs.Maps.{AllHeld}
 use Rattle.edit_sums.specs.declared.contents.Content.{Content}
 use Rattle.edit_sums.specs.Contents.{content_cmp}
 use Rattle.edit_sums.specs.Entries.{Entry}
-use Rattle.load_path.specs.Paths.{IsPath}
+use Rattle.load_path.specs.Paths.{PathParts, IsPath}
 use Rattle.path_maps.specs.Spread.{AllKeys}
 use Rattle.path_maps.specs.PathMaps.{NameMap, FolderMap, RankMap, NamesBelow, FoldersBelow, AreNames, AreFolders, at_name, in_folder, in_rank, listed}
-use Rattle.path_maps.specs.Cursors.{AreNamesLeft, AreFoldersLeft, AreRanksLeft}
+use Rattle.path_maps.specs.Cursors.{AreNamesLeft, AreFoldersLeft, AreRanksLeft, by_folder, by_rank}
 use Rattle.path_maps.proofs.Sames.{no_names, no_folders}
 
 pub front_keys : {A E : Type 0} (P : A → Type 0) (xs ys : List (A × E)) → AllKeys P (xs ++ ys) → AllKeys P xs
@@ -63,9 +65,6 @@ module _ (rank : ℕ) (fs rest : FolderMap) (f : List ℕ × NameMap) (is : fs �
   pub more_folders : AreFoldersLeft rank rest
   more_folders = record { held = held.1; paths = back_keys IsPath (in_folder rank f.0 f.1) (in_rank rank rest) paths }
 
-  pub first_names_some : (ns : NameMap) → ns ≡ f.1 → in_folder rank f.0 ns ≢ []
-  first_names_some ns e = subst (λ (x : NameMap). in_folder rank f.0 x ≢ []) (sym e) (in_folder_some rank f.0 f.1 held.0.not_least held.0.lawful)
-
 -- ---- the first rank, and the rest
 
 module _ (rs rest : RankMap) (r : ℕ × FolderMap) (is : rs ≡ r ∷ rest) (l : AreRanksLeft rs) where
@@ -83,5 +82,14 @@ module _ (rs rest : RankMap) (r : ℕ × FolderMap) (is : rs ≡ r ∷ rest) (l 
   pub more_ranks : AreRanksLeft rest
   more_ranks = record { held = ranks_held.1; paths = back_keys IsPath (in_rank r.0 r.1) (listed rest) rank_paths }
 
-  pub first_folders_some : (fs : FolderMap) → fs ≡ r.1 → in_rank r.0 fs ≢ []
-  first_folders_some fs e = subst (λ (x : FolderMap). in_rank r.0 x ≢ []) (sym e) (in_rank_some r.0 r.1 ranks_held.0.not_least ranks_held.0.lawful)
+-- ---- lists of lists, joined
+
+pub folders_listed : (rank : ℕ) (folders : FolderMap) → flat_map (λ xs. xs) (by_folder rank folders) ≡ in_rank rank folders
+folders_listed rank [] = refl
+folders_listed rank (f ∷ fs) = ap (λ (es : List (PathParts × Entry)). in_folder rank f.0 f.1 ++ es) (folders_listed rank fs)
+
+pub ranks_listed : (m : RankMap) → flat_map (λ xs. xs) (flat_map (λ xs. xs) (by_rank m)) ≡ listed m
+ranks_listed [] = refl
+ranks_listed (r ∷ rs) =
+    flat_map-append (λ xs. xs) (by_folder r.0 r.1) (flat_map (λ xs. xs) (by_rank rs))
+    ∙ (λ i. folders_listed r.0 r.1 i ++ ranks_listed rs i)

@@ -1,0 +1,23 @@
+use Rattle.std.proofs.Common.{◌∙◌, sym, subst, IsTrue}
+use Rattle.std.specs.FinMap.Entries.{is_sorted}
+use Rattle.path_maps.specs.PathMaps.{FolderMap, bytes_cmp}
+use Rattle.path_maps.proofs.LeftBehind.{first_folders, more_ranks}
+use Rattle.path_maps.proofs.LeftBeside.{next_ranks}
+use Rattle.path_maps.proofs.beside.RanksBesideCursorFoldersBeside.next.Goals as goal
+
+pub invariant_of-result : goal.invariant_of-result
+invariant_of-result c = record {
+  left = first_folders c.self.inside.ranks.now c.in_ok-rank.rest.now c.in_ok-rank.field-0-0.now c.in_ok-rank.ensures.cases.0 c.self.invariant _ c.pairs.ensures.pairs;
+  sorted = subst (λ (x : FolderMap). IsTrue (is_sorted bytes_cmp x)) (sym c.pairs.ensures.pairs) c.pairs.ensures.map.sorted;
+  others_sorted = c.folders_of.ensures.map.sorted;
+}
+
+pub invariant_of-self : goal.invariant_of-self
+invariant_of-self c = more_ranks c.self.inside.ranks.now c.in_ok-rank.rest.now c.in_ok-rank.field-0-0.now c.in_ok-rank.ensures.cases.0 c.self.invariant
+
+pub returns : goal.returns
+returns c = record {
+  first =
+      sym c.self.view_is
+      ∙ next_ranks c.self.inside.ranks.now c.in_ok-rank.rest.now c.self.inside.others.now c.in_ok-rank.field-0-0.now _ _ _ c.in_ok-rank.ensures.cases.0 c.pairs.ensures.pairs c.get.ensures.value c.folders_of.ensures.folders;
+}

@@ -1,0 +1,12 @@
+use Rattle.std.proofs.Common.{◌≡◌, ◌++◌, [], length}
+use Rattle.std.specs.List.{flat_map}
+use Rattle.path_maps.specs.Cursors.{in_hand}
+use Rattle.path_maps.proofs.cursors.NestedCursor.next.Given as goal
+
+abbrev pub invariant-loop-inner : goal.invariant-loop-inner
+invariant-loop-inner g l =
+    (in_hand g.C.Cursor.left l.self.inner ≡ []) ×
+    (in_hand g.C.Cursor.left l.fn.self.inner ++ flat_map g.C.Cursor.left (g.O.Cursor.left l.fn.self.outer) ≡ flat_map g.C.Cursor.left (g.O.Cursor.left l.self.outer))
+
+abbrev pub decreases-loop-inner : goal.decreases-loop-inner
+decreases-loop-inner g l = length (g.O.Cursor.left l.self.outer)
