@@ -1,20 +1,11 @@
 -- The names of a request, as they are read.
-use Rattle.std.proofs.Common.{◌≡◌, inl, inr, ℕ, List, [], ◌++◌, Result, Ok, Err, refl, ap, ◌∙◌}
+use Rattle.std.proofs.Common.{◌≡◌, inl, inr, ℕ, List, Result, Ok, Err, refl, ap, ◌∙◌}
 use Rattle.unit_name.specs.declared.names.NameFault.{NameFault}
 use Rattle.unit_name.specs.declared.names.NameFault.TheVariants as name
 use Rattle.unit_name.specs.Names.{IsFaultOf, Name, name_of}
 use Rattle.script_commands.specs.declared.commands.Fault.{Fault}
 use Rattle.script_commands.specs.Faults.{fault_of_name}
 use Rattle.script_answers.specs.Requests.{IsNameFault, names_in, request_of, request_with}
-
--- these names, and then those that are read
-abbrev pub and_then : List Name → Result (List Name) NameFault → Result (List Name) NameFault
-and_then read (Ok names) = Ok (read ++ names)
-and_then read (Err fault) = Err fault
-
-pub and_then-nothing : (r : Result (List Name) NameFault) → r ≡ and_then [] r
-and_then-nothing (Ok names) = refl
-and_then-nothing (Err fault) = refl
 
 -- what is wrong with a word is wrong with its name
 pub name_fault : (word : List ℕ) (fault : NameFault) → IsFaultOf word fault → IsNameFault (name_of word) (fault_of_name fault)

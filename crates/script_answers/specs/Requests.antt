@@ -1,22 +1,17 @@
 -- The request that words make, and the names that it asks for.
 -- Source: this project's own.
-use Rattle.std.specs.Prelude.{◌≡◌, ◌⊎◌, ℕ, List, [], ◌∷◌, Result, Ok, Err}
+use Rattle.std.specs.Prelude.{◌≡◌, ◌⊎◌, ℕ, List, Result, Ok, Err}
 use Rattle.unit_name.specs.declared.names.NameFault.{NameFault}
 use Rattle.unit_name.specs.Names.{Name, name_of}
 use Rattle.script_commands.specs.declared.commands.Fault.{Fault}
 use Rattle.script_commands.specs.declared.commands.Fault.TheVariants.{Memory}
+use Rattle.script_commands.specs.Each.{each_read}
 use Rattle.script_commands.specs.Faults.{fault_of_name}
 use Rattle.start_plan.specs.declared.requests.Request.{Request}
 
-abbrev name_then : Result Name NameFault → Result (List Name) NameFault → Result (List Name) NameFault
-name_then (Err fault) names = Err fault
-name_then (Ok name) (Err fault) = Err fault
-name_then (Ok name) (Ok names) = Ok (name ∷ names)
-
 -- the unit names that some words are, or the first thing wrong with the first that is none
 abbrev pub names_in : List (List ℕ) → Result (List Name) NameFault
-names_in [] = Ok []
-names_in (word ∷ words) = name_then (name_of word) (names_in words)
+names_in = each_read name_of
 
 abbrev pub request_with : Result Name NameFault → Result (List Name) NameFault → Result Request NameFault
 request_with (Err fault) running = Err fault
