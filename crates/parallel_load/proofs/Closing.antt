@@ -1,7 +1,6 @@
 -- What was found from the sources is the universe.
-use Rattle.std.proofs.Common.{◌≡◌, ◌≤◌, List, length, refl, sym, ◌∙◌, subst, inl, inr}
+use Rattle.std.proofs.Common.{◌≡◌, List, refl, sym, ◌∙◌, subst, inl, inr}
 use Rattle.std.specs.Prelude.{◌↔◌, ◌⊎◌}
-use Rattle.std.specs.Cmp.Lexicographic.{nat_list_cmp_total}
 use Rattle.std.specs.Map.{keys_of}
 use Rattle.list_laws.specs.Members.{IsAmong, among_from_contains, contains_from_among}
 use Rattle.edit_sums.specs.Sums.{EntryMap}
@@ -10,7 +9,6 @@ use Rattle.setting_rules.specs.declared.dependency_lists.DependencyList.{Depende
 use Rattle.setting_rules.specs.declared.kinds.DepKind.{DepKind}
 use Rattle.name_closure.specs.Chains.{IsClosure, HasOver}
 use Rattle.name_closure.specs.ClosureLaws.{reached_closed, reached_least}
-use Rattle.name_closure.specs.LimitLaws.{not_over}
 use Rattle.name_closure.specs.ListedLaws.{Listed}
 use Rattle.name_closure.specs.Loading.{LeadsByLoad, AreLoaded}
 use Rattle.name_closure.specs.SourceLaws.{more_reached}
@@ -42,7 +40,7 @@ in_lists lists dep m l =
 
 module _ (s : EntryMap) where
   -- what is named where something is loaded is what the name leads to
-  step_leads : (n : Name) (one : NameLoad) (m : Name) → IsLoadAlone s n one → IsAmong m (named_in one) → LeadsTo s n m
+  pub step_leads : (n : Name) (one : NameLoad) (m : Name) → IsLoadAlone s n one → IsAmong m (named_in one) → LeadsTo s n m
   step_leads n (OfUnit u) m p h =
       let l = listed u.deps m h in
       inr (record { own = p.main_is; dep = l.0; named = (lists_have_what_is_named s n u l.0 m p).0 l.1 })
@@ -88,9 +86,6 @@ module _ (s : EntryMap) where
               (record { started = λ m a. (closure.members m).1 (record { steps = 0; chain = (same m).1 a }); stepped = stepped }) n r,
         );
       }
-
-      pub not_too_large : length (keys_of pairs) ≤ 4096 → ¬ IsTooLarge s extra
-      not_too_large room = not_over name_cmp nat_list_cmp_total (IsSource s extra) (LeadsTo s) (keys_of pairs) 4096 universe_is room
 
     pub too_large : HasOver (Listed sources) Steps name_cmp 4096 → IsTooLarge s extra
     too_large v = record {

@@ -1,11 +1,13 @@
 -- What was found, with main names put in, is the load.
-use Rattle.std.proofs.Common.{◌≡◌, Bool, true, false, cond, if◌then◌else◌, not, Option, Some, None, Result, Ok, Err, ℕ, get_or, List, [], ◌∷◌, map, filter, IsTrue, refl, ap, sym, ◌∙◌, subst, inl, inr}
-use Rattle.std.specs.Prelude.{◌↔◌}
+use Rattle.std.proofs.Common.{◌≡◌, Bool, true, false, cond, if◌then◌else◌, not, Option, Some, None, Result, Ok, Err, ℕ, get_or, List, [], ◌∷◌, length, map, filter, IsTrue, refl, ap, sym, ◌∙◌, subst, inl, inr}
+use Rattle.std.specs.Prelude.{◌↔◌, ◌≤◌}
+use Rattle.std.specs.Cmp.Lexicographic.{nat_list_cmp_total}
 use Rattle.std.specs.FinMap.Entries.{find, is_sorted}
 use Rattle.std.specs.List.{cons_option}
 use Rattle.std.specs.Map.{keys_of}
 use Rattle.std.specs.Option.{option_and_then}
 use Rattle.std.specs.Result.{IfErr, IsErrAnd}
+use Rattle.std.proofs.lemmas.List.{length-map}
 use Rattle.std.proofs.lemmas.List.Elements.{All-nil, All-cons}
 use Rattle.list_laws.specs.Members.{IsAmong}
 use Rattle.edit_sums.specs.Sums.{EntryMap}
@@ -15,8 +17,9 @@ use Rattle.setting_rules.specs.Dependencies.{in_byte_order}
 use Rattle.fragment_choice.specs.Choices.{is_same}
 use Rattle.fragment_choice.specs.Resolutions.{main}
 use Rattle.fragment_choice.specs.ResolutionLaws.{mains_are_their_own}
-use Rattle.name_closure.specs.Chains.{IsClosure}
+use Rattle.name_closure.specs.Chains.{HasOver, IsClosure}
 use Rattle.name_closure.specs.ClosureLaws.{reached_closed}
+use Rattle.name_closure.specs.LimitLaws.{not_over}
 use Rattle.name_closure.specs.ListedLaws.{Listed}
 use Rattle.name_closure.specs.Loading.{AreLoaded, LeadsByLoad}
 use Rattle.unit_loads.specs.declared.units.Unit.{Unit as LoadedUnit}
@@ -32,12 +35,13 @@ use Rattle.parallel_load.specs.Refusals.{OnTooMany, refusal_by_workers, refusal_
 use Rattle.parallel_load.specs.declared.loaded.NameLoad.{NameLoad}
 use Rattle.parallel_load.specs.declared.loaded.NameLoad.TheVariants.{Unit as OfUnit, Alias as OfAlias}
 use Rattle.parallel_load.specs.Alone.{IsLoadAlone, named_in, names_in_lists}
+use Rattle.parallel_load.specs.Found.{IsFound}
 use Rattle.parallel_load.specs.Indexes.{key_at}
 use Rattle.parallel_load.specs.Loads.{IsLoad, IsNameLoad, LoadMap, by_mains, list_by_mains}
 use Rattle.parallel_load.specs.Settled.{AreNumbered, AreSettled, IsWhole, list_settled, load_settled, main_name, name_loads, other_mains, other_numbers, settled_name, unit_settled, unless_unit}
-use Rattle.parallel_load.specs.Universe.{AreUniverse, IsSource}
+use Rattle.parallel_load.specs.Universe.{AreUniverse, IsSource, IsTooLarge, LeadsTo}
 use Rattle.parallel_load.specs.UniverseLaws.{all_among, sorted_from}
-use Rattle.parallel_load.proofs.Closing.{universe_is}
+use Rattle.parallel_load.proofs.Closing.{step_leads, too_large, universe_is}
 use Rattle.parallel_load.proofs.Numbering.{numbered_keys, place_of, settled_keys}
 
 -- ---- the same names give the same lists
@@ -130,45 +134,77 @@ module _ (s : EntryMap) (found : List (Name × NameLoad)) (loaded : AreLoaded (I
 
 -- ---- the load
 
-module _ (s : EntryMap) (extra sources : List Name) (same : (n : Name) → IsAmong n sources ↔ IsSource s extra n) (found : List (Name × NameLoad))
-    (closure : IsClosure (Listed sources) (LeadsByLoad (IsLoadAlone s) named_in) name_cmp (keys_of found)) (loaded : AreLoaded (IsLoadAlone s) found) where
-  next : (n : Name) (one : NameLoad) (m : Name) → IsAmong {X = Name × NameLoad} (n, one) found → IsAmong m (named_in one) → (x : NameLoad) × IsAmong {X = Name × NameLoad} (m, x) found
+module _ (s : EntryMap) (extra : List Name) (found : List (Name × NameLoad)) (f : IsFound s extra found) where
+  next : (n : Name) (one : NameLoad) (m : Name) → IsAmong {X = Name × NameLoad} (n, one) found → IsAmong m (named_in one)
+      → (x : NameLoad) × IsAmong {X = Name × NameLoad} (m, x) found
   next n one m there h =
-      let p = all_among (λ (p : Name × NameLoad). IsLoadAlone s p.0 p.1) found (n, one) loaded there in
+      let p = all_among (λ (p : Name × NameLoad). IsLoadAlone s p.0 p.1) found (n, one) f.loaded there in
       let key = map_among (λ (p : Name × NameLoad). p.0) found (n, one) there in
-      let r = (closure.members m).1 ((reached_closed (Listed sources) (LeadsByLoad (IsLoadAlone s) named_in)).stepped n m ((closure.members n).0 key) (record { one = one; loaded = p; names = h })) in
+      let reached = (reached_closed (IsSource s extra) (LeadsTo s)).stepped n m ((f.universe.members n).0 key) (step_leads s n one m p h) in
+      let r = (f.universe.members m).1 reached in
       let q = among_map (λ (p : Name × NameLoad). p.0) found m r in
       (q.source.1, subst (λ (x : Name). IsAmong {X = Name × NameLoad} (x, q.source.1) found) q.makes q.there)
 
   -- what was found is whole
   pub whole_found : IsWhole found
-  whole_found = whole_from s found loaded next
+  whole_found = whole_from s found f.loaded next
 
   -- and is the load, with main names put in
   pub load_is : (load : LoadMap) → load.extra ≡ extra → AreSettled found load.names → IsLoad s extra load
   load_is load asked settled = record {
     extra_is = asked;
-    universe =
-        subst (AreUniverse s extra) (sym (ap (λ (ps : List (Name × NameLoad)). keys_of ps) settled.names_are ∙ settled_keys settled.mains found))
-        (universe_is s extra sources same found closure loaded);
+    universe = subst (AreUniverse s extra)
+        (sym (ap (λ (ps : List (Name × NameLoad)). keys_of ps) settled.names_are ∙ settled_keys settled.mains found)) f.universe;
     loaded = subst (AreLoaded (IsNameLoad s)) (sym settled.names_are)
-        (settled_loaded s found loaded (sorted_from found closure.rising) whole_found settled.mains settled.numbered);
+        (settled_loaded s found f.loaded (sorted_from found f.universe.rising) whole_found settled.mains settled.numbered);
   }
 
--- the refusal of a closure is told of the load
-pub refused_over : {T : Type 0} (r : Result T LoadFault) (f : LoadFault) (P : Type 0) → IsErrAnd r (λ e. e ≡ f) → OnTooMany f P → IfErr r (λ e. OnTooMany e P)
-refused_over (Ok x) f P h k = absurd h
-refused_over (Err e) f P h k = subst (λ (x : LoadFault). OnTooMany x P) (sym h) k
-
-pub over_here : (fault : ClosureFault) (P Q : Type 0) → (P → Q) → one_thread.OnTooMany fault P → OnTooMany (refusal_of fault) Q
-over_here TooMany P Q f h = f h
-over_here Memory P Q f h = tt
-
-pub over_there : (fault : WorkersFault) (P Q : Type 0) → (P → Q) → by_workers.OnTooMany fault P → OnTooMany (refusal_by_workers fault) Q
-over_there there.Workers P Q f h = tt
-over_there there.TooMany P Q f h = f h
-over_there there.Memory P Q f h = tt
+  -- which isn't too large
+  pub not_too_large : ¬ IsTooLarge s extra
+  not_too_large = not_over name_cmp nat_list_cmp_total (IsSource s extra) (LeadsTo s) (keys_of found) 4096 f.universe f.few
 
 -- what holds of two holds of their equals
-pub both : {A B : Type 0} (P : A → B → Type 0) (x y : A) (u v : B) → x ≡ y → u ≡ v → P x u → P y v
+both : {A B : Type 0} (P : A → B → Type 0) (x y : A) (u v : B) → x ≡ y → u ≡ v → P x u → P y v
 both P x y u v e f h = subst (λ b. P y b) f (subst (λ a. P a u) e h)
+
+-- ---- what a loader of the store finds from these names, which are the sources
+
+module _ (s index : EntryMap) (is : index ≡ s) (extra sources names : List Name)
+    (same : (n : Name) → IsAmong n sources ↔ IsSource s extra n) (named : names ≡ sources) where
+  pub found_from : (found : List (Name × NameLoad))
+      → IsClosure (Listed names) (LeadsByLoad (IsLoadAlone index) named_in) name_cmp (keys_of found)
+      → AreLoaded (IsLoadAlone index) found → length found ≤ 4096 → IsFound s extra found
+  found_from found closure loaded room =
+      let here = subst (λ (t : EntryMap). AreLoaded (IsLoadAlone t) found) is loaded in
+      record {
+        universe = universe_is s extra sources same found
+            (both (λ ns t. IsClosure (Listed ns) (LeadsByLoad (IsLoadAlone t) named_in) name_cmp (keys_of found))
+            names sources index s named is closure) here;
+        loaded = here;
+        few = subst (λ (k : ℕ). k ≤ 4096) (sym (length-map found (λ (p : Name × NameLoad). p.0))) room;
+      }
+
+  -- where there are too many, the universe is too large
+  over_from : HasOver (Listed names) (LeadsByLoad (IsLoadAlone index) named_in) name_cmp 4096 → IsTooLarge s extra
+  over_from over =
+      too_large s extra sources same
+      (both (λ ns t. HasOver (Listed ns) (LeadsByLoad (IsLoadAlone t) named_in) name_cmp 4096) names sources index s named is over)
+
+  pub over_here : (fault : ClosureFault)
+      → one_thread.OnTooMany fault (HasOver (Listed names) (LeadsByLoad (IsLoadAlone index) named_in) name_cmp 4096)
+      → OnTooMany (refusal_of fault) (IsTooLarge s extra)
+  over_here TooMany over = over_from over
+  over_here Memory over = tt
+
+  pub over_there : (fault : WorkersFault)
+      → by_workers.OnTooMany fault (HasOver (Listed names) (LeadsByLoad (IsLoadAlone index) named_in) name_cmp 4096)
+      → OnTooMany (refusal_by_workers fault) (IsTooLarge s extra)
+  over_there there.Workers over = tt
+  over_there there.TooMany over = over_from over
+  over_there there.Memory over = tt
+
+-- the refusal of a closure is told of the load
+pub refused_over : {T : Type 0} (r : Result T LoadFault) (f : LoadFault) (P : Type 0) → IsErrAnd r (λ e. e ≡ f) → OnTooMany f P
+    → IfErr r (λ e. OnTooMany e P)
+refused_over (Ok x) f P h k = absurd h
+refused_over (Err e) f P h k = subst (λ (x : LoadFault). OnTooMany x P) (sym h) k

@@ -1,5 +1,6 @@
 pub mod Alone
 pub mod AloneLaws
+pub mod Found
 pub mod Indexes
 pub mod KeyLaws
 pub mod LoadLaws

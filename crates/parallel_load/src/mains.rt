@@ -3,6 +3,7 @@ ghost use Rattle.std.specs.Prelude.{◌≡◌, ◌<◌, ◌++◌, ℕ, IfOk, IfS
 ghost use Rattle.std.specs.FinMap.{is_sorted};
 ghost use Rattle.std.specs.List.{flat_map};
 ghost use Rattle.unit_name.specs.Names.{name_cmp};
+ghost use Rattle.parallel_load.specs.Indexes.{key_at};
 ghost use Rattle.parallel_load.specs.Numbers.{name_of};
 ghost use Rattle.parallel_load.specs.Settled.{AreNumbered, IsMainNumber, dependency_of, list_numbers, list_settled, other_mains, other_number, other_numbers, settled_name};
 
@@ -69,6 +70,14 @@ impl Mains {
             }
             Err(_) => None,
         }
+    }
+
+    // The name that has a number.
+    fn name(&self, number: usize) -> &UnitName
+        requires within { number < length self.now }
+        ensures name { result.now ≡ key_at self.now number }
+    {
+        &self.names[number].0
     }
 
     /// Names with what they stand for, dependencies by main names and by numbers. It fails for want of memory alone.
@@ -173,7 +182,7 @@ impl Mains {
         for name in names {
             match self.other(unit, name) {
                 Some(number) => {
-                    same = same && self.names[number].0 == *name;
+                    same = same && *self.name(number) == *name;
                     deps.push(Dependency { kind, number })?;
                 }
                 None => same = false,
@@ -194,7 +203,7 @@ impl Mains {
         let mut mains = Vec::new(alloc);
         for name in names {
             if let Some(number) = self.other(unit, name) {
-                mains.push(self.names[number].0.try_clone()?)?;
+                mains.push(self.name(number).try_clone()?)?;
             }
         }
         Ok(mains)
