@@ -5,6 +5,7 @@ pub mod FamilyLaws
 pub mod JoinLaws
 pub mod KeyLaws
 pub mod Kinds
+pub mod Places
 pub mod Maps
 pub mod Notes
 pub mod OrderLaws

@@ -1,6 +1,9 @@
 //! The kinds of dependencies.
-ghost use Rattle.std.specs.Prelude.{◌≡◌};
-ghost use Rattle.setting_rules.specs.Kinds.{kinds, settable, inverse, word, settable_kind};
+ghost use Rattle.std.specs.Prelude.{◌≡◌, IsTrue};
+ghost use Rattle.std.specs.List.{slice_index_or};
+ghost use Rattle.setting_rules.specs.declared.kinds.DepKind.TheVariants.{Before};
+ghost use Rattle.setting_rules.specs.Kinds.{kinds, settable, is_settable, inverse, word, settable_kind};
+ghost use Rattle.setting_rules.specs.Places.{place};
 
 /// How one unit depends on another (systemd.unit(5), "Mapping of unit properties to their inverses"). Each kind stands
 /// before its inverse, which says the same of the two units the other way round.
@@ -76,6 +79,27 @@ impl DepKind {
         ensures kinds { result.now ≡ settable }
     {
         &SETTABLE
+    }
+
+    /// Its place among the kinds that a key of `[Unit]` sets; where none sets it, how many those are. It takes no memory.
+    pub fn place(self) -> usize
+        ensures place { result ≡ place self }
+        ensures kind { IsTrue (is_settable self) → slice_index_or settable result Before ≡ self }
+    {
+        match self {
+            DepKind::Before => 0,
+            DepKind::After => 1,
+            DepKind::Wants => 2,
+            DepKind::Requires => 3,
+            DepKind::Requisite => 4,
+            DepKind::BindsTo => 5,
+            DepKind::PartOf => 6,
+            DepKind::Conflicts => 7,
+            DepKind::OnFailure => 8,
+            DepKind::PropagatesReloadTo => 9,
+            DepKind::ReloadPropagatedFrom => 10,
+            _ => SETTABLE.len(),
+        }
     }
 
     /// The kind that says the same from the other unit.

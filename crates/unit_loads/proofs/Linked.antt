@@ -1,5 +1,5 @@
 -- Links added to the lists of words.
-use Rattle.std.proofs.Common.{◌≡◌, refl, ap, sym, ◌∙◌, List, [], ◌∷◌, ◌++◌, get_or, length, map, set, inl, inr}
+use Rattle.std.proofs.Common.{◌≡◌, ℕ, refl, ap, sym, ◌∙◌, List, [], ◌∷◌, ◌++◌, get_or, length, map, set, inl, inr}
 use Rattle.std.specs.Prelude.{◌⊎◌}
 use Rattle.std.specs.Cmp.Lexicographic.{nat_list_cmp_total}
 use Rattle.std.proofs.lemmas.List.{append-nil}
@@ -71,7 +71,7 @@ module _ (entries : SettingMap) (unit : Name) (links : LinkNames) where
 
   -- the lists of words, once the two of `Wants` and `Requires` have the names that links add
   module _ (lists : List DependencyList) (is : lists ≡ lists_of entries unit) (wants needs : DependencyList) (wanted required : List Name) where
-    pub lists_linked : wants ≡ get_or lists 2 wants → wanted ≡ with_linked wants.names (linked_by unit links.wanted) → needs ≡ get_or (set lists 2 (record wants { names = wanted })) 3 needs → required ≡ with_linked needs.names (linked_by unit links.required) → set (set lists 2 (record wants { names = wanted })) 3 (record needs { names = required }) ≡ lists_with entries unit links
+    lists_linked : wants ≡ get_or lists 2 wants → wanted ≡ with_linked wants.names (linked_by unit links.wanted) → needs ≡ get_or (set lists 2 (record wants { names = wanted })) 3 needs → required ≡ with_linked needs.names (linked_by unit links.required) → set (set lists 2 (record wants { names = wanted })) 3 (record needs { names = required }) ≡ lists_with entries unit links
     unfolding lists_of added
     lists_linked third wants_all fourth needs_all =
         ap (λ (l : DependencyList). set (set lists 2 (record wants { names = wanted })) 3 l) needs_added
@@ -85,3 +85,9 @@ module _ (entries : SettingMap) (unit : Name) (links : LinkNames) where
 
         needs_added : (record needs { names = required }) ≡ added Requires
         needs_added = one_list Requires needs required (fourth ∙ ap (λ ls. get_or ls 3 needs) wants_set) needs_all
+
+    -- the same where the places of the two are told
+    pub lists_linked_at : (i j : ℕ) → i ≡ 2 → j ≡ 3 → wants ≡ get_or lists i wants → wanted ≡ with_linked wants.names (linked_by unit links.wanted) → needs ≡ get_or (set lists i (record wants { names = wanted })) j needs → required ≡ with_linked needs.names (linked_by unit links.required) → set (set lists i (record wants { names = wanted })) j (record needs { names = required }) ≡ lists_with entries unit links
+    lists_linked_at i j e f third wants_all fourth needs_all =
+        (λ k. set (set lists (e k) (record wants { names = wanted })) (f k) (record needs { names = required }))
+        ∙ lists_linked (third ∙ ap (λ n. get_or lists n wants) e) wants_all (fourth ∙ (λ k. get_or (set lists (e k) (record wants { names = wanted })) (f k) needs)) needs_all

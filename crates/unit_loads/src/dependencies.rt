@@ -16,12 +16,6 @@ use std::alloc::{AllocError, Global};
 use std::mem;
 use unit_name::UnitName;
 
-// The place of `Wants` among the kinds that a unit file may set: with another `named_units` isn't proved.
-const WANTS: usize = 2;
-
-// The place of `Requires` among them.
-const REQUIRES: usize = 3;
-
 /// The units that a unit names by the words of its settings and by its links, and notes on words and then on links, those
 /// in `.wants` first. It fails for want of memory alone, and copies no link's name.
 pub(crate) fn named_units(
@@ -36,9 +30,9 @@ pub(crate) fn named_units(
     let Dependencies { lists, mut notes } = dependencies(alloc, settings, unit)?;
     let LinkNames { wanted, required } = links;
     let mut lists = lists.into_vec();
-    let wants = &mut lists[WANTS].names;
+    let wants = &mut lists[DepKind::Wants.place()].names;
     add_links(alloc, unit, DepKind::Wants, wanted, wants, &mut notes)?;
-    let needs = &mut lists[REQUIRES].names;
+    let needs = &mut lists[DepKind::Requires.place()].names;
     add_links(alloc, unit, DepKind::Requires, required, needs, &mut notes)?;
     Ok(Dependencies {
         lists: Items::from_vec(lists),
