@@ -133,6 +133,10 @@ module _ (n o : Name) (lawful : IsName n) (of : template_of n ≡ Some o) where
       let w = along s m levels h in
       record { target = w.target; own = w.said; template = w.template }
 
+-- a name's own links lead it
+pub own_leads : (s : EntryMap) (n m : Name) → own_choice s n n ≡ Some (Alias m) → Leads s n m
+own_leads s n m h = ap (λ c. unwrap_or (option_or c (option_and_then (own_choice s n) (template_of n))) NotFound) h
+
 -- what leads n to m
 pub leads_by : (s : EntryMap) (n m : Name) → IsName n → Leads s n m → (own_choice s n n ≡ Some (Alias m)) ⊎ ((o : Name) × (template_of n ≡ Some o) × LeadsTemplate s o m)
 leads_by s n m lawful h = by_own (own_choice s n n) refl h

@@ -1,5 +1,6 @@
 -- The names of a unit, level by level: those that so many aliases lead to it.
-use Rattle.std.proofs.Common.{◌≡◌, ℕ, zero, suc, ◌<◌, ◌≤◌, Some, None, List, [], ◌∷◌, ◌++◌, take, get_or, length, refl, ap, sym, ◌∙◌, subst, arith, ◌⊎◌, inl, inr}
+use Rattle.std.proofs.Common.{◌≡◌, ◌≢◌, ℕ, zero, suc, ◌<◌, ◌≤◌, Bool, true, false, Some, None, List, [], ◌∷◌, ◌++◌, take, get_or, length, refl, ap, sym, ◌∙◌, subst, arith, ◌⊎◌, inl, inr}
+use Rattle.std.specs.Prelude.{◌↔◌, IsTrue}
 use Rattle.std.specs.BTreeSet.{insert_key}
 use Rattle.std.specs.List.Sorted.{IsStrictlySortedBy}
 use Rattle.std.proofs.lemmas.List.{take_all}
@@ -9,20 +10,21 @@ use Rattle.list_laws.specs.Members.{IsAmong, IsAmong-append_cases, IsAmong-appen
 use Rattle.edit_sums.specs.Sums.{EntryMap}
 use Rattle.unit_name.specs.Names.{Name, name_cmp, IsName, instance}
 use Rattle.unit_name.specs.Forms.{template_of, with_instance}
-use Rattle.unit_name.specs.NameLaws.{name_cmp-IsAntisymmetric, templates_keep_parts}
-use Rattle.fragment_choice.specs.declared.choices.Choice.TheVariants.{Alias}
+use Rattle.unit_name.specs.NameLaws.{instances_have_the_template, name_cmp-IsAntisymmetric, name_eq-Decides, templates_keep_parts}
+use Rattle.fragment_choice.specs.declared.choices.Choice.{Choice}
+use Rattle.fragment_choice.specs.declared.choices.Choice.TheVariants.{NotFound, Masked, Fragment, Alias, Bad}
 use Rattle.fragment_choice.specs.declared.resolutions.Resolution.{Resolution}
-use Rattle.fragment_choice.specs.Choices.{choice, own_choice}
+use Rattle.fragment_choice.specs.Choices.{choice, is_same, own_choice}
 use Rattle.fragment_choice.specs.Resolutions.{Chain, IsEnd, Leads, Resolves, resolution}
 use Rattle.fragment_choice.specs.Resolutions.Chain.{here, step}
 use Rattle.fragment_choice.specs.Resolutions.Resolves.{ends_at, goes_on}
 use Rattle.fragment_choice.specs.ResolutionLaws.{following_finds_the_end, resolution_resolves}
 use Rattle.fragment_choice.specs.LikenessLaws.{aliases_are_alike}
+use Rattle.fragment_choice.specs.LinkLaws.{alias_same}
 use Rattle.fragment_choice.specs.UnitNames.{IsOtherName, AreNames}
-use Rattle.fragment_choice.specs.LinkedNames.{Gathers}
-use Rattle.fragment_choice.specs.Indexes.{AreOwners, IsAny, LeadsToAny, IsInstanceOfAny, Adds}
-use Rattle.fragment_choice.proofs.Gathering.{gathers_then, gathers_of, linked_instance}
-use Rattle.fragment_choice.proofs.Leads.{LeadsTemplate, leads_by}
+use Rattle.fragment_choice.specs.Indexes.{Adds, AreBehind, AreOwners, Gathers, IsAny, IsLeadingInstance, IsLeadingInstanceOfAny, LeadsToAny, is_alias}
+use Rattle.fragment_choice.proofs.Gathering.{gathers_all, gathers_none, gathers_of, gathers_put, gathers_then, linked_instance}
+use Rattle.fragment_choice.proofs.Leads.{LeadsTemplate, leads_by, own_leads}
 
 -- one more of a list
 pub any_next : {A : Type 0} (R : A → Name → Type 0) (xs : List A) (i : ℕ) (d : A) (n : Name) → i < length xs → IsAny R (take (suc i) xs) n → IsAny R (take i xs) n ⊎ R (get_or xs i d) n
@@ -42,50 +44,99 @@ any_there R [] m n h r = absurd h
 any_there R (x ∷ ms) m n (inl e) r = inl (subst (λ y. R y n) (sym e) r)
 any_there R (x ∷ ms) m n (inr h) r = inr (any_there R ms m n h r)
 
--- those that are one of them
-pub any_same : (ms : List Name) (n : Name) → IsAmong n ms → IsAny (λ m k. k ≡ m) ms n
-any_same ms n h = any_there (λ m k. k ≡ m) ms n n h refl
+-- one that has the name
+pub any_from : (R : Name → Name → Type 0) (ms : List Name) (n : Name) → IsAny R ms n → (m : Name) × IsAmong m ms × R m n
+any_from R [] n h = absurd h
+any_from R (x ∷ ms) n (inl r) = (x, inl refl, r)
+any_from R (x ∷ ms) n (inr h) = let w = any_from R ms n h in (w.0, inr w.1, w.2)
+
+-- the first of them, and one more, are the first of one more
+next_any : {A : Type 0} (R : A → Name → Type 0) (xs : List A) (i : ℕ) (d : A) (n : Name) → i < length xs → IsAny R (take i xs) n ⊎ R (get_or xs i d) n → IsAny R (take (suc i) xs) n
+next_any R [] i d n lt h = absurd (omega arith)
+next_any R (x ∷ xs) zero d n lt (inl a) = absurd a
+next_any R (x ∷ xs) zero d n lt (inr a) = inl a
+next_any {A = A} R (x ∷ xs) (suc i) d n lt (inl (inl a)) = inl a
+next_any {A = A} R (x ∷ xs) (suc i) d n lt (inl (inr a)) = inr (next_any R xs i d n (omega arith) (inl a))
+next_any {A = A} R (x ∷ xs) (suc i) d n lt (inr a) = inr (next_any R xs i d n (omega arith) (inr a))
+
+-- a loop over names: one more was passed, and all were
+pub gathers_more : (R : Name → Name → Type 0) (ms : List Name) (i next : ℕ) (d x : Name) (old mid new : List Name) → i < length ms → next ≡ suc i → x ≡ get_or ms i d
+    → Gathers (IsAny R (take i ms)) old mid → Gathers (R x) mid new → Gathers (IsAny R (take next ms)) old new
+gathers_more R ms i next d x old mid new lt e f g h =
+    gathers_then (IsAny R (take i ms)) (R x) (IsAny R (take next ms)) old mid new g h (λ n _ l. there n (any_next R ms i d n lt (subst (λ y. IsAny R (take y ms) n) e l)))
+    (λ n _ l. subst (λ y. IsAny R (take y ms) n) (sym e) (next_any R ms i d n lt (back n l)))
+  where
+    there : (n : Name) → IsAny R (take i ms) n ⊎ R (get_or ms i d) n → IsAny R (take i ms) n ⊎ R x n
+    there n (inl a) = inl a
+    there n (inr a) = inr (subst (λ y. R y n) (sym f) a)
+
+    back : (n : Name) → IsAny R (take i ms) n ⊎ R x n → IsAny R (take i ms) n ⊎ R (get_or ms i d) n
+    back n (inl a) = inl a
+    back n (inr a) = inr (subst (λ y. R y n) f a)
+
+pub gathers_each : (R : Name → Name → Type 0) (ms : List Name) (i : ℕ) (old new : List Name) → length ms ≤ i → Gathers (IsAny R (take i ms)) old new → Gathers (IsAny R ms) old new
+gathers_each R ms i old new le g = subst (λ (xs : List Name). Gathers (IsAny R xs) old new) (take_all i ms le) g
+
+module _ (s : EntryMap) (m : Name) where
+  -- what leads to a name without a template is among those whose own links do
+  pub behind_name : (owners old new : List Name) → AreOwners s m owners → template_of m ≡ None → Adds owners old new → Gathers (λ n. Leads s n m) old new
+  behind_name owners old new own e g =
+      gathers_of (λ n. IsAmong n owners) (λ n. Leads s n m) old new (gathers_all owners old new own.lawful g) (λ n lawful l. by n lawful (leads_by s n m lawful l)) (λ n _ a. own_leads s n m (own.sound n a))
+    where
+      by : (n : Name) → IsName n → (own_choice s n n ≡ Some (Alias m)) ⊎ ((o : Name) × (template_of n ≡ Some o) × LeadsTemplate s o m) → IsAmong n owners
+      by n lawful (inl said) = own.there n lawful said
+      by n lawful (inr (o, of, l)) = absurd (none-some _ (sym e ∙ l.template))
+
+  -- what leads to an instance is among these, or an instance of a template whose own links lead to its template
+  pub behind_instance : (o : Name) (owners templates old mid new : List Name) → AreOwners s m owners → AreOwners s o templates → template_of m ≡ Some o
+      → Adds owners old mid → Gathers (IsLeadingInstanceOfAny s m templates) mid new → Gathers (λ n. Leads s n m) old new
+  behind_instance o owners templates old mid new own of_template e g h =
+      gathers_then (λ n. IsAmong n owners) (IsLeadingInstanceOfAny s m templates) (λ n. Leads s n m) old mid new (gathers_all owners old mid own.lawful g) h
+      (λ n lawful l. there n lawful l (leads_by s n m lawful l)) (λ n _ l. back n l)
+    where
+      there : (n : Name) → IsName n → Leads s n m → (own_choice s n n ≡ Some (Alias m)) ⊎ ((p : Name) × (template_of n ≡ Some p) × LeadsTemplate s p m) → IsAmong n owners ⊎ IsLeadingInstanceOfAny s m templates n
+      there n good leads (inl said) = inl (own.there n good said)
+      there n good leads (inr (p, of, l)) =
+          let lawful : IsName p = (templates_keep_parts n p good of).2.name in
+          let same : l.target ≡ o = same_Some _ _ (sym l.template ∙ e) in
+          let among : IsAmong p templates = of_template.there p lawful (l.own ∙ ap (λ x. Some (Alias x)) same) in
+          inr (any_there (IsLeadingInstance s m) templates p n among (record { made = linked_instance s p n m lawful good of leads; leads = leads }))
+
+      back : (n : Name) → IsAmong n owners ⊎ IsLeadingInstanceOfAny s m templates n → Leads s n m
+      back n (inl a) = own_leads s n m (own.sound n a)
+      back n (inr a) = let w = any_from (IsLeadingInstance s m) templates n a in w.2.leads
+
+  -- a template's name with the instance of m, where it is an alias of m
+  pub gathers_instance : (t k : Name) (old new : List Name) → IsName t → Some k ≡ with_instance t (instance m) → Leads s k m → new ≡ insert_key name_cmp old k → Gathers (IsLeadingInstance s m t) old new
+  gathers_instance t k old new lawful e l put =
+      gathers_put (IsLeadingInstance s m t) k old new ((instances_have_the_template t (instance m) k lawful).0 (sym e)).0 (record { made = sym e; leads = l }) (λ n p. same_Some _ _ (e ∙ p.made)) put
+
+  pub leads_elsewhere : (t k : Name) (old : List Name) → Some k ≡ with_instance t (instance m) → (Leads s k m → ⊥) → Gathers (IsLeadingInstance s m t) old old
+  leads_elsewhere t k old e other = gathers_none (IsLeadingInstance s m t) old (λ n p. other (subst (λ x. Leads s x m) (sym (same_Some _ _ (e ∙ p.made))) p.leads))
+
+  -- an alias of a is one of m just where these are the same
+  pub leads_if : (n a : Name) (b : Bool) → b ≡ is_same a m → Alias a ≡ choice s n → IsTrue b ↔ Leads s n m
+  leads_if n a b e is = (λ h. sym is ∙ ap (λ x. Alias x) ((name_eq-Decides a m).0 (sym e ∙ h)), λ l. e ∙ (name_eq-Decides a m).1 (alias_same a m (is ∙ l)))
 
 no_step : (s : EntryMap) (n u : Name) → Chain s 0 n u → n ≡ u
 no_step s n u (here _) = refl
 
+-- where no alias stands, there is none
+pub no_alias_ends : (c : Choice) → is_alias c ≡ false → IsEnd c
+no_alias_ends NotFound h = tt
+no_alias_ends Masked h = tt
+no_alias_ends (Fragment p) h = tt
+no_alias_ends (Alias m) h = cc (h)
+no_alias_ends (Bad x) h = tt
+
+alias_ends_not : (c : Choice) → is_alias c ≡ true → IsEnd c → ⊥
+alias_ends_not NotFound h e = cc (h)
+alias_ends_not Masked h e = cc (h)
+alias_ends_not (Fragment p) h e = cc (h)
+alias_ends_not (Alias m) h e = absurd e
+alias_ends_not (Bad x) h e = cc (h)
+
 module _ (s : EntryMap) (u : Name) where
-  -- a loop over names: one more was passed, and all were
-  pub gathers_more : (R : Name → Name → Type 0) (ms : List Name) (i next : ℕ) (d x : Name) (old mid new : List Name) → i < length ms → next ≡ suc i → x ≡ get_or ms i d
-      → Gathers s u (IsAny R (take i ms)) old mid → Gathers s u (R x) mid new → Gathers s u (IsAny R (take next ms)) old new
-  gathers_more R ms i next d x old mid new lt e f g h =
-      gathers_then s u (IsAny R (take i ms)) (R x) (IsAny R (take next ms)) old mid new g h (λ n l k. by n (any_next R ms i d n lt (subst (λ y. IsAny R (take y ms) n) e l)))
-    where
-      by : (n : Name) → IsAny R (take i ms) n ⊎ R (get_or ms i d) n → IsAny R (take i ms) n ⊎ R x n
-      by n (inl a) = inl a
-      by n (inr a) = inr (subst (λ y. R y n) (sym f) a)
-
-  pub gathers_each : (R : Name → Name → Type 0) (ms : List Name) (i : ℕ) (old new : List Name) → length ms ≤ i → Gathers s u (IsAny R (take i ms)) old new → Gathers s u (IsAny R ms) old new
-  gathers_each R ms i old new le g = gathers_of s u (IsAny R (take i ms)) (IsAny R ms) old new g (λ n l k. subst (λ x. IsAny R x n) (sym (take_all i ms le)) l)
-
-  -- what leads to a name without a template is among those whose own links do
-  pub behind_name : (m : Name) (owners old new : List Name) → AreOwners s m owners → template_of m ≡ None → Gathers s u (λ n. IsAmong n owners) old new → Gathers s u (λ n. Leads s n m) old new
-  behind_name m owners old new own e g =
-      gathers_of s u (λ n. IsAmong n owners) (λ n. Leads s n m) old new g (λ n l k. by n k (leads_by s n m k.name l))
-    where
-      by : (n : Name) → IsOtherName s u n → (own_choice s n n ≡ Some (Alias m)) ⊎ ((o : Name) × (template_of n ≡ Some o) × LeadsTemplate s o m) → IsAmong n owners
-      by n k (inl said) = own.there n k.name said
-      by n k (inr (o, of, l)) = absurd (none-some _ (sym e ∙ l.template))
-
-  -- what leads to an instance is among these, or an instance of a template whose own links lead to its template
-  pub behind_instance : (m o : Name) (owners templates old mid new : List Name) → AreOwners s m owners → AreOwners s o templates → template_of m ≡ Some o
-      → Gathers s u (λ n. IsAmong n owners) old mid → Gathers s u (IsInstanceOfAny (instance u) templates) mid new → Gathers s u (λ n. Leads s n m) old new
-  behind_instance m o owners templates old mid new own of_template e g h =
-      gathers_then s u (λ n. IsAmong n owners) (IsInstanceOfAny (instance u) templates) (λ n. Leads s n m) old mid new g h (λ n l k. by n k (leads_by s n m k.name l))
-    where
-      by : (n : Name) → IsOtherName s u n → (own_choice s n n ≡ Some (Alias m)) ⊎ ((p : Name) × (template_of n ≡ Some p) × LeadsTemplate s p m) → IsAmong n owners ⊎ IsInstanceOfAny (instance u) templates n
-      by n k (inl said) = inl (own.there n k.name said)
-      by n k (inr (p, of, l)) =
-          let lawful : IsName p = (templates_keep_parts n p k.name of).2.name in
-          let same : l.target ≡ o = same_Some _ _ (sym l.template ∙ e) in
-          let there : IsAmong p templates = of_template.there p lawful (l.own ∙ ap (λ x. Some (Alias x)) same) in
-          inr (any_there (λ t x. with_instance t (instance u) ≡ Some x) templates p n there (linked_instance s u p n lawful of k))
-
   -- the unit, where no alias stands, is the end of the chains of its other names
   record EndsHere (n : Name) : Type 0 where
     long : ℕ
@@ -105,73 +156,117 @@ module _ (s : EntryMap) (u : Name) where
       by r (ends_at d v le c e) q = first d le (subst (Chain s d n) q c) (subst (λ x. IsEnd (choice s x)) q e)
       by r (goes_on v c) q = absurd (k.other q)
 
-  -- a name with a chain to the unit is another of its names
-  other_by : (n m : Name) (d : ℕ) → suc d ≤ 8 → IsName n → Leads s n m → Chain s d m u → IsEnd (choice s u) → IsOtherName s u n
-  other_by n m d le lawful l c e = record {
-    other = λ q. subst IsEnd (sym (ap (choice s) q) ∙ l) e;
+  -- an alias is no end
+  leads_no_end : (n m v : Name) → Leads s n m → n ≡ v → IsEnd (choice s v) → ⊥
+  leads_no_end n m v l q e = subst IsEnd (sym (ap (choice s) q) ∙ l) e
+
+  first_leads : (n : Name) (d : ℕ) → 0 < d → Chain s d n u → IsEnd (choice s u) → n ≢ u
+  first_leads n d some (here _) e q = absurd (omega arith)
+  first_leads n d some (step _ m _ k l rest) e q = leads_no_end n m u l q e
+
+  -- a name with a chain to the unit, where no alias stands, is another of its names
+  other_by : (n : Name) (d : ℕ) → 0 < d → d ≤ 8 → IsName n → Chain s d n u → IsEnd (choice s u) → IsOtherName s u n
+  other_by n d some le lawful c e = record {
+    other = first_leads n d some c e;
     name = lawful;
-    main_is = ap (λ r. r.main) ((following_finds_the_end s n (record { main = u; choice = choice s u })).0 (ends_at (suc d) u le (step n m u d l c) e));
+    main_is = ap (λ r. r.main) ((following_finds_the_end s n (record { main = u; choice = choice s u })).0 (ends_at d u le c e));
   }
 
-  -- so many aliases lead the names of a level to the unit
+  -- just the unit names, and maybe the unit, that so many aliases lead to the unit
   pub record IsLevel (d : ℕ) (level : List Name) : Type 0 where
-    pub there : (n : Name) → IsName n → Chain s d n u → IsEnd (choice s u) → IsAmong n level
-
-  -- the others that were found up to a level
-  pub record AreFound (d : ℕ) (others : List Name) : Type 0 where
-    pub sound : (n : Name) → IsAmong n others → IsOtherName s u n
-    pub found : (n : Name) (k : ℕ) → 0 < k → k ≤ d → IsName n → Chain s k n u → IsEnd (choice s u) → IsAmong n others
+    pub sound : (n : Name) → IsAmong n level → Chain s d n u
+    pub there : (n : Name) → IsName n → Chain s d n u → IsAmong n level
 
   -- at first the unit alone, and no others
   pub first_level : (level : List Name) → level ≡ u ∷ [] → IsLevel 0 level
-  first_level level e = record { there = λ n lawful c ends. subst (IsAmong n) (sym e) (inl (sym (no_step s n u c))) }
+  first_level level e = record { sound = λ n h. by n (subst (IsAmong n) e h); there = λ n lawful c. subst (IsAmong n) (sym e) (inl (sym (no_step s n u c))) }
+    where
+      by : (n : Name) → IsAmong n (u ∷ []) → Chain s 0 n u
+      by n (inl q) = subst (λ x. Chain s 0 x u) q (here u)
+      by n (inr a) = absurd a
 
-  pub none_found : (others : List Name) → others ≡ [] → AreFound 0 others
-  none_found others e = record { sound = λ n h. absurd (subst (IsAmong n) e h); found = λ n k some le lawful c ends. absurd (omega arith) }
+  pub none_behind : (others : List Name) → others ≡ [] → AreBehind s u 0 others
+  none_behind others e = record {
+    lawful = λ n h. absurd (subst (IsAmong n) e h);
+    sound = λ n h. absurd (subst (IsAmong n) e h);
+    found = λ n k some le lawful c. absurd (omega arith);
+  }
 
   -- one level more
-  pub next_level : (d e : ℕ) (level next : List Name) → e ≡ suc d → e ≤ 8 → IsLevel d level → Gathers s u (LeadsToAny s level) [] next → IsLevel e next
-  next_level d e level next q le h g = record { there = λ n lawful c ends. by n lawful (subst (λ x. Chain s x n u) q c) ends }
+  pub next_level : (d e : ℕ) (level next : List Name) → e ≡ suc d → IsLevel d level → Gathers (LeadsToAny s level) [] next → IsLevel e next
+  next_level d e level next q h g = record { sound = λ n a. back n (g.sound n a); there = λ n lawful c. by n lawful (subst (λ x. Chain s x n u) q c) }
     where
-      by : (n : Name) → IsName n → Chain s (suc d) n u → IsEnd (choice s u) → IsAmong n next
-      by n lawful (step _ m _ _ l rest) ends =
-          g.found n (any_there (λ x k. Leads s k x) level m n (h.there m (aliases_are_alike s n m lawful l).name rest ends) l) (other_by n m d (omega arith) lawful l rest ends)
+      by : (n : Name) → IsName n → Chain s (suc d) n u → IsAmong n next
+      by n lawful (step _ m _ _ l rest) = g.found n lawful (any_there (λ x k. Leads s k x) level m n (h.there m (aliases_are_alike s n m lawful l).name rest) l)
 
-  pub more_found : (d e : ℕ) (level next old new : List Name) → e ≡ suc d → Gathers s u (LeadsToAny s level) [] next → IsLevel e next → Adds next old new → AreFound d old → AreFound e new
-  more_found d e level next old new q g h add f = record {
+      back : (n : Name) → IsAmong n [] ⊎ (IsName n × LeadsToAny s level n) → Chain s e n u
+      back n (inl a) = absurd a
+      back n (inr a) =
+          let w = any_from (λ x k. Leads s k x) level n a.1 in
+          subst (λ x. Chain s x n u) (sym q) (step n w.0 u d w.2 (h.sound w.0 w.1))
+
+  pub more_behind : (d e : ℕ) (level next old new : List Name) → e ≡ suc d → Gathers (LeadsToAny s level) [] next → IsLevel e next → Adds next old new → AreBehind s u d old → AreBehind s u e new
+  more_behind d e level next old new q g h add f = record {
+    lawful = λ n a. lawful_by n (add.sound n a);
     sound = λ n a. sound_by n (add.sound n a);
-    found = λ n k some le lawful c ends. found_by n k some le lawful c ends;
+    found = λ n k some le lawful c. found_by n k some le lawful c;
   }
     where
-      gathered : (n : Name) → IsAmong n [] ⊎ IsOtherName s u n → IsOtherName s u n
+      gathered : (n : Name) → IsAmong n [] ⊎ (IsName n × LeadsToAny s level n) → IsName n
       gathered n (inl a) = absurd a
-      gathered n (inr k) = k
+      gathered n (inr a) = a.0
 
-      sound_by : (n : Name) → IsAmong n old ⊎ IsAmong n next → IsOtherName s u n
-      sound_by n (inl a) = f.sound n a
-      sound_by n (inr a) = gathered n (g.sound n a)
+      lawful_by : (n : Name) → IsAmong n old ⊎ IsAmong n next → IsName n
+      lawful_by n (inl a) = f.lawful n a
+      lawful_by n (inr a) = gathered n (g.sound n a)
 
-      found_by : (n : Name) (k : ℕ) → 0 < k → k ≤ e → IsName n → Chain s k n u → IsEnd (choice s u) → IsAmong n new
-      found_by n k some le lawful c ends = first_of_two (at_most k d e le q)
+      sound_by : (n : Name) → IsAmong n old ⊎ IsAmong n next → (k : ℕ) × (0 < k) × (k ≤ e) × Chain s k n u
+      sound_by n (inl a) = let w = f.sound n a in (w.0, w.1, (let le = w.2 in omega arith), w.3)
+      sound_by n (inr a) = (e, omega arith, omega arith, h.sound n a)
+
+      found_by : (n : Name) (k : ℕ) → 0 < k → k ≤ e → IsName n → Chain s k n u → IsAmong n new
+      found_by n k some le lawful c = first_of_two (at_most k d e le q)
         where
           at_most : (k d e : ℕ) → k ≤ e → e ≡ suc d → (k ≤ d) ⊎ (k ≡ e)
           at_most k d e le q = grind arith
 
           first_of_two : (k ≤ d) ⊎ (k ≡ e) → IsAmong n new
-          first_of_two (inl below) = add.kept n (f.found n k some below lawful c ends)
-          first_of_two (inr same) = add.there n (h.there n lawful (subst (λ x. Chain s x n u) same c) ends)
+          first_of_two (inl below) = add.kept n (f.found n k some below lawful c)
+          first_of_two (inr same) = add.there n (h.there n lawful (subst (λ x. Chain s x n u) same c))
 
-  -- what was found up to the eighth level are all other names
-  pub all_found : (d : ℕ) (names others : List Name) → 8 ≤ d → AreFound d others → names ≡ u ∷ others → IsStrictlySortedBy name_cmp others → AreNames s u names
-  all_found d names others le f e rising = record {
+  pub all_behind : (d : ℕ) (others : List Name) → 8 ≤ d → d ≤ 8 → AreBehind s u d others → AreBehind s u 8 others
+  all_behind d others le ge f = subst (λ (x : ℕ). AreBehind s u x others) (omega arith) f
+
+  -- where no alias stands at the unit, all that eight aliases at most lead to it are its other names
+  pub all_names : (names others : List Name) → AreBehind s u 8 others → is_alias (choice s u) ≡ false → names ≡ u ∷ others → IsStrictlySortedBy name_cmp others → AreNames s u names
+  all_names names others f none e rising = record {
     others = others;
     first = e;
     rising = rising;
-    exact = λ n. (f.sound n, λ k. by n k (ends_here n k));
+    exact = λ n. (λ a. let w = f.sound n a in other_by n w.0 w.1 w.2 (f.lawful n a) w.3 (no_alias_ends (choice s u) none), λ k. by n k (ends_here n k));
   }
     where
       by : (n : Name) → IsOtherName s u n → EndsHere n → IsAmong n others
-      by n k w = f.found n w.long w.some (omega (arith, w.short)) k.name w.chain w.ends
+      by n k w = f.found n w.long w.some w.short k.name w.chain
+
+  lone : (names : List Name) → ((n : Name) → IsOtherName s u n → ⊥) → names ≡ u ∷ [] → AreNames s u names
+  unfolding IsStrictlySortedBy
+  lone names none e = record { others = []; first = e; rising = tt; exact = λ n. (λ a. absurd a, λ k. none n k) }
+
+  -- where nothing leads to the unit it has no other name
+  pub unled : (names others : List Name) → AreBehind s u 8 others → length others ≡ 0 → names ≡ u ∷ [] → AreNames s u names
+  unled names others f none e = lone names (λ n k. by n k (ends_here n k)) e
+    where
+      nothing : (xs : List Name) (n : Name) → length xs ≡ 0 → IsAmong n xs → ⊥
+      nothing [] n q a = a
+      nothing (x ∷ xs) n q a = absurd (omega arith)
+
+      by : (n : Name) → IsOtherName s u n → EndsHere n → ⊥
+      by n k w = nothing others n none (f.found n w.long w.some w.short k.name w.chain)
+
+  -- nor where an alias stands at it
+  pub endless : (names : List Name) → is_alias (choice s u) ≡ true → names ≡ u ∷ [] → AreNames s u names
+  endless names is e = lone names (λ n k. let w = ends_here n k in alias_ends_not (choice s u) is w.ends) e
 
 -- a loop over names that adds each
 pub adds_none : (added old : List Name) → added ≡ [] → Adds added old old

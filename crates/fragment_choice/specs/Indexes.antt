@@ -1,6 +1,6 @@
 -- The links of a store by the names that they lead to: words for private clauses.
 -- Source: this project's own.
-use Rattle.std.specs.Prelude.{◌≡◌, ℕ, Option, Some, None, List, [], ◌∷◌, ◌⊎◌, IsTrue, unwrap_or}
+use Rattle.std.specs.Prelude.{◌≡◌, ℕ, ◌<◌, ◌≤◌, Bool, true, false, Option, Some, None, List, [], ◌∷◌, ◌⊎◌, IsTrue, unwrap_or}
 use Rattle.std.specs.Option.{option_and_then}
 use Rattle.std.specs.BTreeMap.{BTreeMap, get}
 use Rattle.std.specs.Global.{Vec}
@@ -9,12 +9,12 @@ use Rattle.edit_sums.specs.Entries.{Entry}
 use Rattle.edit_sums.specs.Sums.{EntryMap, shown, visible_at}
 use Rattle.load_path.specs.Paths.{PathParts}
 use Rattle.load_path.specs.Levels.{IsLevel}
-use Rattle.unit_name.specs.Names.{Name, name_cmp, IsName}
+use Rattle.unit_name.specs.Names.{Name, name_cmp, IsName, instance}
 use Rattle.unit_name.specs.Forms.{template_of, with_instance}
 use Rattle.fragment_choice.specs.declared.choices.Choice.{Choice}
-use Rattle.fragment_choice.specs.declared.choices.Choice.TheVariants.{Alias, NotFound}
+use Rattle.fragment_choice.specs.declared.choices.Choice.TheVariants.{NotFound, Masked, Fragment, Alias, Bad}
 use Rattle.fragment_choice.specs.Choices.{own_path, own_choice}
-use Rattle.fragment_choice.specs.Resolutions.{Leads}
+use Rattle.fragment_choice.specs.Resolutions.{Chain, Leads}
 use Rattle.fragment_choice.specs.LinkedNames.{is_link}
 
 -- the names in a list, if there is one
@@ -54,9 +54,21 @@ IsAny R (x ∷ xs) n = R x n ⊎ IsAny R xs n
 abbrev pub LeadsToAny : EntryMap → List Name → Name → Type 0
 LeadsToAny s ms n = IsAny (λ m k. Leads s k m) ms n
 
--- n is one of these templates with the instance i
-abbrev pub IsInstanceOfAny : List ℕ → List Name → Name → Type 0
-IsInstanceOfAny i ts n = IsAny (λ t k. with_instance t i ≡ Some k) ts n
+-- n is the template t with the instance of m, and an alias of m
+pub record IsLeadingInstance (s : EntryMap) (m t n : Name) : Type 0 where
+  pub made : with_instance t (instance m) ≡ Some n
+  pub leads : Leads s n m
+
+-- the same of one of these templates
+abbrev pub IsLeadingInstanceOfAny : EntryMap → Name → List Name → Name → Type 0
+IsLeadingInstanceOfAny s m ts n = IsAny (IsLeadingInstance s m) ts n
+
+abbrev pub is_alias : Choice → Bool
+is_alias NotFound = false
+is_alias Masked = false
+is_alias (Fragment p) = false
+is_alias (Alias m) = true
+is_alias (Bad cause) = false
 
 -- a unit name that has this entry, a link
 pub record IsOwnEntry (p : PathParts × Entry) (n : Name) : Type 0 where
@@ -77,6 +89,18 @@ IsOwnLink s n = (rank : ℕ) × IsLevel rank × IsOwnAt s rank n
 pub record Collects (Passes : Name → Type 0) (old new : List Name) : Type 0 where
   pub kept : (n : Name) → IsAmong n old → IsAmong n new
   pub found : (n : Name) → Passes n → IsAmong n new
+
+-- unit names were added, just those that pass
+pub record Gathers (Passes : Name → Type 0) (old new : List Name) : Type 0 where
+  pub kept : (n : Name) → IsAmong n old → IsAmong n new
+  pub sound : (n : Name) → IsAmong n new → IsAmong n old ⊎ (IsName n × Passes n)
+  pub found : (n : Name) → IsName n → Passes n → IsAmong n new
+
+-- just the unit names that some aliases, and at most d, lead to u
+pub record AreBehind (s : EntryMap) (u : Name) (d : ℕ) (names : List Name) : Type 0 where
+  pub lawful : (n : Name) → IsAmong n names → IsName n
+  pub sound : (n : Name) → IsAmong n names → (k : ℕ) × (0 < k) × (k ≤ d) × Chain s k n u
+  pub found : (n : Name) (k : ℕ) → 0 < k → k ≤ d → IsName n → Chain s k n u → IsAmong n names
 
 -- no others were added
 pub record Adds (added old new : List Name) : Type 0 where

@@ -111,10 +111,10 @@ passed n o t m h = by_self (is_self o t) h
     by_self false k = by_kind (is_bad_kind (kind o) (kind t)) refl k
 
 -- an instance with this instance part
-record IsInstance (i n : Name) : Type 0 where
-  name : IsName n
-  shape_is : shape n ≡ Instance
-  part : instance n ≡ i
+pub record IsInstance (i n : Name) : Type 0 where
+  pub name : IsName n
+  pub shape_is : shape n ≡ Instance
+  pub part : instance n ≡ i
 
 pub has_template : (x : UnitShape) (n t : Name) → template_at x n ≡ Some t → x ≡ Instance
 has_template Plain n t h = absurd (none-some _ h)
@@ -165,7 +165,7 @@ keeps n o t m h e lawful owner p =
     by Instance q (inr a) k g = cc (agreed Template Instance a q g)
 
 -- an instance's alias is an instance of the same part
-alias_keeps : (s : EntryMap) (i n m : Name) → Leads s n m → IsInstance i n → IsInstance i m
+pub alias_keeps : (s : EntryMap) (i n m : Name) → Leads s n m → IsInstance i n → IsInstance i m
 alias_keeps s i n m h k =
     let l = has_link s n m h in
     let p = passed n l.owner (last_component l.link.target) m l.link.said in

@@ -1,14 +1,12 @@
 -- The names that links give to a unit.
 -- Source: systemd.unit(5), "Description".
 use Rattle.std.specs.Prelude.{◌≡◌, ℕ, Bool, true, false, Option, Some, None, List, ◌⊎◌, IsTrue, if◌then◌else◌}
-use Rattle.list_laws.specs.Members.{IsAmong}
 use Rattle.edit_sums.specs.declared.contents.Content.{Content}
 use Rattle.edit_sums.specs.declared.contents.Content.TheVariants.{Gone, Link, File}
 use Rattle.edit_sums.specs.Sums.{EntryMap, visible_at}
 use Rattle.unit_name.specs.Names.{Name, is_name}
 use Rattle.unit_name.specs.Forms.{template_of}
 use Rattle.fragment_choice.specs.Choices.{own_path}
-use Rattle.fragment_choice.specs.UnitNames.{IsOtherName}
 
 -- the unit name that these bytes are
 abbrev pub unit_of : List ℕ → Option Name
@@ -28,9 +26,3 @@ pub record IsLinkedBy (s : EntryMap) (rank : ℕ) (o n : Name) : Type 0 where
 -- a link at this rank gives the name n
 abbrev pub IsLinkedAt : EntryMap → ℕ → Name → Type 0
 IsLinkedAt s rank n = (o : Name) × IsLinkedBy s rank o n
-
--- other names of u were added: those that pass are all there
-pub record Gathers (s : EntryMap) (u : Name) (Passes : Name → Type 0) (old new : List Name) : Type 0 where
-  pub kept : (n : Name) → IsAmong n old → IsAmong n new
-  pub sound : (n : Name) → IsAmong n new → IsAmong n old ⊎ IsOtherName s u n
-  pub found : (n : Name) → Passes n → IsOtherName s u n → IsAmong n new

@@ -3,15 +3,14 @@ ghost use Rattle.std.specs.Prelude.{◌≡◌, Some, [], ◌∷◌, ◌↔◌, I
 ghost use Rattle.std.specs.BTreeSet.{insert_key};
 ghost use Rattle.std.specs.List.Sorted.{IsStrictlySortedBy};
 ghost use Rattle.list_laws.specs.Members.{IsAmong};
-ghost use Rattle.unit_name.specs.Names.{instance, name_cmp};
-ghost use Rattle.unit_name.specs.Forms.{with_instance};
+ghost use Rattle.unit_name.specs.Names.{name_cmp};
+ghost use Rattle.fragment_choice.specs.Choices.{choice};
 ghost use Rattle.fragment_choice.specs.Resolutions.{Leads, main};
-ghost use Rattle.fragment_choice.specs.UnitNames.{AreNames, IsOtherName};
-ghost use Rattle.fragment_choice.specs.LinkedNames.{Gathers};
-ghost use Rattle.fragment_choice.specs.Indexes.{Adds, IsInstanceOfAny, LeadsToAny};
+ghost use Rattle.fragment_choice.specs.UnitNames.{AreNames};
+ghost use Rattle.fragment_choice.specs.Indexes.{Adds, AreBehind, Gathers, IsLeadingInstance, IsLeadingInstanceOfAny, LeadsToAny, is_alias};
 
 use crate::aliases::AliasIndex;
-use crate::resolutions::resolve;
+use crate::choices::{Choice, Chooses};
 use replica_store::Store;
 use std::alloc::{AllocError, Global};
 use std::collections::BTreeSet;
@@ -33,56 +32,121 @@ pub fn names_of(alloc: Global, store: &Store, name: &UnitName) -> Result<Vec<Uni
 impl<'a> AliasIndex<'a> {
     /// The names of a unit of the index's store, as the function of this name gives them.
     ///
-    /// It resolves the names that a link makes an alias of one of these names, and no others. It
-    /// fails for want of memory alone.
+    /// Names that their own links make aliases are found and not asked for. There is one choice for
+    /// each instance that a link of its template may make an alias of one of the names, and one for a
+    /// unit that has other names. It fails for want of memory alone.
     pub fn names_of(&self, alloc: Global, name: &UnitName) -> Result<Vec<UnitName>, AllocError>
         requires main { main self.now name.now ≡ name.now }
         ensures names { IfOk result (λ names. AreNames self.now name.now names.items) }
     {
-        let mut others = BTreeSet::new(alloc);
-        let mut level = alone(alloc, name)?;
-        for depth in 0..8u8 {
-            let next = self.behind(alloc, name, &level)?;
-            level = add_all(alloc, &mut others, next)?;
+        let others = self.all_behind(alloc, name)?;
+        if others.is_empty() {
+            return alone(alloc, name);
+        }
+        // an alias that more than eight follow is its own main, but has no other names
+        if self.is_alias(alloc, name)? {
+            return alone(alloc, name);
         }
         listed(alloc, name, others)
     }
 
-    // The other names of the unit that are aliases of one of these.
-    fn behind(
-        &self,
-        alloc: Global,
-        unit: &UnitName,
-        level: &[UnitName],
-    ) -> Result<BTreeSet<UnitName>, AllocError>
-        ensures gathered { IfOk result (λ next. Gathers self.now unit.now (LeadsToAny self.now level.now) []
-            next.keys) }
+    // The names that some aliases, and at most eight, lead to this one.
+    fn all_behind(&self, alloc: Global, name: &UnitName) -> Result<BTreeSet<UnitName>, AllocError>
+        ensures behind { IfOk result (λ others. AreBehind self.now name.now 8 others.keys) }
+    {
+        let mut others = BTreeSet::new(alloc);
+        let mut level = alone(alloc, name)?;
+        for depth in 0..8u8 {
+            let next = self.behind(alloc, &level)?;
+            level = add_all(alloc, &mut others, next)?;
+        }
+        Ok(others)
+    }
+
+    // The names that are aliases of one of these.
+    fn behind(&self, alloc: Global, level: &[UnitName]) -> Result<BTreeSet<UnitName>, AllocError>
+        ensures gathered { IfOk result (λ next. Gathers (LeadsToAny self.now level.now) [] next.keys) }
     {
         let mut next = BTreeSet::new(alloc);
         for name in level {
-            self.gather_behind(alloc, &mut next, unit, name)?;
+            self.gather_behind(alloc, &mut next, name)?;
         }
         Ok(next)
     }
 
-    // Adds the other names of the unit that are aliases of this name.
+    // Adds the names that are aliases of this one.
     fn gather_behind(
         &self,
         alloc: Global,
         others: &mut BTreeSet<UnitName>,
-        unit: &UnitName,
         name: &UnitName,
     ) -> Result<(), AllocError>
-        ensures gathered { OnOk result (Gathers self.now unit.now (λ n. Leads self.now n name.now)
-            others.old.keys others.new.keys) }
+        ensures gathered { OnOk result (Gathers (λ n. Leads self.now n name.now) others.old.keys
+            others.new.keys) }
     {
-        let store = self.store();
-        gather_owners(alloc, others, store, unit, self.owners_of(name))?;
+        gather_owners(others, self.owners_of(name))?;
         match name.template_of()? {
             Some(template) => {
-                gather_instances(alloc, others, store, unit, self.owners_of(&template))
+                self.gather_instances(alloc, others, name, self.owners_of(&template))
             }
             None => Ok(()),
+        }
+    }
+
+    // Adds those that these templates give with a name's instance and that are aliases of the name.
+    fn gather_instances(
+        &self,
+        alloc: Global,
+        others: &mut BTreeSet<UnitName>,
+        name: &UnitName,
+        owners: &[UnitName],
+    ) -> Result<(), AllocError>
+        ensures gathered { OnOk result (Gathers (IsLeadingInstanceOfAny self.now name.now owners.now)
+            others.old.keys others.new.keys) }
+    {
+        for owner in owners {
+            self.add_instance(alloc, others, name, owner)?;
+        }
+        Ok(())
+    }
+
+    // Adds a template's name with a name's instance, if there is one and it is an alias of the name.
+    fn add_instance(
+        &self,
+        alloc: Global,
+        others: &mut BTreeSet<UnitName>,
+        name: &UnitName,
+        template: &UnitName,
+    ) -> Result<(), AllocError>
+        ensures gathered { OnOk result (Gathers (IsLeadingInstance self.now name.now template.now)
+            others.old.keys others.new.keys) }
+    {
+        let Some(instance) = template.with_instance(name.instance())? else {
+            return Ok(());
+        };
+        if !self.leads(alloc, &instance, name)? {
+            return Ok(());
+        }
+        put(others, instance)
+    }
+
+    // Whether a name is an alias of another.
+    fn leads(&self, alloc: Global, from: &UnitName, to: &UnitName) -> Result<bool, AllocError>
+        ensures test { IfOk result (λ it. IsTrue it ↔ Leads self.now from.now to.now) }
+    {
+        match self.choose(alloc, from)? {
+            Choice::Alias(alias) => Ok(alias == *to),
+            _ => Ok(false),
+        }
+    }
+
+    // Whether a name is an alias.
+    fn is_alias(&self, alloc: Global, name: &UnitName) -> Result<bool, AllocError>
+        ensures test { IfOk result (λ it. it ≡ is_alias (choice self.now name.now)) }
+    {
+        match self.choose(alloc, name)? {
+            Choice::Alias(_) => Ok(true),
+            _ => Ok(false),
         }
     }
 }
@@ -130,89 +194,14 @@ fn listed(
     Ok(names)
 }
 
-// Adds those of these names that are other names of the unit.
-fn gather_owners(
-    alloc: Global,
-    others: &mut BTreeSet<UnitName>,
-    store: &Store,
-    unit: &UnitName,
-    owners: &[UnitName],
-) -> Result<(), AllocError>
-    ensures gathered { OnOk result (Gathers store.now unit.now (λ n. IsAmong n owners.now) others.old.keys
-        others.new.keys) }
+// Adds these names.
+fn gather_owners(others: &mut BTreeSet<UnitName>, owners: &[UnitName]) -> Result<(), AllocError>
+    ensures added { OnOk result (Adds owners.now others.old.keys others.new.keys) }
 {
     for owner in owners {
-        add_if_other(alloc, others, store, unit, owner.try_clone()?)?;
+        put(others, owner.try_clone()?)?;
     }
     Ok(())
-}
-
-// Adds those that these templates give with the unit's instance and that are other names of the
-// unit.
-fn gather_instances(
-    alloc: Global,
-    others: &mut BTreeSet<UnitName>,
-    store: &Store,
-    unit: &UnitName,
-    owners: &[UnitName],
-) -> Result<(), AllocError>
-    ensures gathered { OnOk result (Gathers store.now unit.now
-        (IsInstanceOfAny (instance unit.now) owners.now) others.old.keys others.new.keys) }
-{
-    for owner in owners {
-        add_instance(alloc, others, store, unit, owner)?;
-    }
-    Ok(())
-}
-
-// Adds a template's name with the unit's instance, if there is one and it is another of the unit.
-fn add_instance(
-    alloc: Global,
-    others: &mut BTreeSet<UnitName>,
-    store: &Store,
-    unit: &UnitName,
-    template: &UnitName,
-) -> Result<(), AllocError>
-    ensures gathered { OnOk result (Gathers store.now unit.now (λ n. with_instance template.now
-        (instance unit.now) ≡ Some n) others.old.keys others.new.keys) }
-{
-    match template.with_instance(unit.instance())? {
-        Some(name) => add_if_other(alloc, others, store, unit, name),
-        None => Ok(()),
-    }
-}
-
-// Adds a name if it is another of the unit.
-fn add_if_other(
-    alloc: Global,
-    others: &mut BTreeSet<UnitName>,
-    store: &Store,
-    unit: &UnitName,
-    name: UnitName,
-) -> Result<(), AllocError>
-    ensures gathered { OnOk result (Gathers store.now unit.now (λ n. n ≡ name) others.old.keys
-        others.new.keys) }
-{
-    if !is_other(alloc, store, unit, &name)? {
-        return Ok(());
-    }
-    put(others, name)
-}
-
-// Whether this is another name of the unit.
-fn is_other(
-    alloc: Global,
-    store: &Store,
-    unit: &UnitName,
-    name: &UnitName,
-) -> Result<bool, AllocError>
-    ensures test { IfOk result (λ it. IsTrue it ↔ IsOtherName store.now unit.now name.now) }
-{
-    if name.bytes() == unit.bytes() {
-        return Ok(false);
-    }
-    let main = resolve(alloc, store, name)?.main;
-    Ok(main.bytes() == unit.bytes())
 }
 
 // Puts a name among others.

@@ -1,19 +1,23 @@
-use Rattle.std.proofs.Common.{◌≡◌, ◌+◌, ◌∙◌, take, arith}
-use Rattle.fragment_choice.specs.Indexes.{IsAny}
-use Rattle.list_laws.specs.Members.{IsAmong}
-use Rattle.fragment_choice.proofs.Gathering.{gathers_none, gathers_of}
-use Rattle.fragment_choice.proofs.Levels.{gathers_more, gathers_each, any_same}
+use Rattle.std.proofs.Common.{◌+◌, ◌++◌, ◌∷◌, [], take, ap, refl, subst, sym, ◌∙◌, List}
+use Rattle.std.proofs.lemmas.List.{take_all, take_more}
+use Rattle.std.specs.BTreeSet.{insert_key}
+use Rattle.unit_name.specs.Names.{Name, name_cmp}
+use Rattle.fragment_choice.specs.Indexes.{Adds}
+use Rattle.fragment_choice.proofs.Levels.{adds_none, adds_one}
 use Rattle.fragment_choice.proofs.names.gather_owners.Goals as goal
 
 pub loop-owner-init : goal.loop-owner-init
-loop-owner-init c = gathers_none c.args.store.now c.args.unit.now (IsAny (λ m n. n ≡ m) (take 0 c.args.owners.now)) c.args.others.now.keys (λ n l o. l)
+loop-owner-init c = adds_none [] c.args.others.now.keys refl
 
 pub loop-owner-preserved : goal.loop-owner-preserved
 loop-owner-preserved c =
-    gathers_more c.args.store.now c.args.unit.now (λ m n. n ≡ m) c.args.owners.now c.loop-owner.owner-index (c.loop-owner.owner-index + 1) c.owner-item.result c.in_ok-try_clone.field-0 c.args.others.now.keys c.loop-owner.others.keys c.add_if_other.new.others.keys
-    c.loop-owner-test.true (omega arith) (c.in_ok-try_clone.ensures.copy ∙ c.owner-item.is) c.loop-owner.invariant c.in_ok-add_if_other.ensures.gathered
+    let i = c.loop-owner.owner-index in
+    let front = take i c.args.owners.now in
+    adds_one front (take (i + 1) c.args.owners.now) c.args.others.now.keys c.loop-owner.others.keys c.put.new.others.keys c.owner-item.result
+    (take_more c.args.owners.now i c.owner-item.result c.loop-owner-test.true ∙ ap (λ (x : Name). front ++ x ∷ []) (sym c.owner-item.is)) c.loop-owner.invariant
+    (c.in_ok-put.ensures.put ∙ ap (insert_key name_cmp c.loop-owner.others.keys) c.in_ok-try_clone.ensures.copy)
 
 pub returns : goal.returns
-returns c =
-    let all = gathers_each c.args.store.now c.args.unit.now (λ m n. n ≡ m) c.args.owners.now c.loop-owner.owner-index c.args.others.now.keys c.loop-owner.others.keys c.loop-owner-test.false c.loop-owner.invariant in
-    record { gathered = gathers_of c.args.store.now c.args.unit.now (IsAny (λ m n. n ≡ m) c.args.owners.now) (λ n. IsAmong n c.args.owners.now) c.args.others.now.keys c.loop-owner.others.keys all (λ n l o. any_same c.args.owners.now n l) }
+returns c = record {
+  added = subst (λ (xs : List Name). Adds xs c.args.others.now.keys c.loop-owner.others.keys) (take_all c.loop-owner.owner-index c.args.owners.now c.loop-owner-test.false) c.loop-owner.invariant;
+}

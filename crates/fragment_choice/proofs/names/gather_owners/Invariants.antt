@@ -1,7 +1,6 @@
-use Rattle.std.proofs.Common.{◌≡◌, take}
-use Rattle.fragment_choice.specs.LinkedNames.{Gathers}
-use Rattle.fragment_choice.specs.Indexes.{IsAny}
+use Rattle.std.proofs.Common.{take}
+use Rattle.fragment_choice.specs.Indexes.{Adds}
 use Rattle.fragment_choice.proofs.names.gather_owners.Given as goal
 
 abbrev pub invariant-loop-owner : goal.invariant-loop-owner
-invariant-loop-owner l = Gathers l.store l.unit (IsAny (λ m n. n ≡ m) (take l.owner-index l.owners)) l.initial.others.keys l.others.keys
+invariant-loop-owner l = Adds (take l.owner-index l.owners) l.initial.others.keys l.others.keys

@@ -1,21 +1,20 @@
 use Rattle.std.proofs.Common.{◌+◌, take, subst, arith, List}
 use Rattle.unit_name.specs.Names.{Name}
-use Rattle.fragment_choice.specs.LinkedNames.{Gathers}
 use Rattle.fragment_choice.specs.Resolutions.{Leads}
-use Rattle.fragment_choice.specs.Indexes.{LeadsToAny}
+use Rattle.fragment_choice.specs.Indexes.{Gathers, LeadsToAny}
 use Rattle.fragment_choice.proofs.Gathering.{gathers_none}
 use Rattle.fragment_choice.proofs.Levels.{gathers_more, gathers_each}
 use Rattle.fragment_choice.proofs.aliases.AliasIndex.behind.Goals as goal
 
 pub loop-name-init : goal.loop-name-init
-loop-name-init c = gathers_none c.args.self.now c.args.unit.now (LeadsToAny c.args.self.now (take 0 c.args.level.now)) c.new-next.result.keys (λ n l o. l)
+loop-name-init c = gathers_none (LeadsToAny c.args.self.now (take 0 c.args.level.now)) c.new-next.result.keys (λ n l. l)
 
 pub loop-name-preserved : goal.loop-name-preserved
 loop-name-preserved c =
-    gathers_more c.args.self.now c.args.unit.now (λ m n. Leads c.args.self.now n m) c.args.level.now c.loop-name.name-index (c.loop-name.name-index + 1) c.name-item.result c.name-item.result c.new-next.result.keys c.loop-name.next.keys c.gather_behind.new.others.keys
+    gathers_more (λ m n. Leads c.args.self.now n m) c.args.level.now c.loop-name.name-index (c.loop-name.name-index + 1) c.name-item.result c.name-item.result c.new-next.result.keys c.loop-name.next.keys c.gather_behind.new.others.keys
     c.loop-name-test.true (omega arith) c.name-item.is c.loop-name.invariant c.in_ok-gather_behind.ensures.gathered
 
 pub returns : goal.returns
 returns c =
-    let all = gathers_each c.args.self.now c.args.unit.now (λ m n. Leads c.args.self.now n m) c.args.level.now c.loop-name.name-index c.new-next.result.keys c.loop-name.next.keys c.loop-name-test.false c.loop-name.invariant in
-    record { gathered = subst (λ (old : List Name). Gathers c.args.self.now c.args.unit.now (LeadsToAny c.args.self.now c.args.level.now) old c.loop-name.next.keys) c.new-next.ensures.empty all }
+    let all = gathers_each (λ m n. Leads c.args.self.now n m) c.args.level.now c.loop-name.name-index c.new-next.result.keys c.loop-name.next.keys c.loop-name-test.false c.loop-name.invariant in
+    record { gathered = subst (λ (old : List Name). Gathers (LeadsToAny c.args.self.now c.args.level.now) old c.loop-name.next.keys) c.new-next.ensures.empty all }

@@ -1,7 +1,6 @@
 use Rattle.std.proofs.Common.{take}
-use Rattle.fragment_choice.specs.LinkedNames.{Gathers}
-use Rattle.fragment_choice.specs.Indexes.{LeadsToAny}
+use Rattle.fragment_choice.specs.Indexes.{Gathers, LeadsToAny}
 use Rattle.fragment_choice.proofs.aliases.AliasIndex.behind.Given as goal
 
 abbrev pub invariant-loop-name : goal.invariant-loop-name
-invariant-loop-name l = Gathers l.self l.unit (LeadsToAny l.self (take l.name-index l.level)) l.initial.next.keys l.next.keys
+invariant-loop-name l = Gathers (LeadsToAny l.self (take l.name-index l.level)) l.initial.next.keys l.next.keys

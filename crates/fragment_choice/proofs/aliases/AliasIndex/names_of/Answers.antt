@@ -1,34 +1,27 @@
-use Rattle.std.proofs.Common.{◌+◌, arith, subst, sym, List, []}
-use Rattle.unit_name.specs.Names.{Name}
-use Rattle.fragment_choice.specs.LinkedNames.{Gathers}
-use Rattle.fragment_choice.specs.Indexes.{LeadsToAny}
+use Rattle.std.proofs.Common.{◌≡◌, [], ◌∷◌, sym, ◌∙◌}
+use Rattle.std.proofs.lemmas.Result.{IfOk-weaker}
+use Rattle.fragment_choice.specs.UnitNames.{AreNames}
 use Rattle.fragment_choice.proofs.Gathering.{both_ok}
-use Rattle.fragment_choice.proofs.Levels.{IsLevel, first_level, none_found, next_level, more_found, all_found}
+use Rattle.fragment_choice.proofs.Levels.{all_names, unled, endless}
 use Rattle.fragment_choice.proofs.aliases.AliasIndex.names_of.Goals as goal
 
-pub loop-depth-init : goal.loop-depth-init
-loop-depth-init c = record {
-  level = first_level c.args.self.now c.args.name.now c.in_ok-level.level.items c.in_ok-level.ensures.alone;
-  found = none_found c.args.self.now c.args.name.now c.new-others.result.keys c.new-others.ensures.empty;
+pub returns-then-is_empty : goal.returns-then-is_empty
+returns-then-is_empty c = record {
+  names =
+      IfOk-weaker c.alone.result (λ names. names.items ≡ c.args.name.now ∷ []) (λ names. AreNames c.args.self.now c.args.name.now names.items)
+      (λ names e. unled c.args.self.now c.args.name.now names.items c.in_ok-others.others.keys c.in_ok-others.ensures.behind (c.is_empty.ensures.0 c.if-is_empty.true) e) c.alone.ensures.alone;
 }
 
-pub loop-depth-preserved : goal.loop-depth-preserved
-loop-depth-preserved c =
-    let s = c.args.self.now in
-    let u = c.args.name.now in
-    let d = c.loop-depth.depth in
-    let level = c.loop-depth.level.items in
-    let next = c.in_ok-next.next.keys in
-    let g = subst (λ (ms : List Name). Gathers s u (LeadsToAny s ms) [] next) c.deref.ensures.value c.in_ok-next.ensures.gathered in
-    let l = next_level s u d (d + 1) level next (omega arith) (omega arith) c.loop-depth.invariant.level g in
-    record {
-      level = subst (IsLevel s u (d + 1)) (sym c.in_ok-level-2.ensures.list) l;
-      found = more_found s u d (d + 1) level next c.loop-depth.others.keys c.add_all.new.others.keys (omega arith) g l c.in_ok-level-2.ensures.added c.loop-depth.invariant.found;
-    }
+pub returns-then-branch : goal.returns-then-branch
+returns-then-branch c = record {
+  names =
+      IfOk-weaker c.alone-then-branch.result (λ names. names.items ≡ c.args.name.now ∷ []) (λ names. AreNames c.args.self.now c.args.name.now names.items)
+      (λ names e. endless c.args.self.now c.args.name.now names.items (sym c.in_ok-is_alias.ensures.test ∙ c.if-branch.true) e) c.alone-then-branch.ensures.alone;
+}
 
 pub returns : goal.returns
 returns c = record {
   names =
       both_ok c.listed.result c.listed.ensures.list c.listed.ensures.rising
-      (λ names e rising. all_found c.args.self.now c.args.name.now c.loop-depth.depth names.items c.loop-depth.others.keys (omega arith) c.loop-depth.invariant.found e rising);
+      (λ names e rising. all_names c.args.self.now c.args.name.now names.items c.in_ok-others.others.keys c.in_ok-others.ensures.behind (sym c.in_ok-is_alias.ensures.test ∙ c.if-branch.false) e rising);
 }

@@ -1,0 +1,18 @@
+use Rattle.std.proofs.Common.{◌+◌, take, arith}
+use Rattle.fragment_choice.specs.Indexes.{IsLeadingInstance, IsLeadingInstanceOfAny}
+use Rattle.fragment_choice.proofs.Gathering.{gathers_none}
+use Rattle.fragment_choice.proofs.Levels.{gathers_more, gathers_each}
+use Rattle.fragment_choice.proofs.aliases.AliasIndex.gather_instances.Goals as goal
+
+pub loop-owner-init : goal.loop-owner-init
+loop-owner-init c = gathers_none (IsLeadingInstanceOfAny c.args.self.now c.args.name.now (take 0 c.args.owners.now)) c.args.others.now.keys (λ n l. l)
+
+pub loop-owner-preserved : goal.loop-owner-preserved
+loop-owner-preserved c =
+    gathers_more (IsLeadingInstance c.args.self.now c.args.name.now) c.args.owners.now c.loop-owner.owner-index (c.loop-owner.owner-index + 1) c.owner-item.result c.owner-item.result c.args.others.now.keys c.loop-owner.others.keys c.add_instance.new.others.keys
+    c.loop-owner-test.true (omega arith) c.owner-item.is c.loop-owner.invariant c.in_ok-add_instance.ensures.gathered
+
+pub returns : goal.returns
+returns c = record {
+  gathered = gathers_each (IsLeadingInstance c.args.self.now c.args.name.now) c.args.owners.now c.loop-owner.owner-index c.args.others.now.keys c.loop-owner.others.keys c.loop-owner-test.false c.loop-owner.invariant;
+}

@@ -1,0 +1,6 @@
+use Rattle.std.proofs.Common.{take}
+use Rattle.fragment_choice.specs.Indexes.{Gathers, IsLeadingInstanceOfAny}
+use Rattle.fragment_choice.proofs.aliases.AliasIndex.gather_instances.Given as goal
+
+abbrev pub invariant-loop-owner : goal.invariant-loop-owner
+invariant-loop-owner l = Gathers (IsLeadingInstanceOfAny l.self l.name (take l.owner-index l.owners)) l.initial.others.keys l.others.keys
