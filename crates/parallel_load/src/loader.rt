@@ -4,7 +4,7 @@ ghost use Rattle.parallel_load.specs.Alone.{names_in_lists};
 
 use crate::kept::Kept;
 use crate::loaded::NameLoad;
-use fragment_choice::{AliasIndex, resolve};
+use fragment_choice::AliasIndex;
 use name_closure::Loads;
 use replica_store::Store;
 use setting_rules::DependencyList;
@@ -41,7 +41,7 @@ impl<'a> Loads<UnitName> for UnitLoader<'a> {
     ghost named = { λ _ one. named_in one };
 
     fn load(&self, alloc: Global, node: &UnitName) -> Result<Kept, AllocError> {
-        let resolved = resolve(alloc, self.index.store(), node)?;
+        let resolved = self.index.resolve(alloc, node)?;
         if resolved.main == *node {
             let unit = load_resolved(alloc, &self.index, resolved)?;
             Kept::new(alloc, NameLoad::Unit(unit))

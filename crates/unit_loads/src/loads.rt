@@ -5,7 +5,7 @@ ghost use Rattle.unit_loads.specs.Units.{HasNothing, HasSettings, IsUnit, no_nam
 
 use crate::found::Found;
 use crate::units::{Status, Unit};
-use fragment_choice::{AliasIndex, Choice, Resolution, resolve};
+use fragment_choice::{AliasIndex, Choice, Resolution};
 use plain_values::Items;
 use replica_store::{Path, Store};
 use setting_rules::{DepKind, DependencyList};
@@ -22,7 +22,7 @@ pub fn load_unit(alloc: Global, index: &AliasIndex, name: &UnitName) -> Result<U
     requires main { main index.now name.now ≡ name.now }
     ensures unit { IfOk result (IsUnit index.now name.now) }
 {
-    let resolved = resolve(alloc, index.store(), name)?;
+    let resolved = index.resolve(alloc, name)?;
     load_resolved(alloc, index, resolved)
 }
 
@@ -32,8 +32,8 @@ pub fn load_unit(alloc: Global, index: &AliasIndex, name: &UnitName) -> Result<U
 pub fn load_one(alloc: Global, store: &Store, name: &UnitName) -> Result<Unit, AllocError>
     ensures unit { IfOk result (IsUnit store.now (main store.now name.now)) }
 {
-    let resolved = resolve(alloc, store, name)?;
     let index = AliasIndex::of(alloc, store)?;
+    let resolved = index.resolve(alloc, name)?;
     load_resolved(alloc, &index, resolved)
 }
 

@@ -1,5 +1,4 @@
 use Rattle.std.proofs.Common.{◌∙◌, ap, sym}
-use Rattle.edit_sums.specs.Sums.{EntryMap}
 use Rattle.fragment_choice.specs.declared.resolutions.Resolution.{Resolution}
 use Rattle.fragment_choice.specs.ResolutionLaws.{mains_are_their_own}
 use Rattle.fragment_choice.specs.Resolutions.{resolution}
@@ -8,10 +7,6 @@ use Rattle.unit_loads.proofs.loads.load_one.Goals as goal
 -- a main name is its own, and the same stands for it
 pub load_resolved-requires : goal.load_resolved-requires
 load_resolved-requires c =
-    let s = c.args.store.now in
+    let s = c.in_ok-index.index in
     let e = c.in_ok-resolved.ensures.resolution in
-    record {
-      resolved =
-          ap (λ (t : EntryMap). resolution t c.in_ok-resolved.resolved.main) c.in_ok-index.ensures.store
-          ∙ ap (λ (r : Resolution). resolution s r.main) e ∙ (mains_are_their_own s c.args.name.now).1 ∙ sym e;
-    }
+    record { resolved = ap (λ (r : Resolution). resolution s r.main) e ∙ (mains_are_their_own s c.args.name.now).1 ∙ sym e }

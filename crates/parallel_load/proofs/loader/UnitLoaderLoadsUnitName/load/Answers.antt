@@ -1,6 +1,5 @@
 use Rattle.std.proofs.Common.{◌≡◌, true, false, ap, sym, ◌∙◌, subst}
 use Rattle.std.proofs.lemmas.Result.{IfOk-weaker}
-use Rattle.edit_sums.specs.Sums.{EntryMap}
 use Rattle.unit_name.specs.Names.{Name}
 use Rattle.unit_name.specs.NameLaws.{name_eq-Decides}
 use Rattle.fragment_choice.specs.declared.resolutions.Resolution.{Resolution}
@@ -18,8 +17,7 @@ differ h = cc (h)
 pub load_resolved-requires : goal.load_resolved-requires
 load_resolved-requires c =
     let s = c.args.self.now.index in
-    let e : c.in_ok-resolved.resolved ≡ resolution s c.args.node.now =
-    c.in_ok-resolved.ensures.resolution ∙ ap (λ (t : EntryMap). resolution t c.args.node.now) c.store.ensures.store in
+    let e : c.in_ok-resolved.resolved ≡ resolution s c.args.node.now = c.in_ok-resolved.ensures.resolution in
     record { resolved = ap (λ (r : Resolution). resolution s r.main) e ∙ (mains_are_their_own s c.args.node.now).1 ∙ sym e }
 
 pub returns-in_ok-unit : goal.returns-in_ok-unit
@@ -36,8 +34,7 @@ returns-in_ok-unit c =
 pub returns-else-eq : goal.returns-else-eq
 returns-else-eq c =
     let s = c.args.self.now.index in
-    let e : c.in_ok-resolved.resolved ≡ resolution s c.args.node.now =
-    c.in_ok-resolved.ensures.resolution ∙ ap (λ (t : EntryMap). resolution t c.args.node.now) c.store.ensures.store in
+    let e : c.in_ok-resolved.resolved ≡ resolution s c.args.node.now = c.in_ok-resolved.ensures.resolution in
     let is : IsAliasOf s c.args.node.now c.in_ok-resolved.resolved.main = record {
       main_is = sym (ap (λ (r : Resolution). r.main) e);
       other = λ f. differ (sym c.if-eq.false ∙ c.eq.ensures ∙ (name_eq-Decides c.in_ok-resolved.resolved.main c.args.node.now).1 f);
