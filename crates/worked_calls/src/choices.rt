@@ -78,7 +78,7 @@ fn append_indexed(
 ) -> Result<(), LineFault> {
     let index = AliasIndex::of(alloc, store)?;
     for unit in units {
-        if resolve(alloc, store, unit)?.main.bytes() == unit.bytes() {
+        if index.resolve(alloc, unit)?.main.bytes() == unit.bytes() {
             out.part(b" +")?;
             append_names(out, &index.names_of(alloc, unit)?)?;
         }
