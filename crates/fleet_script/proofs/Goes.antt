@@ -84,6 +84,14 @@ module _ (shell after : Keeps) (r : Told) where
   pub with_paths : (texts : List (List ℕ)) (ps : List PathParts) (P : List PathParts → Step) → paths_of texts ≡ Ok ps → Goes shell after (P ps) r → Goes shell after (λ old outcome new. AtPaths old outcome new texts (λ q. P q old outcome new)) r
   with_paths texts ps P read = weaker shell after r (P ps) _ (λ old h outcome new q. subst (λ (x : Result (List PathParts) PathFault). MatchResult x (λ q. P q old outcome new) (RefusesPath old outcome new)) (sym read) q)
 
+  -- a path that a text writes, of the node of a name
+  pub with_place : (name text : List ℕ) (at : ℕ) (p : PathParts) (P : ℕ → PathParts → Step)
+      → shell.number_of name ≡ Some at → path_of text ≡ Ok p → Goes shell after (P at p) r
+      → Goes shell after (λ old outcome new. AtNode old outcome new name (λ k. AtPath old outcome new text (λ q. P k q old outcome new))) r
+  with_place name text at p P found read go =
+      with_node name at (λ k old outcome new. AtPath old outcome new text (λ q. P k q old outcome new)) found
+      (with_path text p (P at) read go)
+
   -- the file that a text spells, and the link to a target
   pub with_file : (text : List ℕ) (content : Content) (P : Content → Step) → IsFileOf text content → Goes shell after (P content) r
       → Goes shell after (λ old outcome new. WithText old outcome new text (λ bytes. WithFile old outcome new bytes (λ c. P c old outcome new))) r

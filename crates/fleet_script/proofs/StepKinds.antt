@@ -188,46 +188,38 @@ module _ (old : ScriptWorld) where
     unspent = λ free outcome new r. unspent (held old k) outcome r.told;
   })
 
-  compares : (P : Type 0) (alike apart : List ℕ) → IsStep old (λ outcome new. (P × Gives alike old outcome new) ⊎ ((P → ⊥) × Gives apart old outcome new))
-  compares P alike apart = record { one = one; follows = follows; unspent = unspent }
+  -- one step where a fact holds, and another where it doesn't
+  where_holds : (P : Type 0) (S T : Outcome → ScriptWorld → Type 0) → IsStep old S → IsStep old T
+      → IsStep old (λ outcome new. (P × S outcome new) ⊎ ((P → ⊥) × T outcome new))
+  where_holds P S T here apart = record { one = one; follows = follows; unspent = unspent }
     where
       C : Outcome → ScriptWorld → Type 0
-      C outcome new = (P × Gives alike old outcome new) ⊎ ((P → ⊥) × Gives apart old outcome new)
+      C outcome new = (P × S outcome new) ⊎ ((P → ⊥) × T outcome new)
 
       one : (a b : Outcome) (x y : ScriptWorld) → C a x → C b y → (a ≡ b) × (x ≡ y)
-      one a b x y (inl p) (inl q) = (gives alike old (stays old refl)).one a b x y p.1 q.1
+      one a b x y (inl p) (inl q) = here.one a b x y p.1 q.1
       one a b x y (inl p) (inr q) = absurd (q.0 p.0)
       one a b x y (inr p) (inl q) = absurd (p.0 q.0)
-      one a b x y (inr p) (inr q) = (gives apart old (stays old refl)).one a b x y p.1 q.1
+      one a b x y (inr p) (inr q) = apart.one a b x y p.1 q.1
 
       follows : (outcome : Outcome) (new : ScriptWorld) → C outcome new → Follows old new
-      follows outcome new (inl p) = stays new p.1.world_is
-      follows outcome new (inr p) = stays new p.1.world_is
+      follows outcome new (inl p) = here.follows outcome new p.1
+      follows outcome new (inr p) = apart.follows outcome new p.1
 
       unspent : HasCounters old → (outcome : Outcome) (new : ScriptWorld) → C outcome new → is_spent outcome ≡ false
-      unspent free outcome new (inl p) = ap is_spent p.1.outcome_is
-      unspent free outcome new (inr p) = ap is_spent p.1.outcome_is
+      unspent free outcome new (inl p) = here.unspent free outcome new p.1
+      unspent free outcome new (inr p) = apart.unspent free outcome new p.1
+
+  compares : (P : Type 0) (alike apart : List ℕ) → IsStep old (λ outcome new. (P × Gives alike old outcome new) ⊎ ((P → ⊥) × Gives apart old outcome new))
+  compares P alike apart =
+      where_holds P (λ outcome new. Gives alike old outcome new) (λ outcome new. Gives apart old outcome new)
+      (gives alike old (stays old refl)) (gives apart old (stays old refl))
 
   -- a word is given where a fact holds, and a refusal where it doesn't
   gives_or_refuses : (P : Type 0) (words : List ℕ) (refusal : LineRefusal) → is_spent (Err refusal) ≡ false → IsStep old (λ outcome new. (P × Gives words old outcome new) ⊎ ((P → ⊥) × Refuses old refusal outcome new))
-  gives_or_refuses P words refusal other = record { one = one; follows = follows; unspent = unspent }
-    where
-      C : Outcome → ScriptWorld → Type 0
-      C outcome new = (P × Gives words old outcome new) ⊎ ((P → ⊥) × Refuses old refusal outcome new)
-
-      one : (a b : Outcome) (x y : ScriptWorld) → C a x → C b y → (a ≡ b) × (x ≡ y)
-      one a b x y (inl p) (inl q) = (gives words old (stays old refl)).one a b x y p.1 q.1
-      one a b x y (inl p) (inr q) = absurd (q.0 p.0)
-      one a b x y (inr p) (inl q) = absurd (p.0 q.0)
-      one a b x y (inr p) (inr q) = refused_once refusal a b x y p.1 q.1
-
-      follows : (outcome : Outcome) (new : ScriptWorld) → C outcome new → Follows old new
-      follows outcome new (inl p) = stays new p.1.world_is
-      follows outcome new (inr p) = stays new p.1.world_is
-
-      unspent : HasCounters old → (outcome : Outcome) (new : ScriptWorld) → C outcome new → is_spent outcome ≡ false
-      unspent free outcome new (inl p) = ap is_spent p.1.outcome_is
-      unspent free outcome new (inr p) = ap is_spent p.1.outcome_is ∙ other
+  gives_or_refuses P words refusal other =
+      where_holds P (λ outcome new. Gives words old outcome new) (λ outcome new. Refuses old refusal outcome new)
+      (gives words old (stays old refl)) (refuses refusal other)
 
   -- ---- one recursion over the commands
 

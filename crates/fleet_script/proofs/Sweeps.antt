@@ -78,19 +78,21 @@ module _ {X : Type 0} where
   set_between [] x ys z = refl
   set_between (y ∷ xs) x ys z = ap (λ zs. y ∷ zs) (set_between xs x ys z)
 
+-- one more is done
+one_done : {A : Type 0} (F : List Replicated → ℕ → A) (done todo : List Replicated) (next : Replicated)
+    → F (done ++ next ∷ todo) (suc (length done)) ≡ F ((done ++ next ∷ []) ++ todo) (length (done ++ next ∷ []))
+one_done F done todo next = λ i. F (sym (append_assoc done (next ∷ []) todo) i) (sym (length_push done next) i)
+
 -- the others, from those behind some on, are merged into the first
 into_first : (first : Replicated) (done todo : List Replicated)
     → merged_in (first ∷ (done ++ todo)) (map into (numbers_from (suc (length done)) (length todo))) ≡ with_store (gathered first.store todo) first ∷ (done ++ todo)
 into_first first done [] = refl
 into_first first done (r ∷ todo) =
     let next = joined_with first r in
-    let more : List Replicated = done ++ r ∷ [] in
-    let regrouped : more ++ todo ≡ done ++ r ∷ todo = append_assoc done (r ∷ []) todo in
-    let count : length more ≡ suc (length done) = length_push done r in
     ap (λ (o : Replicated). merged_in (joined_with first o ∷ (done ++ r ∷ todo)) (map into (numbers_from (suc (suc (length done))) (length todo)))) (get_between done r todo any_node)
-    ∙ (λ i. merged_in (next ∷ sym regrouped i) (map into (numbers_from (suc (sym count i)) (length todo))))
-    ∙ into_first next more todo
-    ∙ ap (λ (rs : List Replicated). with_store (gathered next.store todo) next ∷ rs) regrouped
+    ∙ one_done (λ rs n. merged_in (next ∷ rs) (map into (numbers_from (suc n) (length todo)))) done todo r
+    ∙ into_first next (done ++ r ∷ []) todo
+    ∙ ap (λ (rs : List Replicated). with_store (gathered next.store todo) next ∷ rs) (append_assoc done (r ∷ []) todo)
 
 -- and the first into them
 out_of_first : (first : Replicated) (done todo : List Replicated)
@@ -98,13 +100,10 @@ out_of_first : (first : Replicated) (done todo : List Replicated)
 out_of_first first done [] = refl
 out_of_first first done (r ∷ todo) =
     let next = joined_with r first in
-    let more : List Replicated = done ++ next ∷ [] in
-    let regrouped : more ++ todo ≡ done ++ next ∷ todo = append_assoc done (next ∷ []) todo in
-    let count : length more ≡ suc (length done) = length_push done next in
     ap (λ (o : Replicated). merged_in (first ∷ set (done ++ r ∷ todo) (length done) (joined_with o first)) (map out_of (numbers_from (suc (suc (length done))) (length todo)))) (get_between done r todo any_node)
     ∙ ap (λ (rs : List Replicated). merged_in (first ∷ rs) (map out_of (numbers_from (suc (suc (length done))) (length todo)))) (set_between done r todo next)
-    ∙ (λ i. merged_in (first ∷ sym regrouped i) (map out_of (numbers_from (suc (sym count i)) (length todo))))
-    ∙ out_of_first first more todo
+    ∙ one_done (λ rs n. merged_in (first ∷ rs) (map out_of (numbers_from (suc n) (length todo)))) done todo next
+    ∙ out_of_first first (done ++ next ∷ []) todo
     ∙ ap (λ (rs : List Replicated). first ∷ rs) (append_assoc done (next ∷ []) (map (λ (r : Replicated). joined_with r first) todo))
 
 -- ---- what they come to

@@ -1,12 +1,12 @@
 use Rattle.fleet_script.specs.Does.{Writes}
 use Rattle.fleet_script.specs.Holds.{kept_in}
-use Rattle.fleet_script.proofs.Goes.{with_link, with_node, with_path}
+use Rattle.fleet_script.proofs.Goes.{with_link, with_place}
 use Rattle.fleet_script.proofs.states.Shell.link.Goals as goal
 
 pub returns-clause-done : goal.returns-clause-done
 returns-clause-done c =
     let shell = kept_in c.args.self.now in
-    let after = kept_in c.write.new.self in
-    with_node shell after c.write.result c.args.node.now c.in_ok-at.at _ c.in_ok-at.ensures.found
-    (with_path shell after c.write.result c.args.path.now c.in_ok-path.path _ c.in_ok-path.ensures.read
-    (with_link shell after c.write.result c.args.target.now c.in_ok-content.content (λ content old outcome new. Writes old outcome new c.in_ok-at.at c.in_ok-path.path content) c.in_ok-content.ensures.read c.write.ensures.done))
+    with_place shell (kept_in c.write.new.self) c.write.result c.args.node.now c.args.path.now c.in_ok-at.at c.in_ok-path.path _
+    c.in_ok-at.ensures.found c.in_ok-path.ensures.read
+    (with_link shell (kept_in c.write.new.self) c.write.result c.args.target.now c.in_ok-content.content
+    (λ content old outcome new. Writes old outcome new c.in_ok-at.at c.in_ok-path.path content) c.in_ok-content.ensures.read c.write.ensures.done)
