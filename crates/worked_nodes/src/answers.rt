@@ -101,27 +101,21 @@ fn answer_over<R: Threads + Wait + Clock + Sync>(
     }
 }
 
-// What a line of a node over nothing answers.
+// What a line of a node answers, over nothing or over one edit.
 fn answer_node<R: Threads + Wait + Clock + Sync>(
     rt: &R,
     alloc: Global,
     words: &mut Words,
+    over_edit: bool,
 ) -> Result<Vec<u8>, LineFault> {
     let writer = words.writer()?;
     let seats = words.place()?;
-    answer_over(rt, alloc, Replica::new(alloc, writer), seats, words)
-}
-
-// What a line of a node over one edit answers.
-fn answer_held<R: Threads + Wait + Clock + Sync>(
-    rt: &R,
-    alloc: Global,
-    words: &mut Words,
-) -> Result<Vec<u8>, LineFault> {
-    let writer = words.writer()?;
-    let seats = words.place()?;
-    let store = Store::from_edits(alloc, &one_edit(words)?)?;
-    answer_over(rt, alloc, Replica::from_store(writer, store), seats, words)
+    let replica = if over_edit {
+        Replica::from_store(writer, Store::from_edits(alloc, &one_edit(words)?)?)
+    } else {
+        Replica::new(alloc, writer)
+    };
+    answer_over(rt, alloc, replica, seats, words)
 }
 
 // What a line of threads answers.
@@ -151,9 +145,9 @@ pub fn answer<R: Threads + Wait + Clock + Sync>(
     let mut words = Words::new(alloc, line);
     let call = words.word()?;
     if is(call, b"node") {
-        answer_node(rt, alloc, &mut words)
+        answer_node(rt, alloc, &mut words, false)
     } else if is(call, b"over") {
-        answer_held(rt, alloc, &mut words)
+        answer_node(rt, alloc, &mut words, true)
     } else if is(call, b"threads") {
         answer_threads(rt, alloc, &mut words)
     } else if is(call, b"crowd") {

@@ -3,7 +3,6 @@ use crate::bench::{Bench, store_text};
 use crate::beside::beside;
 use crate::edits::one_piece;
 use crate::serving::work_inbox;
-use join_law::Version;
 use node_histories::NodeName;
 use shared_node::{Node, NodeFault, Seat, Told};
 use std::alloc::Global;
@@ -56,17 +55,20 @@ fn take_seat<N: NodeName, R: Wait>(
     }
 }
 
-// Keeps the token of an edit, and writes its version, or why it wasn't taken.
-fn tell_edit<N: NodeName>(
+// Keeps the token of a take, and gives what it answered besides; or writes why it wasn't taken.
+fn keep_told<N: NodeName, T: Drop>(
     bench: &mut Bench<N>,
-    taken: Result<(Version, Told<N>), NodeFault<N>>,
-) -> Result<(), LineFault> {
+    taken: Result<(T, Told<N>), NodeFault<N>>,
+) -> Result<Option<T>, LineFault> {
     match taken {
-        Ok((version, told)) => {
+        Ok((answer, told)) => {
             bench.told = Some(told);
-            bench.tell_version(version)
+            Ok(Some(answer))
         }
-        Err(fault) => bench.tell_fault(&fault),
+        Err(fault) => {
+            bench.tell_fault(&fault)?;
+            Ok(None)
+        }
     }
 }
 
@@ -84,20 +86,9 @@ fn edit<N: NodeName, R: Wait>(
         return bench.tell("no seat");
     };
     let taken = node.edit(rt, seat, path, content);
-    tell_edit(bench, taken)
-}
-
-// Keeps the token of a piece, and writes how many paths it changed, or why it wasn't taken.
-fn tell_piece<N: NodeName>(
-    bench: &mut Bench<N>,
-    taken: Result<(u64, Told<N>), NodeFault<N>>,
-) -> Result<(), LineFault> {
-    match taken {
-        Ok((changed, told)) => {
-            bench.told = Some(told);
-            bench.tell_number("changed", changed)
-        }
-        Err(fault) => bench.tell_fault(&fault),
+    match keep_told(bench, taken)? {
+        Some(version) => bench.tell_version(version),
+        None => Ok(()),
     }
 }
 
@@ -114,7 +105,10 @@ fn absorb<N: NodeName, R: Wait>(
         return bench.tell("no seat");
     };
     let taken = node.absorb(rt, seat, piece);
-    tell_piece(bench, taken)
+    match keep_told(bench, taken)? {
+        Some(changed) => bench.tell_number("changed", changed),
+        None => Ok(()),
+    }
 }
 
 // A seat learns the last token.
