@@ -1,5 +1,5 @@
 //! What the folders are called in which a unit's files are looked for.
-ghost use Rattle.std.specs.Prelude.{◌≡◌, IfOk, map, ◌++◌};
+ghost use Rattle.std.specs.Prelude.{◌≡◌, IfOk, map};
 ghost use Rattle.unit_name.specs.Names.{word};
 ghost use Rattle.dropins.specs.FolderLists.{is_among, types_of};
 ghost use Rattle.dropins.specs.Taken.{dirs_with};
@@ -14,7 +14,7 @@ pub fn name_dirs(alloc: Global, names: &[UnitName], ending: &[u8]) -> Result<Vec
 {
     let mut dirs = Vec::new(alloc);
     for name in names {
-        dirs.push(dir_of(alloc, name.bytes(), ending)?)?;
+        dirs.push(Bytes::joined(alloc, name.bytes(), ending)?)?;
     }
     Ok(dirs)
 }
@@ -33,7 +33,7 @@ fn kind_dirs(alloc: Global, kinds: &[Kind], ending: &[u8]) -> Result<Vec<Bytes>,
 {
     let mut dirs = Vec::new(alloc);
     for kind in kinds {
-        dirs.push(dir_of(alloc, kind.word(), ending)?)?;
+        dirs.push(Bytes::joined(alloc, kind.word(), ending)?)?;
     }
     Ok(dirs)
 }
@@ -57,13 +57,4 @@ fn has_kind(kinds: &[Kind], kind: Kind) -> bool
     ensures test { result ≡ is_among (word kind) (map word kinds.now) }
 {
     kinds.contains(&kind)
-}
-
-fn dir_of(alloc: Global, owner: &[u8], ending: &[u8]) -> Result<Bytes, AllocError>
-    ensures dir { IfOk result (λ dir. dir ≡ owner.now ++ ending.now) }
-{
-    let mut bytes = Vec::with_capacity(alloc, owner.len() + ending.len())?;
-    bytes.extend_from_slice(owner)?;
-    bytes.extend_from_slice(ending)?;
-    Bytes::from_vec(bytes)
 }

@@ -14,7 +14,7 @@ use crate::stores::{FolderMap, NameMap, RankMap};
 use edit_sums::{Content, Entry};
 use join_law::Versioned;
 use load_path::Path;
-use plain_values::Bytes;
+use plain_values::{Bytes, order};
 use std::alloc::{AllocError, Global};
 use std::cmp::Ordering;
 use std::marker::Model;
@@ -89,8 +89,8 @@ impl<'a> Placed<'a> {
     pub fn order_of(&self, path: &Path) -> Ordering
         ensures order { result ≡ path_cmp path.now self.now.0 }
     {
-        let within = path.folder().cmp(&self.folder.as_slice());
-        let within = within.then(path.name().cmp(&self.name.as_slice()));
+        let within = order(path.folder(), self.folder.as_slice());
+        let within = within.then(order(path.name(), self.name.as_slice()));
         path.rank().cmp(&self.rank).then(within)
     }
 

@@ -1,2 +1,3 @@
 pub mod BytesLaws
 pub mod Holding
+pub mod Spelling

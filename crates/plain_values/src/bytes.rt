@@ -1,9 +1,8 @@
 //! Byte strings: short ones stand in the value itself, longer ones are shared by their copies.
-ghost use Rattle.std.specs.Prelude.{◌≡◌, IfOk};
-ghost use Rattle.std.specs.Ordering.{nat_cmp};
-ghost use Rattle.std.specs.Cmp.Lexicographic.{slice_cmp};
+ghost use Rattle.std.specs.Prelude.{◌≡◌, ◌++◌, IfOk};
 
 use crate::keys::{Key, TryClone};
+use crate::orders::order;
 use crate::shared::SharedBytes;
 use crate::short::{SHORT, ShortBytes};
 use std::alloc::{AllocError, Global};
@@ -46,6 +45,25 @@ impl Bytes {
             return Ok(Bytes { held });
         }
         let shared = SharedBytes::from_vec(Vec::from_slice(alloc, bytes)?)?;
+        Ok(Bytes {
+            held: Held::Shared(shared),
+        })
+    }
+
+    /// A copy of two strings of bytes, one behind the other. It fails for want of memory alone, and asks for none where
+    /// together they are few.
+    pub fn joined(alloc: Global, front: &[u8], back: &[u8]) -> Result<Self, AllocError>
+        ensures joined { IfOk result (λ joined. joined ≡ front.now ++ back.now) }
+    {
+        let len = front.len() + back.len();
+        if len <= SHORT {
+            let held = Held::Short(ShortBytes::joined(alloc, front, back));
+            return Ok(Bytes { held });
+        }
+        let mut bytes = Vec::with_capacity(alloc, len)?;
+        bytes.extend_from_slice(front)?;
+        bytes.extend_from_slice(back)?;
+        let shared = SharedBytes::from_vec(bytes)?;
         Ok(Bytes {
             held: Held::Shared(shared),
         })
@@ -171,21 +189,4 @@ impl Key for Bytes {
     ghost use Rattle.std.specs.FinMap.{slice_cmp-IsAntisymmetric, nat_cmp-IsAntisymmetric};
 
     ghost exact = { slice_cmp-IsAntisymmetric nat_cmp-IsAntisymmetric };
-}
-
-// So many bytes are compared one by one.
-const NEAR: usize = 16;
-
-/// How two strings of bytes are ordered. Names mostly differ in their first bytes, which are compared one by one; what is
-/// behind them is compared many bytes at a time.
-pub fn order(a: &[u8], b: &[u8]) -> Ordering
-    ensures order { result ≡ slice_cmp nat_cmp a.now b.now }
-{
-    let near = NEAR.min(a.len()).min(b.len());
-    for place in 0..near {
-        if a[place] != b[place] {
-            return a[place].cmp(&b[place]);
-        }
-    }
-    (&a[near..]).cmp(&&b[near..])
 }

@@ -8,10 +8,12 @@
 mod bytes;
 mod items;
 mod keys;
+mod orders;
 mod shared;
 mod short;
 
-pub use bytes::{Bytes, order};
+pub use bytes::Bytes;
 pub use items::Items;
 pub use keys::{Key, TryClone};
+pub use orders::order;
 pub use shared::SharedBytes;

@@ -1,5 +1,5 @@
 //! Few bytes, which stand in the value itself.
-ghost use Rattle.std.specs.Prelude.{◌≡◌, ◌≤◌, length};
+ghost use Rattle.std.specs.Prelude.{◌≡◌, ◌≤◌, ◌+◌, ◌++◌, length};
 
 use std::alloc::Global;
 use std::marker::Model;
@@ -36,6 +36,22 @@ impl ShortBytes {
         ShortBytes {
             alloc,
             len: bytes.len() as u8,
+            bytes: held,
+        }
+    }
+
+    /// A copy of these bytes, one string behind the other.
+    pub fn joined(alloc: Global, front: &[u8], back: &[u8]) -> ShortBytes
+        requires few { length front.now + length back.now ≤ 22 }
+        ensures joined { result ≡ front.now ++ back.now }
+    {
+        let len = front.len() + back.len();
+        let mut held = [0; 22];
+        held[..front.len()].copy_from_slice(front);
+        held[front.len()..len].copy_from_slice(back);
+        ShortBytes {
+            alloc,
+            len: len as u8,
             bytes: held,
         }
     }

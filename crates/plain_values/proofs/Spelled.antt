@@ -1,0 +1,71 @@
+-- Bytes are ordered as the numbers that they spell.
+use Rattle.std.proofs.Common.{◌≡◌, ◌<◌, ◌≤◌, ◌+◌, ◌*◌, ◌-◌, ℕ, zero, suc, List, [], ◌∷◌, length, take, drop, get_or, refl, sym, ap, ◌∙◌, subst, Fits, w8, arith}
+use Rattle.std.proofs.lemmas.List.{take_rest, get_or-drop}
+use Rattle.std.specs.Ordering.{nat_cmp, ordering_then, MatchOrdering}
+use Rattle.std.specs.Cmp.{nat_cmp_is, ranks}
+use Rattle.std.specs.Cmp.Lexicographic.{slice_cmp}
+use Rattle.std.specs.declared.cmp.Ordering.{Ordering}
+use Rattle.std.specs.declared.cmp.Ordering.TheVariants.{Less, Equal, Greater}
+use Rattle.plain_values.specs.Spelling.{spelled}
+
+abbrev pub AreBytes : List ℕ → Type 0
+AreBytes bytes = (i : ℕ) → Fits w8 (get_or bytes i 0)
+
+-- behind a lesser number bytes spell a lesser one, whatever they are
+lesser : (k : ℕ) (xs ys : List ℕ) (m n : ℕ) → m < n → k ≤ length xs → k ≤ length ys → AreBytes xs → AreBytes ys → spelled m (take k xs) < spelled n (take k ys)
+lesser zero xs ys m n lt _ _ _ _ = lt
+lesser (suc k) [] ys m n lt short _ _ _ = absurd (omega (arith, short))
+lesser (suc k) (x ∷ xs) [] m n lt _ short _ _ = absurd (omega (arith, short))
+lesser (suc k) (x ∷ xs) (y ∷ ys) m n lt hx hy bx by =
+    lesser k xs ys (m * 256 + x) (n * 256 + y) (omega (arith, lt, bx 0)) (omega (arith, hx)) (omega (arith, hy)) (λ i. bx (suc i)) (λ i. by (suc i))
+
+-- so many bytes decide as the numbers that they spell, or else what is behind them
+pub by_numbers : (k : ℕ) (xs ys : List ℕ) (m : ℕ) → k ≤ length xs → k ≤ length ys → AreBytes xs → AreBytes ys
+    → slice_cmp nat_cmp xs ys ≡ ordering_then (nat_cmp (spelled m (take k xs)) (spelled m (take k ys))) (slice_cmp nat_cmp (drop k xs) (drop k ys))
+by_numbers zero xs ys m _ _ _ _ = ap (λ o. ordering_then o (slice_cmp nat_cmp xs ys)) (nat_cmp_is m m Equal refl)
+by_numbers (suc k) [] ys m short _ _ _ = absurd (omega (arith, short))
+by_numbers (suc k) (x ∷ xs) [] m _ short _ _ = absurd (omega (arith, short))
+by_numbers (suc k) (x ∷ xs) (y ∷ ys) m hx hy bx by =
+    by_first (nat_cmp x y) (ranks x y) (by_numbers k xs ys (m * 256 + x) (omega (arith, hx)) (omega (arith, hy)) (λ i. bx (suc i)) (λ i. by (suc i)))
+  where
+    by_first : (o : Ordering) → MatchOrdering o (x < y) (x ≡ y) (y < x)
+        → slice_cmp nat_cmp xs ys ≡ ordering_then (nat_cmp (spelled (m * 256 + x) (take k xs)) (spelled (m * 256 + x) (take k ys))) (slice_cmp nat_cmp (drop k xs) (drop k ys))
+        → ordering_then o (slice_cmp nat_cmp xs ys)
+        ≡ ordering_then (nat_cmp (spelled (m * 256 + x) (take k xs)) (spelled (m * 256 + y) (take k ys))) (slice_cmp nat_cmp (drop k xs) (drop k ys))
+    by_first Less lt _ =
+        ap (λ o. ordering_then o (slice_cmp nat_cmp (drop k xs) (drop k ys)))
+        (nat_cmp_is _ _ Less (lesser k xs ys (m * 256 + x) (m * 256 + y) (omega (arith, lt)) (omega (arith, hx)) (omega (arith, hy)) (λ i. bx (suc i)) (λ i. by (suc i))))
+    by_first Equal is behind =
+        behind
+        ∙ ap (λ z. ordering_then (nat_cmp (spelled (m * 256 + x) (take k xs)) (spelled (m * 256 + z) (take k ys))) (slice_cmp nat_cmp (drop k xs) (drop k ys))) is
+    by_first Greater gt _ =
+        ap (λ o. ordering_then o (slice_cmp nat_cmp (drop k xs) (drop k ys)))
+        (nat_cmp_is _ _ Greater (lesser k ys xs (m * 256 + y) (m * 256 + x) (omega (arith, gt)) (omega (arith, hy)) (omega (arith, hx)) (λ i. by (suc i)) (λ i. bx (suc i))))
+
+-- where the numbers of eight bytes differ they decide
+pub decided : (xs ys : List ℕ) (x y : ℕ) → 8 ≤ length xs → 8 ≤ length ys → AreBytes xs → AreBytes ys
+    → x ≡ spelled 0 (take 8 xs) → y ≡ spelled 0 (take 8 ys) → (x ≡ y → ⊥) → nat_cmp x y ≡ slice_cmp nat_cmp xs ys
+decided xs ys x y hx hy bx by is_x is_y apart =
+    by_rank (nat_cmp x y) (ranks x y)
+    ∙ ap (λ z. ordering_then (nat_cmp z y) behind) is_x ∙ ap (λ z. ordering_then (nat_cmp (spelled 0 (take 8 xs)) z) behind) is_y
+    ∙ sym (by_numbers 8 xs ys 0 hx hy bx by)
+  where
+    behind : Ordering
+    behind = slice_cmp nat_cmp (drop 8 xs) (drop 8 ys)
+
+    by_rank : (o : Ordering) → MatchOrdering o (x < y) (x ≡ y) (y < x) → o ≡ ordering_then o behind
+    by_rank Less _ = refl
+    by_rank Equal is = absurd (apart is)
+    by_rank Greater _ = refl
+
+-- where they don't, what is left behind the eight bytes decides
+pub left_decides : (xs ys : List ℕ) → 8 ≤ length xs → 8 ≤ length ys → AreBytes xs → AreBytes ys
+    → spelled 0 (take 8 xs) ≡ spelled 0 (take 8 ys)
+    → slice_cmp nat_cmp (take (length xs - 8) (drop 8 xs)) (take (length ys - 8) (drop 8 ys)) ≡ slice_cmp nat_cmp xs ys
+left_decides xs ys hx hy bx by same =
+    ap (λ z. slice_cmp nat_cmp z (take (length ys - 8) (drop 8 ys))) (take_rest xs 8) ∙ ap (slice_cmp nat_cmp (drop 8 xs)) (take_rest ys 8)
+    ∙ sym (by_numbers 8 xs ys 0 hx hy bx by ∙ ap (λ o. ordering_then o (slice_cmp nat_cmp (drop 8 xs) (drop 8 ys))) (sym (nat_cmp_is _ _ Equal same)))
+
+-- and it is bytes
+pub left_bytes : (xs : List ℕ) → AreBytes xs → AreBytes (take (length xs - 8) (drop 8 xs))
+left_bytes xs bytes i = subst (λ z. Fits w8 (get_or z i 0)) (sym (take_rest xs 8)) (subst (Fits w8) (sym (get_or-drop 8 xs i 0)) (bytes (8 + i)))
