@@ -1,64 +1,38 @@
 -- The parts of a line, as searches find them.
-use Rattle.std.proofs.Common.{◌≡◌, ◌<◌, ◌≤◌, ◌-◌, ◌+◌, ◌||◌, ◌&&◌, not, ltb, Some, None, ℕ, Bool, true, false, List, [], ◌∷◌, length, take, drop, get_or, eqb, refl, sym, ap, ◌∙◌, arith}
+use Rattle.std.proofs.Common.{◌≡◌, ◌<◌, ◌≤◌, ◌-◌, ◌+◌, ◌&&◌, ltb, Some, None, ℕ, Bool, true, false, List, [], ◌∷◌, ◌++◌, length, take, drop, get_or, reverse, refl, sym, ap, ◌∙◌, arith}
 use Rattle.std.specs.List.{prefix_len, suffix_len, position_or_len}
 use Rattle.std.proofs.lemmas.Bool.{cond-true, cond-false, and_from, lt-ltb, le-ltb}
-use Rattle.std.proofs.lemmas.List.{take_rest, drop_all}
-use Rattle.std.proofs.lemmas.List.Sums.{prefix_len_is, suffix_len_is, position_or_len_is}
-use Rattle.bstr.specs.Bytes.{is_in, not_in}
+use Rattle.std.proofs.lemmas.List.{reverse-append, length-append, take-append-le, take_all}
+use Rattle.std.proofs.Math.Seq.{drop-append-add}
+use Rattle.std.proofs.lemmas.List.Sums.{position_or_len_is}
 use Rattle.section_reader.specs.Parts.{is_white, trim_start, trim_end, trimmed, is_equals, key_in, value_in, pair_of}
 
--- the bytes of whitespace
-abbrev pub whites : List ℕ
-whites = 32 ∷ 9 ∷ 13 ∷ []
+-- whitespace at the front goes
+pub trim_start-white : (b : ℕ) (rest : List ℕ) → is_white b ≡ true → trim_start (b ∷ rest) ≡ trim_start rest
+trim_start-white b rest is = ap (λ n. drop n (b ∷ rest)) (cond-true _ (1 + prefix_len is_white rest) 0 is) ∙ drop-append-add (b ∷ []) rest (prefix_len is_white rest)
 
-or_flat : (x y z : Bool) → (x || (y || (z || false))) ≡ (x || y || z)
-or_flat true y z = refl
-or_flat false true z = refl
-or_flat false false true = refl
-or_flat false false false = refl
+-- any other byte at the front stays
+pub trim_start-other : (b : ℕ) (rest : List ℕ) → is_white b ≡ false → trim_start (b ∷ rest) ≡ b ∷ rest
+trim_start-other b rest is = ap (λ n. drop n (b ∷ rest)) (cond-false _ (1 + prefix_len is_white rest) 0 is)
 
-white_in : (b : ℕ) → is_in whites b ≡ is_white b
-unfolding is_in
-white_in b = or_flat (eqb b 32) (eqb b 9) (eqb b 13)
+turned : (before : List ℕ) (b : ℕ) → reverse (before ++ b ∷ []) ≡ b ∷ reverse before
+turned before b = reverse-append before (b ∷ [])
 
-not_true : (b : Bool) → (not b ≡ true → ⊥) → b ≡ true
-not_true true none = refl
-not_true false none = absurd (none refl)
+-- whitespace at the end goes
+pub trim_end-white : (before : List ℕ) (b : ℕ) → is_white b ≡ true → trim_end (before ++ b ∷ []) ≡ trim_end before
+trim_end-white before b is =
+    let more : suffix_len is_white (before ++ b ∷ []) ≡ 1 + suffix_len is_white before =
+    ap (prefix_len is_white) (turned before b) ∙ cond-true _ (1 + prefix_len is_white (reverse before)) 0 is in
+    let len = length-append before (b ∷ []) in
+    let left : length (before ++ b ∷ []) - suffix_len is_white (before ++ b ∷ []) ≡ length before - suffix_len is_white before = omega (arith, more, len) in
+    ap (λ n. take n (before ++ b ∷ [])) left ∙ take-append-le _ before (b ∷ []) (omega arith)
 
-not_is_true : (b : Bool) → not b ≡ true → b ≡ false
-not_is_true true is = cc
-not_is_true false is = refl
-
--- a byte that isn't outside the set is white
-pub inside_white : (b : ℕ) → (not_in whites b ≡ true → ⊥) → is_white b ≡ true
-inside_white b none = sym (white_in b) ∙ not_true (is_in whites b) none
-
-pub outside_white : (b : ℕ) → not_in whites b ≡ true → is_white b ≡ false
-outside_white b is = sym (white_in b) ∙ not_is_true (is_in whites b) is
-
-pub trim_start-white : (bytes : List ℕ) → ((k : ℕ) → k < length bytes → is_white (get_or bytes k 0) ≡ true) → [] ≡ trim_start bytes
-trim_start-white bytes all =
-    let len : prefix_len is_white bytes ≡ length bytes = prefix_len_is is_white bytes (length bytes) 0 (omega arith) all (λ h. absurd (omega arith)) in
-    sym (drop_all (prefix_len is_white bytes) bytes (omega arith))
-
-pub trim_start-at : (bytes : List ℕ) (start : ℕ) → start < length bytes → ((k : ℕ) → k < start → is_white (get_or bytes k 0) ≡ true) → is_white (get_or bytes start 0) ≡ false
-    → take (length bytes - start) (drop start bytes) ≡ trim_start bytes
-trim_start-at bytes start lt all other =
-    take_rest bytes start ∙ sym (ap (λ n. drop n bytes) (prefix_len_is is_white bytes start 0 (omega arith) all (λ h. other)))
-
-pub trim_end-white : (bytes : List ℕ) → ((k : ℕ) → k < length bytes → is_white (get_or bytes k 0) ≡ true) → [] ≡ trim_end bytes
-trim_end-white bytes all =
-    let len : suffix_len is_white bytes ≡ length bytes - 0 = suffix_len_is is_white bytes 0 0 (omega arith) (λ k low h. all k h) (λ h. absurd (omega arith)) in
-    let none : length bytes - suffix_len is_white bytes ≡ 0 = omega arith in
-    sym (ap (λ n. take n bytes) none)
-
-pub trim_end-at : (bytes : List ℕ) (last : ℕ) → last < length bytes → ((k : ℕ) → last + 1 ≤ k → k < length bytes → is_white (get_or bytes k 0) ≡ true) → is_white (get_or bytes last 0) ≡ false
-    → take (last + 1) bytes ≡ trim_end bytes
-trim_end-at bytes last lt all other =
-    let here : last + 1 - 1 ≡ last = omega arith in
-    let len = suffix_len_is is_white bytes (last + 1) 0 (omega arith) all (λ h. ap (λ n. is_white (get_or bytes n 0)) here ∙ other) in
-    let kept : length bytes - suffix_len is_white bytes ≡ last + 1 = omega arith in
-    sym (ap (λ n. take n bytes) kept)
+-- any other byte at the end stays
+pub trim_end-other : (before : List ℕ) (b : ℕ) → is_white b ≡ false → trim_end (before ++ b ∷ []) ≡ before ++ b ∷ []
+trim_end-other before b is =
+    let none : suffix_len is_white (before ++ b ∷ []) ≡ 0 =
+    ap (prefix_len is_white) (turned before b) ∙ cond-false _ (1 + prefix_len is_white (reverse before)) 0 is in
+    take_all _ (before ++ b ∷ []) (omega (arith, none))
 
 not_so : (b : Bool) → (b ≡ true → ⊥) → b ≡ false
 not_so true none = absurd (none refl)

@@ -6,9 +6,6 @@ ghost use Rattle.section_reader.specs.Parts.{is_white, trim_start, trim_end, tri
 
 use bstr::ByteSlice;
 
-/// Whitespace: space, tab and carriage return.
-const WHITE: &[u8] = b" \t\r";
-
 /// What a physical line is.
 #[derive(Clone, Copy, Debug, PartialEq, Eq)]
 pub(crate) enum LineForm {
@@ -68,19 +65,27 @@ pub(crate) fn trim(bytes: &[u8]) -> &[u8]
 fn trim_start(bytes: &[u8]) -> &[u8]
     ensures part { result.now ≡ trim_start bytes.now }
 {
-    match bytes.find_not_byteset(WHITE) {
-        None => &[],
-        Some(start) => &bytes[start..],
+    let mut text = bytes;
+    while let Some((first, behind)) = text.split_first() {
+        if !is_white(*first) {
+            return text;
+        }
+        text = behind;
     }
+    text
 }
 
 fn trim_end(bytes: &[u8]) -> &[u8]
     ensures part { result.now ≡ trim_end bytes.now }
 {
-    match bytes.rfind_not_byteset(WHITE) {
-        None => &[],
-        Some(last) => &bytes[..last + 1],
+    let mut text = bytes;
+    while let Some((last, before)) = text.split_last() {
+        if !is_white(*last) {
+            return text;
+        }
+        text = before;
     }
+    text
 }
 
 /// Whether a logical line is a header, good or bad.

@@ -1,11 +1,25 @@
-use Rattle.std.proofs.Common.{arith}
-use Rattle.section_reader.proofs.PartLemmas.{inside_white, outside_white, trim_end-white, trim_end-at}
+use Rattle.std.proofs.Common.{refl, sym, ap, ◌∙◌, length, rules, arith}
+use Rattle.std.proofs.lemmas.List.{take_all}
+use Rattle.section_reader.specs.Parts.{trim_end}
+use Rattle.section_reader.proofs.PartLemmas.{trim_end-white, trim_end-other}
 use Rattle.section_reader.proofs.parts.trim_end.Goals as goal
 
-pub returns-in-None : goal.returns-in-None
-returns-in-None c = record { part = trim_end-white c.args.bytes.now (λ k h. inside_white _ (c.in-None.ensures k (omega arith) h)) }
+pub loop-last-init : goal.loop-last-init
+loop-last-init c = refl
 
-pub returns-in-Some : goal.returns-in-Some
-returns-in-Some c =
-    let last = c.in-Some.ensures in
-    record { part = trim_end-at c.args.bytes.now c.in-Some.last last.0.high (λ k low h. inside_white _ (last.0.after k low h)) (outside_white _ last.1) }
+pub returns-then-not-is_white : goal.returns-then-not-is_white
+returns-then-not-is_white c =
+    let text = c.in-Some.ensures.cases.0 in
+    let other = trim_end-other c.in-Some.before.now c.in-Some.last.now (sym c.if-not-is_white.ensures.test) in
+    record { part = text ∙ sym other ∙ ap trim_end (sym text) ∙ c.loop-last.invariant }
+
+pub loop-last-smaller : goal.loop-last-smaller
+loop-last-smaller c = omega (arith, c.in-Some.ensures.cases)
+
+pub loop-last-preserved : goal.loop-last-preserved
+loop-last-preserved c =
+    let text = c.in-Some.ensures.cases.0 in
+    sym (trim_end-white c.in-Some.before.now c.in-Some.last.now (sym c.if-not-is_white.ensures.test)) ∙ ap trim_end (sym text) ∙ c.loop-last.invariant
+
+pub returns : goal.returns
+returns c = record { part = sym (take_all _ c.loop-last.text.now (omega (arith, c.in_default.ensures.cases))) ∙ c.loop-last.invariant }

@@ -1,11 +1,28 @@
-use Rattle.std.proofs.Common.{arith}
-use Rattle.section_reader.proofs.PartLemmas.{inside_white, outside_white, trim_start-white, trim_start-at}
+use Rattle.std.proofs.Common.{refl, sym, ap, ◌∙◌, ◌≡◌, drop, arith}
+use Rattle.std.specs.List.{prefix_len}
+use Rattle.std.proofs.lemmas.List.Sums.{prefix_len-le-length}
+use Rattle.section_reader.specs.Parts.{is_white, trim_start}
+use Rattle.section_reader.proofs.PartLemmas.{trim_start-white, trim_start-other}
 use Rattle.section_reader.proofs.parts.trim_start.Goals as goal
 
-pub returns-in-None : goal.returns-in-None
-returns-in-None c = record { part = trim_start-white c.args.bytes.now (λ k h. inside_white _ (c.in-None.ensures k (omega arith) h)) }
+pub loop-first-init : goal.loop-first-init
+loop-first-init c = refl
 
-pub returns-in-Some : goal.returns-in-Some
-returns-in-Some c =
-    let first = c.in-Some.ensures in
-    record { part = trim_start-at c.args.bytes.now c.in-Some.start first.0.high (λ k h. inside_white _ (first.0.before k (omega arith) h)) (outside_white _ first.1) }
+pub returns-then-not-is_white : goal.returns-then-not-is_white
+returns-then-not-is_white c =
+    let text = c.in-Some.ensures.cases.0 in
+    let other = trim_start-other c.in-Some.first.now c.in-Some.behind.now (sym c.if-not-is_white.ensures.test) in
+    record { part = text ∙ sym other ∙ ap trim_start (sym text) ∙ c.loop-first.invariant }
+
+pub loop-first-smaller : goal.loop-first-smaller
+loop-first-smaller c = omega (arith, c.in-Some.ensures.cases)
+
+pub loop-first-preserved : goal.loop-first-preserved
+loop-first-preserved c =
+    let text = c.in-Some.ensures.cases.0 in
+    sym (trim_start-white c.in-Some.first.now c.in-Some.behind.now (sym c.if-not-is_white.ensures.test)) ∙ ap trim_start (sym text) ∙ c.loop-first.invariant
+
+pub returns : goal.returns
+returns c =
+    let none : prefix_len is_white c.loop-first.text.now ≡ 0 = omega (arith, prefix_len-le-length is_white c.loop-first.text.now, c.in_default.ensures.cases) in
+    record { part = ap (λ n. drop n c.loop-first.text.now) (sym none) ∙ c.loop-first.invariant }
