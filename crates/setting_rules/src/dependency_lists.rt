@@ -1,5 +1,5 @@
 //! The dependencies of a unit, kind by kind.
-ghost use Rattle.std.specs.Prelude.{◌≡◌, ◌++◌, ◌∷◌, [], OnOk, map};
+ghost use Rattle.std.specs.Prelude.{◌≡◌, ◌++◌, ◌∷◌, [], IfOk, OnOk, map};
 ghost use Rattle.std.specs.List.{flat_map};
 ghost use Rattle.setting_rules.specs.Dependencies.{key_for, in_byte_order, names_by, faults_by};
 ghost use Rattle.setting_rules.specs.Settings.{note_on};
@@ -35,15 +35,16 @@ pub struct Dependencies {
 }
 
 impl Dependencies {
-    /// No lists. It takes no memory.
-    pub(crate) fn new(alloc: Global) -> Dependencies
-        ensures lists { result.lists ≡ [] }
-        ensures notes { result.notes ≡ [] }
+    /// No lists, with room for so many. It fails for want of memory alone.
+    pub(crate) fn with_room(alloc: Global, lists: usize) -> Result<Dependencies, AllocError>
+        ensures lists { IfOk result (λ all. all.lists ≡ []) }
+        ensures notes { IfOk result (λ all. all.notes ≡ []) }
     {
-        Dependencies {
-            lists: Items::new(alloc),
+        let lists = Vec::with_capacity(alloc, lists)?;
+        Ok(Dependencies {
+            lists: Items::from_vec(lists),
             notes: Items::new(alloc),
-        }
+        })
     }
 
     /// Adds the list of a kind, whose key has these values. It fails for want of memory alone.

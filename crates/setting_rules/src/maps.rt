@@ -24,13 +24,12 @@ impl Model for SettingMap {
 }
 
 impl SettingMap {
-    /// No keys. It takes no memory.
-    pub(crate) fn new(alloc: Global) -> SettingMap
-        ensures empty { result ≡ [] }
+    /// No keys, with room for so many. It fails for want of memory alone.
+    pub(crate) fn with_room(alloc: Global, keys: usize) -> Result<SettingMap, AllocError>
+        ensures empty { IfOk result (λ map. map ≡ []) }
     {
-        SettingMap {
-            entries: IndexMap::new(alloc),
-        }
+        let entries = IndexMap::with_capacity(alloc, keys)?;
+        Ok(SettingMap { entries })
     }
 
     /// How many keys there are. It takes no memory.

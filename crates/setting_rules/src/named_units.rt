@@ -24,8 +24,9 @@ pub fn dependencies(
     ensures lists { IfOk result (λ all. all.lists ≡ lists_of settings.now.map unit.now) }
     ensures notes { IfOk result (λ all. all.notes ≡ word_notes settings.now.map unit.now) }
 {
-    let mut all = Dependencies::new(alloc);
-    for kind in DepKind::settable() {
+    let kinds = DepKind::settable();
+    let mut all = Dependencies::with_room(alloc, kinds.len())?;
+    for kind in kinds {
         let values = settings.map.values_of(UNIT, kind.word().as_bytes());
         all.add_kind(alloc, *kind, values, unit)?;
     }

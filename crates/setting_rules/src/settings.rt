@@ -31,13 +31,14 @@ pub struct Settings {
 /// that set dependencies are never emptied, and of `RefuseManualStart` the last good boolean counts; a bad one is noted and
 /// otherwise passed over. Sections and keys that begin with `X-` are passed over (systemd.unit(5), "Unit File Format").
 ///
-/// Two passes over the assignments with one look-up by hash for each; keys and values share their bytes with them.
+/// Two passes over the assignments with one look-up by hash for each, in a map that doesn't grow; keys and values share their
+/// bytes with them.
 pub fn apply(alloc: Global, assignments: &[Assignment]) -> Result<Settings, AllocError>
     ensures map { IfOk result (λ settings. settings.map ≡ settings_of assignments.now) }
     ensures notes { IfOk result (λ settings. settings.notes ≡ boolean_notes assignments.now) }
 {
     let starts = FamilyStarts::of(assignments);
-    let mut settings = Settings::new(alloc);
+    let mut settings = Settings::with_room(alloc, assignments.len())?;
     for (index, assignment) in assignments.iter().enumerate() {
         let rule = KeyRule::of(assignment.section.as_slice(), assignment.key.as_slice());
         settings.take(alloc, assignment, rule, starts.of_rule(rule) <= index)?;
@@ -99,14 +100,16 @@ fn resets_family(assignment: &Assignment, family: KeyRule) -> bool
 }
 
 impl Settings {
-    fn new(alloc: Global) -> Settings
-        ensures map { result.map ≡ [] }
-        ensures notes { result.notes ≡ [] }
+    // None, with room for so many keys.
+    fn with_room(alloc: Global, keys: usize) -> Result<Settings, AllocError>
+        ensures map { IfOk result (λ settings. settings.map ≡ []) }
+        ensures notes { IfOk result (λ settings. settings.notes ≡ []) }
     {
-        Settings {
-            map: SettingMap::new(alloc),
+        let map = SettingMap::with_room(alloc, keys)?;
+        Ok(Settings {
+            map,
             notes: Items::new(alloc),
-        }
+        })
     }
 
     // Takes one more assignment, whose key has this rule. The value of a family counts where it is live.

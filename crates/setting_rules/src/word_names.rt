@@ -1,14 +1,14 @@
 //! The units that the words of dependencies name.
-ghost use Rattle.std.specs.Prelude.{◌≡◌, IfOk};
-ghost use Rattle.setting_rules.specs.Dependencies.{named_by};
+ghost use Rattle.std.specs.Prelude.{◌≡◌, IfOk, Some};
+ghost use Rattle.setting_rules.specs.Dependencies.{named_by, named_by_text};
 
 use crate::names::for_unit;
 use crate::notes::SettingNoteKind;
 use std::alloc::{AllocError, Global};
 use unit_name::{ExpandFault, NameFault, UnitName, expand};
 
-/// What a word of a unit's dependencies names, or what is wrong with it. It refuses for want of memory alone.
-#[tactic(auto, unfolding(crate::specs::Dependencies::named_by))]
+/// What a word of a unit's dependencies names, or what is wrong with it. A word without a percent sign is not copied before it
+/// is read. It refuses for want of memory alone.
 pub(crate) fn named_by(
     alloc: Global,
     word: &[u8],
@@ -16,12 +16,25 @@ pub(crate) fn named_by(
 ) -> Result<Result<UnitName, SettingNoteKind>, AllocError>
     ensures named { IfOk result (λ named. named ≡ named_by unit.now word.now) }
 {
-    let text = match expand(alloc, word, unit) {
-        Ok(text) => text,
-        Err(ExpandFault::BadEscape) => return Ok(Err(SettingNoteKind::BadEscape)),
-        Err(ExpandFault::Memory) => return Err(AllocError),
-    };
-    match UnitName::parse(alloc, &text) {
+    if !word.contains(&b'%') {
+        return named_by_text(alloc, word, unit);
+    }
+    match expand(alloc, word, unit) {
+        Ok(text) => named_by_text(alloc, &text, unit),
+        Err(ExpandFault::BadEscape) => Ok(Err(SettingNoteKind::BadEscape)),
+        Err(ExpandFault::Memory) => Err(AllocError),
+    }
+}
+
+// What an expanded word names, or what is wrong with it.
+fn named_by_text(
+    alloc: Global,
+    text: &[u8],
+    unit: &UnitName,
+) -> Result<Result<UnitName, SettingNoteKind>, AllocError>
+    ensures named { IfOk result (λ named. named ≡ named_by_text unit.now (Some text.now)) }
+{
+    match UnitName::parse(alloc, text) {
         Ok(name) => match for_unit(unit, name)? {
             Some(named) => Ok(Ok(named)),
             None => Ok(Err(SettingNoteKind::BadName)),

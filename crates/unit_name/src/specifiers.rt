@@ -53,7 +53,7 @@ pub fn expand(alloc: Global, value: &[u8], name: &UnitName) -> Result<Vec<u8>, E
     if !can_expand(value, name) {
         return Err(ExpandFault::BadEscape);
     }
-    let mut expanded = Vec::new(alloc);
+    let mut expanded = Vec::with_capacity(alloc, value.len())?;
     let mut rest = value;
     while let Some((byte, after)) = rest.split_first() {
         rest = after;

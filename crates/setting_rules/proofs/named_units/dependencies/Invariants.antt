@@ -6,4 +6,4 @@ use Rattle.setting_rules.proofs.named_units.dependencies.Given as goal
 
 abbrev pub invariant-loop-kind : goal.invariant-loop-kind
 invariant-loop-kind l =
-    (l.all.lists ≡ map (list_for l.settings.map l.unit) (take l.kind-index l.kind-items)) × (l.all.notes ≡ flat_map (notes_for l.settings.map l.unit) (take l.kind-index l.kind-items)) × (l.kind-items ≡ settable)
+    (l.all.lists ≡ map (list_for l.settings.map l.unit) (take l.kind-index l.kinds)) × (l.all.notes ≡ flat_map (notes_for l.settings.map l.unit) (take l.kind-index l.kinds)) × (l.kinds ≡ settable)

@@ -9,7 +9,7 @@ use Rattle.setting_rules.proofs.settings.apply.Goals as goal
 
 pub loop-index-init : goal.loop-index-init
 unfolding keys_of boolean_notes
-loop-index-init c = (c.new-settings.ensures.map, c.new-settings.ensures.notes)
+loop-index-init c = (c.in_ok-settings.ensures.map, c.in_ok-settings.ensures.notes)
 
 pub loop-index-preserved : goal.loop-index-preserved
 loop-index-preserved c =
