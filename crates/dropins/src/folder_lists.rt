@@ -1,5 +1,5 @@
 //! The folders of names.
-ghost use Rattle.std.specs.Prelude.{◌≡◌, [], IfOk, OnOk, fold};
+ghost use Rattle.std.specs.Prelude.{◌≡◌, ◌∷◌, [], IfOk, IsTrue, OnOk, fold};
 ghost use Rattle.unit_name.specs.Names.{IsName};
 ghost use Rattle.dropins.specs.FolderLists.{folders, folders_of, with_name, with_prefix, with_template};
 ghost use Rattle.dropins.specs.Listings.{IsKept};
@@ -7,7 +7,7 @@ ghost use Rattle.dropins.specs.Listings.{IsKept};
 use std::alloc::{AllocError, Global};
 use std::collections::BTreeSet;
 use std::marker::Model;
-use unit_name::{NameFault, UnitName};
+use unit_name::{NameFault, Shape, UnitName};
 
 // Names in the order of their first places, and the same names in a set.
 #[derive(Drop)]
@@ -84,11 +84,35 @@ impl Listing {
 pub fn folders(alloc: Global, names: &[UnitName]) -> Result<Vec<UnitName>, AllocError>
     ensures folders { IfOk result (λ all. all.items ≡ folders names.now) }
 {
+    if let Some((name, others)) = names.split_first() {
+        if others.is_empty() && is_only_folder(name) {
+            return alone(alloc, name);
+        }
+    }
     let mut all = Listing::new(alloc);
     for name in names {
         all.add_folders(alloc, name)?;
     }
     Ok(all.names)
+}
+
+// Whether a name is seen to be its only folder, as most are: no set is made for it.
+fn is_only_folder(name: &UnitName) -> bool
+    ensures only { IsTrue result → folders (name.now ∷ []) ≡ name.now ∷ [] }
+{
+    match name.shape() {
+        Shape::Plain | Shape::Template => !name.prefix().contains(&b'-'),
+        Shape::Instance => false,
+    }
+}
+
+// A list of one name.
+fn alone(alloc: Global, name: &UnitName) -> Result<Vec<UnitName>, AllocError>
+    ensures alone { IfOk result (λ names. names.items ≡ name.now ∷ []) }
+{
+    let mut names = Vec::with_capacity(alloc, 1)?;
+    names.push(name.try_clone()?)?;
+    Ok(names)
 }
 
 /// The folders of a unit, listed once for its drop-ins and its links: in contracts the list. Those of types aren't in
