@@ -1,6 +1,5 @@
 use Rattle.std.proofs.Common.{◌≡◌, ◌≢◌, ◌∷◌, ◌∙◌, ℕ, List, [], Bool, true, false, not, IsTrue, ⊎_elim, refl, sym, ap}
 use Rattle.std.specs.List.{list_any}
-use Rattle.unit_name.specs.declared.names.Shape.{Shape}
 use Rattle.unit_name.specs.declared.names.Shape.TheVariants.{Plain, Template, Instance}
 use Rattle.unit_name.specs.Names.{Name, prefix, shape}
 use Rattle.dropins.specs.FolderLists.{is_dash, folders}

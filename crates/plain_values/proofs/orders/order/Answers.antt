@@ -1,4 +1,4 @@
-use Rattle.std.proofs.Common.{◌∙◌, ap, sym, refl, length, arith}
+use Rattle.std.proofs.Common.{◌∙◌, sym, refl, arith}
 use Rattle.plain_values.proofs.Spelled.{decided, left_decides, left_bytes}
 use Rattle.plain_values.proofs.orders.order.Goals as goal
 

@@ -1,4 +1,4 @@
-use Rattle.std.proofs.Common.{refl, sym, ap, ◌∙◌, length, rules, arith}
+use Rattle.std.proofs.Common.{refl, sym, ap, ◌∙◌, arith}
 use Rattle.std.proofs.lemmas.List.{take_all}
 use Rattle.section_reader.specs.Parts.{trim_end}
 use Rattle.section_reader.proofs.PartLemmas.{trim_end-white, trim_end-other}

@@ -1,6 +1,6 @@
 use Rattle.std.proofs.Common.{◌∙◌, ◌≡◌, List, ℕ, Option, Some, None, ap, sym}
 use Rattle.unit_name.specs.Names.{Name}
-use Rattle.unit_name.specs.SpecifierLaws.{is_percent, plain_texts_stay}
+use Rattle.unit_name.specs.SpecifierLaws.{plain_texts_stay}
 use Rattle.unit_name.specs.Specifiers.{expand}
 use Rattle.setting_rules.specs.Dependencies.{named_by, named_by_text}
 use Rattle.setting_rules.proofs.word_names.named_by.Goals as goal
