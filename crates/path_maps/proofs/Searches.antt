@@ -1,6 +1,7 @@
 -- What a binary search by bytes finds among pairs in order.
-use Rattle.std.proofs.Common.{◌≡◌, ◌<◌, ℕ, zero, suc, List, [], ◌∷◌, length, get_or, Some, None, Result, Ok, Err, IfOk, IfErr, IsTrue, sym, ap, ◌∙◌}
+use Rattle.std.proofs.Common.{◌≡◌, ◌<◌, ℕ, zero, suc, List, [], ◌∷◌, length, get_or, Some, None, Result, Ok, Err, IfOk, IfErr, IsTrue, refl, sym, ap, ◌∙◌}
 use Rattle.std.proofs.lemmas.List.{get_or_default}
+use Rattle.std.specs.Prelude.{slice_get}
 use Rattle.std.specs.List.Sorted.{IsSearchInRange, IsBinarySearchResult}
 use Rattle.std.specs.Cmp.{tied_itself}
 use Rattle.std.specs.Cmp.Lexicographic.{nat_list_cmp_total}
@@ -38,3 +39,9 @@ module _ {V : Type 0} (k : List ℕ) where
   same_is es i d s lt at same =
       let tied : bytes_cmp d.0 k ≡ Equal = ap (λ (x : List ℕ). bytes_cmp x k) same ∙ tied_itself nat_list_cmp_total k in
       (place_is es i s lt (λ b. ap (λ p. bytes_cmp p.0 k) (get_or_default es i b d lt ∙ sym at) ∙ tied) d).1 ∙ ap (λ p. Some p.1) (sym at)
+
+-- the empty key stands at the first pair or nowhere
+pub unnamed_nowhere : {V : Type 0} (pairs : List (List ℕ × V)) → IsTrue (is_sorted bytes_cmp pairs) → ((e : List ℕ × V) → slice_get pairs 0 ≡ Some e → e.0 ≡ [] → ⊥) → find bytes_cmp [] pairs ≡ None
+unnamed_nowhere [] s named = refl
+unnamed_nowhere (([], v) ∷ es) s named = absurd (named ([], v) refl refl)
+unnamed_nowhere ((b ∷ bytes, v) ∷ es) s named = find_gap bytes_cmp [] nat_list_cmp_total ((b ∷ bytes, v) ∷ es) 0 s refl

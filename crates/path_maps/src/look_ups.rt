@@ -1,5 +1,5 @@
 //! Look-ups by bytes that stand in no map: no key is built for them.
-ghost use Rattle.std.specs.Prelude.{◌≡◌, ◌<◌, Some, None, length, IsTrue, IfOk, IfErr, MatchOption};
+ghost use Rattle.std.specs.Prelude.{◌≡◌, ◌<◌, [], Some, None, length, IsTrue, IfOk, IfErr, MatchOption};
 ghost use Rattle.std.specs.Ordering.{nat_cmp};
 ghost use Rattle.std.specs.FinMap.{find, is_sorted};
 ghost use Rattle.join_law.specs.Maps.{or_empty};
@@ -37,12 +37,29 @@ fn place_of<V>(pairs: &[(Bytes, V)], key: &[u8]) -> Result<usize, usize>
     }
 }
 
+// The pair at the empty key, which is the first of all. O(1), without memory.
+fn unnamed_pair<V>(pairs: &[(Bytes, V)]) -> Option<&(Bytes, V)>
+    requires sorted { IsTrue (is_sorted bytes_cmp pairs.now) }
+    ensures found { MatchOption result (find bytes_cmp [] pairs.now ≡ None)
+        (λ pair. (pair.now.0 ≡ []) × (find bytes_cmp [] pairs.now ≡ Some pair.now.1)) }
+{
+    let first = pairs.first()?;
+    if first.0.as_slice().is_empty() {
+        Some(first)
+    } else {
+        None
+    }
+}
+
 // The pair at a key of these bytes. O(log n), without memory.
 pub fn pair_at<'a, V>(pairs: &'a [(Bytes, V)], key: &[u8]) -> Option<&'a (Bytes, V)>
     requires sorted { IsTrue (is_sorted bytes_cmp pairs.now) }
     ensures found { MatchOption result (find bytes_cmp key.now pairs.now ≡ None)
         (λ pair. (pair.now.0 ≡ key.now) × (find bytes_cmp key.now pairs.now ≡ Some pair.now.1)) }
 {
+    if key.is_empty() {
+        return unnamed_pair(pairs);
+    }
     match place_of(pairs, key) {
         Ok(at) => Some(&pairs[at]),
         Err(_) => None,

@@ -1,5 +1,5 @@
 -- Bytes are ordered as the numbers that they spell.
-use Rattle.std.proofs.Common.{◌≡◌, ◌<◌, ◌≤◌, ◌+◌, ◌*◌, ◌-◌, ℕ, zero, suc, List, [], ◌∷◌, length, take, drop, get_or, refl, sym, ap, ◌∙◌, subst, Fits, w8, arith}
+use Rattle.std.proofs.Common.{◌≡◌, ◌<◌, ◌≤◌, ◌+◌, ◌*◌, ◌-◌, ℕ, zero, suc, List, [], ◌∷◌, length, min, take, drop, get_or, refl, sym, ap, ◌∙◌, subst, Fits, w8, arith}
 use Rattle.std.proofs.lemmas.List.{take_rest, get_or-drop}
 use Rattle.std.specs.Ordering.{nat_cmp, ordering_then, MatchOrdering}
 use Rattle.std.specs.Cmp.{nat_cmp_is, ranks}
@@ -69,3 +69,19 @@ left_decides xs ys hx hy bx by same =
 -- and it is bytes
 pub left_bytes : (xs : List ℕ) → AreBytes xs → AreBytes (take (length xs - 8) (drop 8 xs))
 left_bytes xs bytes i = subst (λ z. Fits w8 (get_or z i 0)) (sym (take_rest xs 8)) (subst (Fits w8) (sym (get_or-drop 8 xs i 0)) (bytes (8 + i)))
+
+-- of strings that are the same as far as the shorter goes, the shorter is less
+pub by_lengths : (xs ys : List ℕ) (n : ℕ) → n ≡ min (length xs) (length ys) → slice_cmp nat_cmp (drop n xs) (drop n ys) ≡ nat_cmp (length xs) (length ys)
+by_lengths [] [] zero is = refl
+by_lengths [] [] (suc n) is = absurd (omega (arith, is))
+by_lengths [] (y ∷ ys) zero is = nat_cmp_is 0 (suc (length ys)) Less (omega arith)
+by_lengths [] (y ∷ ys) (suc n) is = absurd (omega (arith, is))
+by_lengths (x ∷ xs) [] zero is = nat_cmp_is (suc (length xs)) 0 Greater (omega arith)
+by_lengths (x ∷ xs) [] (suc n) is = absurd (omega (arith, is))
+by_lengths (x ∷ xs) (y ∷ ys) zero is = absurd (omega (arith, is))
+by_lengths (x ∷ xs) (y ∷ ys) (suc n) is = by_lengths xs ys n (omega (arith, is)) ∙ more (nat_cmp (length xs) (length ys)) (ranks (length xs) (length ys))
+  where
+    more : (r : Ordering) → MatchOrdering r (length xs < length ys) (length xs ≡ length ys) (length ys < length xs) → r ≡ nat_cmp (suc (length xs)) (suc (length ys))
+    more Less h = nat_cmp_is (suc (length xs)) (suc (length ys)) Less (omega (arith, h))
+    more Equal h = nat_cmp_is (suc (length xs)) (suc (length ys)) Equal (ap suc h)
+    more Greater h = nat_cmp_is (suc (length xs)) (suc (length ys)) Greater (omega (arith, h))

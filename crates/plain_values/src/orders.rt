@@ -23,7 +23,20 @@ pub fn order(a: &[u8], b: &[u8]) -> Ordering
         a_left = &a_left[WORD..];
         b_left = &b_left[WORD..];
     }
-    a_left.cmp(&b_left)
+    order_of_few(a_left, b_left)
+}
+
+// The same, byte by byte.
+fn order_of_few(a: &[u8], b: &[u8]) -> Ordering
+    ensures order { result ≡ slice_cmp nat_cmp a.now b.now }
+{
+    let shared = a.len().min(b.len());
+    for place in 0..shared {
+        if a[place] != b[place] {
+            return a[place].cmp(&b[place]);
+        }
+    }
+    a.len().cmp(&b.len())
 }
 
 // The number that the first eight bytes spell.
