@@ -10,7 +10,7 @@ use Rattle.std.proofs.Math.Dec.{leb}
 use Rattle.std.proofs.lemmas.List.Sums.{sum_by-cons}
 use Rattle.std.proofs.lemmas.Option.{slice_get-get_or}
 use Rattle.list_laws.specs.Members.{IsAmong, IsAmong-append_cases, IsAmong-append_left, IsAmong-append_right}
-use Rattle.load_path.specs.Paths.{path_cmp}
+use Rattle.load_places.specs.Places.{place_cmp}
 use Rattle.edit_sums.specs.declared.entries.Edit.{Edit}
 use Rattle.edit_sums.specs.GreatestLaws.{tied}
 use Rattle.edit_sums.specs.Sums.{edits_of}
@@ -27,34 +27,34 @@ use Rattle.crowds.proofs.Own.{own_grows}
 use Rattle.crowds.proofs.SamePaths.{AreAmongPaths, same_paths}
 
 -- the edits of an event of the crowd are at a worker's path
-edits_in_ours : (workers : ℕ) (x : HistoryEvent) (e : Edit) → is_ours workers x ≡ true → IsAmong e (edits_in x) → (k : ℕ) × (k < workers) × (e.path ≡ crowd_path k)
+edits_in_ours : (workers : ℕ) (x : HistoryEvent) (e : Edit) → is_ours workers x ≡ true → IsAmong e (edits_in x) → (k : ℕ) × (k < workers) × (e.place ≡ crowd_path k)
 edits_in_ours workers (Opening r) e is a = cc
 edits_in_ours workers (Edited seat f) e is (inl same) =
-    let parts = and_parts (nat_lt seat workers) (eq_by_cmp path_cmp f.path (crowd_path seat)) is in
-    (seat, ltb-true seat workers parts.0, ap (λ (g : Edit). g.path) (sym same) ∙ tied f.path (crowd_path seat) parts.1)
+    let parts = and_parts (nat_lt seat workers) (eq_by_cmp place_cmp f.place (crowd_path seat)) is in
+    (seat, ltb-true seat workers parts.0, ap (λ (g : Edit). g.place) (sym same) ∙ tied f.place (crowd_path seat) parts.1)
 edits_in_ours workers (Edited seat f) e is (inr a) = absurd a
 edits_in_ours workers (Absorbed seat p) e is a = cc
 
-edits_step : (workers : ℕ) (x : HistoryEvent) (t : List HistoryEvent) (e : Edit) → is_ours workers x ≡ true → (IsAmong e (all_edits t) → (k : ℕ) × (k < workers) × (e.path ≡ crowd_path k))
-    → IsAmong e (edits_in x) ⊎ IsAmong e (all_edits t) → (k : ℕ) × (k < workers) × (e.path ≡ crowd_path k)
+edits_step : (workers : ℕ) (x : HistoryEvent) (t : List HistoryEvent) (e : Edit) → is_ours workers x ≡ true → (IsAmong e (all_edits t) → (k : ℕ) × (k < workers) × (e.place ≡ crowd_path k))
+    → IsAmong e (edits_in x) ⊎ IsAmong e (all_edits t) → (k : ℕ) × (k < workers) × (e.place ≡ crowd_path k)
 edits_step workers x t e is rest (inl a) = edits_in_ours workers x e is a
 edits_step workers x t e is rest (inr a) = rest a
 
-edits_ours : (workers : ℕ) (t : List HistoryEvent) → ((x : HistoryEvent) → IsAmong x t → is_ours workers x ≡ true) → (e : Edit) → IsAmong e (all_edits t) → (k : ℕ) × (k < workers) × (e.path ≡ crowd_path k)
+edits_ours : (workers : ℕ) (t : List HistoryEvent) → ((x : HistoryEvent) → IsAmong x t → is_ours workers x ≡ true) → (e : Edit) → IsAmong e (all_edits t) → (k : ℕ) × (k < workers) × (e.place ≡ crowd_path k)
 edits_ours workers [] ours e a = absurd a
 edits_ours workers (x ∷ t) ours e a =
     edits_step workers x t e (ours x (inl refl)) (λ b. edits_ours workers t (λ y h. ours y (inr h)) e b) (IsAmong-append_cases e (edits_in x) (all_edits t) a)
 
 -- a worker that has an edit of its own has it among all edits
-own_in : (k : ℕ) (x : HistoryEvent) → is_own k x ≡ true → (e : Edit) × IsAmong e (edits_in x) × (e.path ≡ crowd_path k)
+own_in : (k : ℕ) (x : HistoryEvent) → is_own k x ≡ true → (e : Edit) × IsAmong e (edits_in x) × (e.place ≡ crowd_path k)
 own_in k (Opening r) is = cc
 own_in k (Edited seat e) is =
-    let parts = and_parts (seat == k) (eq_by_cmp path_cmp e.path (crowd_path k)) is in
-    (e, inl refl, tied e.path (crowd_path k) parts.1)
+    let parts = and_parts (seat == k) (eq_by_cmp place_cmp e.place (crowd_path k)) is in
+    (e, inl refl, tied e.place (crowd_path k) parts.1)
 own_in k (Absorbed seat p) is = cc
 
-own_step : (k : ℕ) (x : HistoryEvent) (h : List HistoryEvent) → 0 < own_edits k (x ∷ h) → (0 < own_edits k h → (e : Edit) × IsAmong e (all_edits h) × (e.path ≡ crowd_path k))
-    → (b : Bool) → is_own k x ≡ b → (e : Edit) × IsAmong e (all_edits (x ∷ h)) × (e.path ≡ crowd_path k)
+own_step : (k : ℕ) (x : HistoryEvent) (h : List HistoryEvent) → 0 < own_edits k (x ∷ h) → (0 < own_edits k h → (e : Edit) × IsAmong e (all_edits h) × (e.place ≡ crowd_path k))
+    → (b : Bool) → is_own k x ≡ b → (e : Edit) × IsAmong e (all_edits (x ∷ h)) × (e.place ≡ crowd_path k)
 own_step k x h some rest true is = let r = own_in k x is in (r.0, IsAmong-append_left r.0 (edits_in x) (all_edits h) r.1, r.2)
 own_step k x h some rest false is =
     let parts = sum_by-cons (λ y. cond (is_own k y) 1 0) x h in
@@ -62,7 +62,7 @@ own_step k x h some rest false is =
     let r = rest (omega (arith, parts, none)) in
     (r.0, IsAmong-append_right r.0 (edits_in x) (all_edits h) r.1, r.2)
 
-own_there : (k : ℕ) (h : List HistoryEvent) → 0 < own_edits k h → (e : Edit) × IsAmong e (all_edits h) × (e.path ≡ crowd_path k)
+own_there : (k : ℕ) (h : List HistoryEvent) → 0 < own_edits k h → (e : Edit) × IsAmong e (all_edits h) × (e.place ≡ crowd_path k)
 own_there k [] some = absurd (omega arith)
 own_there k (x ∷ h) some = own_step k x h some (λ more. own_there k h more) (is_own k x) refl
 
@@ -110,7 +110,7 @@ module _ (workers edits : ℕ) (seats : List SeatNow) (count : length seats ≡ 
     there : (q : Replicated) (t : List HistoryEvent) → q ≡ start → h ≡ Opening q ∷ t → AreAmongPaths (all_edits (Opening q ∷ t)) (edits_of start.store ++ map edit_at (crowd_paths workers edits))
     there q t same is e a = by (IsAmong-append_cases e (edits_of q.store) (all_edits t) a)
       where
-        by : IsAmong e (edits_of q.store) ⊎ IsAmong e (all_edits t) → (f : Edit) × IsAmong f (edits_of start.store ++ map edit_at (crowd_paths workers edits)) × (f.path ≡ e.path)
+        by : IsAmong e (edits_of q.store) ⊎ IsAmong e (all_edits t) → (f : Edit) × IsAmong f (edits_of start.store ++ map edit_at (crowd_paths workers edits)) × (f.place ≡ e.place)
         by (inl b) = (e, IsAmong-append_left e (edits_of start.store) (map edit_at (crowd_paths workers edits)) (subst (λ (r : Replicated). IsAmong e (edits_of r.store)) same b), refl)
         by (inr b) =
             let r = edits_ours workers t (all_ours q t is) e b in
@@ -119,7 +119,7 @@ module _ (workers edits : ℕ) (seats : List SeatNow) (count : length seats ≡ 
     back : (q : Replicated) (t : List HistoryEvent) → q ≡ start → h ≡ Opening q ∷ t → AreAmongPaths (edits_of start.store ++ map edit_at (crowd_paths workers edits)) (all_edits (Opening q ∷ t))
     back q t same is e a = by (IsAmong-append_cases e (edits_of start.store) (map edit_at (crowd_paths workers edits)) a)
       where
-        by : IsAmong e (edits_of start.store) ⊎ IsAmong e (map edit_at (crowd_paths workers edits)) → (f : Edit) × IsAmong f (all_edits (Opening q ∷ t)) × (f.path ≡ e.path)
+        by : IsAmong e (edits_of start.store) ⊎ IsAmong e (map edit_at (crowd_paths workers edits)) → (f : Edit) × IsAmong f (all_edits (Opening q ∷ t)) × (f.place ≡ e.place)
         by (inl b) = (e, IsAmong-append_left e (edits_of q.store) (all_edits t) (subst (λ (r : Replicated). IsAmong e (edits_of r.store)) (sym same) b), refl)
         by (inr b) =
             let from = from_paths workers edits e b in

@@ -39,21 +39,21 @@ in_paths workers edits k lt some =
     subst (λ b. IsAmong (edit_at (crowd_path k)) (map edit_at (if b then [] else map crowd_path (range_with_len 0 workers)))) (sym is)
     (among_map edit_at (crowd_path k) (map crowd_path (range_with_len 0 workers)) (among_map crowd_path k (range_with_len 0 workers) (among_range 0 workers k (omega arith) (omega arith))))
 
-from_some : (workers : ℕ) (f : Edit) → IsAmong f (map edit_at (map crowd_path (range_with_len 0 workers))) → (k : ℕ) × (k < workers) × (crowd_path k ≡ f.path)
+from_some : (workers : ℕ) (f : Edit) → IsAmong f (map edit_at (map crowd_path (range_with_len 0 workers))) → (k : ℕ) × (k < workers) × (crowd_path k ≡ f.place)
 from_some workers f h =
     let at = from_map edit_at f (map crowd_path (range_with_len 0 workers)) h in
     let worker = from_map crowd_path at.0 (range_with_len 0 workers) at.1 in
     let within = from_range 0 workers worker.0 worker.1 in
-    (worker.0, omega arith, worker.2 ∙ ap (λ (e : Edit). e.path) at.2)
+    (worker.0, omega arith, worker.2 ∙ ap (λ (e : Edit). e.place) at.2)
 
 not_zero : (n : ℕ) → (n == 0) ≡ false → 0 < n
 not_zero zero is = cc
 not_zero (suc n) is = omega arith
 
 -- each of these edits is at the path of a worker, and there are edits
-pub from_paths : (workers edits : ℕ) (f : Edit) → IsAmong f (map edit_at (crowd_paths workers edits)) → (0 < edits) × ((k : ℕ) × (k < workers) × (crowd_path k ≡ f.path))
+pub from_paths : (workers edits : ℕ) (f : Edit) → IsAmong f (map edit_at (crowd_paths workers edits)) → (0 < edits) × ((k : ℕ) × (k < workers) × (crowd_path k ≡ f.place))
 from_paths workers edits f h = by (edits == 0) refl h
   where
-    by : (b : Bool) → (edits == 0) ≡ b → IsAmong f (map edit_at (if b then [] else map crowd_path (range_with_len 0 workers))) → (0 < edits) × ((k : ℕ) × (k < workers) × (crowd_path k ≡ f.path))
+    by : (b : Bool) → (edits == 0) ≡ b → IsAmong f (map edit_at (if b then [] else map crowd_path (range_with_len 0 workers))) → (0 < edits) × ((k : ℕ) × (k < workers) × (crowd_path k ≡ f.place))
     by true is a = absurd a
     by false is a = (not_zero edits is, from_some workers f a)

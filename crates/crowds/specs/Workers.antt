@@ -2,7 +2,7 @@
 -- Source: this project's own.
 use Rattle.std.specs.Prelude.{◌≡◌, ℕ, ◌≤◌, ◌==◌, Bool, false, ◌&&◌, List, map, count_by, slice_get, Some, Result, Ok}
 use Rattle.std.specs.Ordering.{eq_by_cmp}
-use Rattle.load_path.specs.Paths.{path_cmp}
+use Rattle.load_places.specs.Places.{place_cmp}
 use Rattle.node_histories.specs.declared.events.HistoryEvent.{HistoryEvent}
 use Rattle.node_histories.specs.declared.events.HistoryEvent.TheVariants.{Opening, Edited, Absorbed}
 use Rattle.shared_node.specs.Seats.{SeatNow}
@@ -11,7 +11,7 @@ use Rattle.crowds.specs.Crowds.{crowd_path}
 -- the event is an edit of the worker's own file, from the seat of its number
 abbrev pub is_own : ℕ → HistoryEvent → Bool
 is_own worker (Opening replica) = false
-is_own worker (Edited seat edit) = seat == worker && eq_by_cmp path_cmp edit.path (crowd_path worker)
+is_own worker (Edited seat edit) = seat == worker && eq_by_cmp place_cmp edit.place (crowd_path worker)
 is_own worker (Absorbed seat piece) = false
 
 -- how many events are that

@@ -3,7 +3,7 @@ use Rattle.std.proofs.Common.{◌≡◌, ℕ, ◌+◌, ◌<◌, ◌≤◌, List,
 use Rattle.std.specs.Prelude.{All}
 use Rattle.std.proofs.lemmas.List.{take_more, take-append-drop, map-append}
 use Rattle.std.specs.FinMap as finmap
-use Rattle.load_path.specs.Paths.{path_cmp}
+use Rattle.load_places.specs.Places.{place_cmp}
 use Rattle.edit_sums.specs.Entries.{IsBelow}
 use Rattle.edit_sums.specs.Sums.{EntryMap, join, IsStoreBelow}
 use Rattle.edit_sums.specs.SumLaws.{store_below_refl, store_below_trans, store_below_antisym, join_assoc, join-left, join-right, join-least, join-nothing}
@@ -179,7 +179,7 @@ kept_all all (r ∷ rs) (n ∷ ns) h =
     (store_below_trans (join_all (stores_of rs)) (join_all (stores_of ns)) (join n.store (join_all (stores_of ns))) (kept_all all rs ns h.1) (join-right n.store (join_all (stores_of ns))))
 
 within_all : (all : EntryMap) (rs ns : List Replicated) → AreBetween all rs ns → IsStoreBelow (join_all (stores_of ns)) all
-within_all all [] [] h = λ q. subst (λ y. IsBelow y (finmap.get all q)) (sym (finmap.get-empty path_cmp q)) tt
+within_all all [] [] h = λ q. subst (λ y. IsBelow y (finmap.get all q)) (sym (finmap.get-empty place_cmp q)) tt
 within_all all [] (n ∷ ns) h = absurd h
 within_all all (r ∷ rs) [] h = absurd h
 within_all all (r ∷ rs) (n ∷ ns) h = join-least n.store (join_all (stores_of ns)) all h.0.within (within_all all rs ns h.1)

@@ -5,7 +5,7 @@ use Rattle.std.specs.Option.{option_map}
 use Rattle.std.specs.List.{ItemBy}
 use Rattle.std.proofs.lemmas.Option.{slice_get-map, slice_get_read}
 use Rattle.std.proofs.lemmas.List.{map-set, map_push}
-use Rattle.load_path.specs.Paths.{PathParts}
+use Rattle.load_places.specs.Places.{PlaceParts}
 use Rattle.edit_sums.specs.declared.entries.Edit.{Edit}
 use Rattle.edit_sums.specs.Sums.{EntryMap, sum_of, join}
 use Rattle.replica_store.specs.Replicas.{Replicated}
@@ -123,28 +123,28 @@ module _ (w : EventWorld) (rs : List Replicated) (asks : List VersionMap) (piece
 
   -- a cut
 
-  pub cut_shown : (i a : ℕ) (paths : Option (List PathParts)) (r : Replicated) (d : VersionMap) (s : EntryMap) → slice_get rs i ≡ Some r → slice_get asks a ≡ Some d → s ≡ cut r.store d paths →
-      Shows (happens w (Cut i a paths)) (stores_of rs) asks (pieces ++ s ∷ [])
-  cut_shown i a paths r d s is asked new =
+  pub cut_shown : (i a : ℕ) (places : Option (List PlaceParts)) (r : Replicated) (d : VersionMap) (s : EntryMap) → slice_get rs i ≡ Some r → slice_get asks a ≡ Some d → s ≡ cut r.store d places →
+      Shows (happens w (Cut i a places)) (stores_of rs) asks (pieces ++ s ∷ [])
+  cut_shown i a places r d s is asked new =
       let n = node_at i r is in
       let k = ask_at a d asked in
-      let one : s ≡ cut n.0.store k.0.versions paths = new ∙ (λ j. cut (sym n.2 j) (sym k.2 j) paths) in
-      subst (λ (o : Option Node). Shows (cut_for w paths o (slice_get w.asks a)) (stores_of rs) asks (pieces ++ s ∷ [])) (sym n.1)
-      (subst (λ (o : Option Asked). Shows (cut_for w paths (Some n.0) o) (stores_of rs) asks (pieces ++ s ∷ [])) (sym k.1) (record {
+      let one : s ≡ cut n.0.store k.0.versions places = new ∙ (λ j. cut (sym n.2 j) (sym k.2 j) places) in
+      subst (λ (o : Option Node). Shows (cut_for w places o (slice_get w.asks a)) (stores_of rs) asks (pieces ++ s ∷ [])) (sym n.1)
+      (subst (λ (o : Option Asked). Shows (cut_for w places (Some n.0) o) (stores_of rs) asks (pieces ++ s ∷ [])) (sym k.1) (record {
         stores_are = h.stores_are;
         asks_are = h.asks_are;
         pieces_are = (λ j. h.pieces_are j ++ one j ∷ []) ∙ sym (map_push (λ (p : Piece). p.entries) w.pieces _);
       }))
 
-  pub no_cut_shown : (i a : ℕ) (paths : Option (List PathParts)) → slice_get rs i ≡ None → Shows (happens w (Cut i a paths)) (stores_of rs) asks pieces
-  no_cut_shown i a paths is =
-      subst (λ (o : Option Node). Shows (cut_for w paths o (slice_get w.asks a)) (stores_of rs) asks pieces) (sym (no_node i is)) h
+  pub no_cut_shown : (i a : ℕ) (places : Option (List PlaceParts)) → slice_get rs i ≡ None → Shows (happens w (Cut i a places)) (stores_of rs) asks pieces
+  no_cut_shown i a places is =
+      subst (λ (o : Option Node). Shows (cut_for w places o (slice_get w.asks a)) (stores_of rs) asks pieces) (sym (no_node i is)) h
 
-  pub unasked_cut_shown : (i a : ℕ) (paths : Option (List PathParts)) (r : Replicated) → slice_get rs i ≡ Some r → slice_get asks a ≡ None → Shows (happens w (Cut i a paths)) (stores_of rs) asks pieces
-  unasked_cut_shown i a paths r is none =
+  pub unasked_cut_shown : (i a : ℕ) (places : Option (List PlaceParts)) (r : Replicated) → slice_get rs i ≡ Some r → slice_get asks a ≡ None → Shows (happens w (Cut i a places)) (stores_of rs) asks pieces
+  unasked_cut_shown i a places r is none =
       let n = node_at i r is in
-      subst (λ (o : Option Node). Shows (cut_for w paths o (slice_get w.asks a)) (stores_of rs) asks pieces) (sym n.1)
-      (subst (λ (o : Option Asked). Shows (cut_for w paths (Some n.0) o) (stores_of rs) asks pieces) (sym (behind_none (λ (k : Asked). k.versions) asks w.asks a h.asks_are none)) h)
+      subst (λ (o : Option Node). Shows (cut_for w places o (slice_get w.asks a)) (stores_of rs) asks pieces) (sym n.1)
+      (subst (λ (o : Option Asked). Shows (cut_for w places (Some n.0) o) (stores_of rs) asks pieces) (sym (behind_none (λ (k : Asked). k.versions) asks w.asks a h.asks_are none)) h)
 
   -- a piece is given
 

@@ -1,16 +1,16 @@
 -- What bringing two replicas together comes to: an anti-entropy round of whole states (Almeida et al. 2018; Shapiro
 -- et al. 2011).
 use Rattle.std.specs.Prelude.{◌≡◌, ℕ}
-use Rattle.edit_sums.specs.Sums.{changed_paths, join}
+use Rattle.edit_sums.specs.Sums.{changed_places, join}
 use Rattle.replica_store.specs.Replicas.{Replicated}
 use Rattle.delta_gossip.specs.Sweeps.{IsBetween, with_store}
 
--- both hold the join of their stores, and so many paths changed in each
+-- both hold the join of their stores, and so many places changed in each
 pub record AreJoined (a b a' b' : Replicated) (changed : ℕ × ℕ) : Type 0 where
   pub first : a' ≡ with_store (join a.store b.store) a
   pub second : b' ≡ with_store (join a.store b.store) b
-  pub first_changed : changed.0 ≡ changed_paths a.store a'.store
-  pub second_changed : changed.1 ≡ changed_paths b.store b'.store
+  pub first_changed : changed.0 ≡ changed_places a.store a'.store
+  pub second_changed : changed.1 ≡ changed_places b.store b'.store
 
 -- each lies between what it was and the join, and bringing them together again gives that join
 pub record AreBeingJoined (a b a' b' : Replicated) : Type 0 where

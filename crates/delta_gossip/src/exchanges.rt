@@ -5,7 +5,7 @@ ghost use Rattle.delta_gossip.specs.Exchanges.{AreBeingJoined, AreJoined};
 use replica_store::Replica;
 use std::alloc::AllocError;
 
-/// Brings two replicas together: both then hold the join of their stores. It answers how many paths
+/// Brings two replicas together: both then hold the join of their stores. It answers how many places
 /// changed in each.
 ///
 /// Whole stores are merged, without digests, so nothing is asked of their versions: also where one

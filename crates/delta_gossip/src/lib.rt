@@ -18,5 +18,5 @@ pub use delta_pieces::{Digest, Piece, Rest, TakeFault, delta_at, delta_for, dige
 pub use exchanges::exchange;
 pub use laws::joins_of_all;
 pub use sweeps::sweep;
-pub use world_law::{Event, Paths};
+pub use world_law::{Event, Places};
 pub use worlds::{World, run_world};

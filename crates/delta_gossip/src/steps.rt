@@ -12,7 +12,7 @@ use edit_sums::Edit;
 use replica_store::{Replica, Store};
 use std::alloc::{AllocError, Global};
 use std::slice::from_ref;
-use world_law::{Event, Paths};
+use world_law::{Event, Places};
 
 /// What one event does: whatever model world is shown before, the next one is shown after it.
 pub fn step(alloc: Global, world: &mut World, event: &Event) -> Result<(), AllocError>
@@ -24,7 +24,7 @@ pub fn step(alloc: Global, world: &mut World, event: &Event) -> Result<(), Alloc
     match event {
         Event::Put { node, edit } => put_edit(alloc, world, *node, edit),
         Event::Ask { node } => ask_as(alloc, world, *node),
-        Event::Cut { node, ask, paths } => cut_piece(alloc, world, *node, *ask, paths),
+        Event::Cut { node, ask, places } => cut_piece(alloc, world, *node, *ask, places),
         Event::Give { piece, node } => give_piece(world, *piece, *node),
     }
 }
@@ -74,12 +74,12 @@ fn cut_piece(
     world: &mut World,
     node: usize,
     ask: usize,
-    paths: &Option<Paths>,
+    places: &Option<Places>,
 ) -> Result<(), AllocError>
     ensures writers { OnOk result (map (λ r. r.writer) world.new.replicas.items ≡ map
         (λ r. r.writer) world.old.replicas.items) }
     ensures model { OnOk result ((w : EventWorld) → IsWorld w world.old →
-        IsWorld (happens w (Cut node ask paths.now)) world.new) }
+        IsWorld (happens w (Cut node ask places.now)) world.new) }
 {
     let Some(replica) = world.replicas.get(node) else {
         return Ok(());
@@ -87,23 +87,23 @@ fn cut_piece(
     let Some(asked) = world.asks.get(ask) else {
         return Ok(());
     };
-    let piece = cut_for(alloc, replica, asked, paths)?;
+    let piece = cut_for(alloc, replica, asked, places)?;
     world.pieces.push(piece)?;
     Ok(())
 }
 
-// What a replica has for an ask, at these paths or at all.
+// What a replica has for an ask, at these places or at all.
 fn cut_for(
     alloc: Global,
     replica: &Replica,
     asked: &Digest,
-    paths: &Option<Paths>,
+    places: &Option<Places>,
 ) -> Result<Piece, AllocError>
-    ensures cut { IfOk result (λ piece. piece ≡ cut replica.now.store asked.now paths.now) }
+    ensures cut { IfOk result (λ piece. piece ≡ cut replica.now.store asked.now places.now) }
 {
-    match paths {
+    match places {
         None => delta_for(alloc, replica, asked),
-        Some(paths) => delta_at(alloc, replica, asked, paths.as_slice()),
+        Some(places) => delta_at(alloc, replica, asked, places.as_slice()),
     }
 }
 

@@ -32,7 +32,7 @@ pub struct World {
 /// order, nodes that took the same edits hold the same (Shapiro, Preguica, Baquero, Zawirski,
 /// "Conflict-free Replicated Data Types", 2011). A node took what it put and the entries of each
 /// piece given to it; and of a piece that was cut for its own ask also all that the cutting node
-/// had taken by then, at the paths of the cut.
+/// had taken by then, at the places of the cut.
 pub fn run_world(alloc: Global, writers: &[u32], events: &[Event]) -> Result<World, AllocError>
     // The replicas write under these numbers, in this order.
     ensures writers { IfOk result (λ world. map (λ r. r.writer) world.replicas.items ≡ writers.now) }
@@ -42,7 +42,7 @@ pub fn run_world(alloc: Global, writers: &[u32], events: &[Event]) -> Result<Wor
     ensures model { IfOk result (λ world. IsWorld (world_after (length writers.now) events.now) world) }
 
     // Where no version stands for two of the edits that were put: replica k holds the sum of the
-    // edits that node k took, which is the greatest of them at each path.
+    // edits that node k took, which is the greatest of them at each place.
     ensures sums { IfOk result (HoldsSums (length writers.now) events.now) }
 
     // The same, with what node k took told from the events alone.

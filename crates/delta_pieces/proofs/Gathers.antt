@@ -1,11 +1,11 @@
--- What is gathered path by path.
+-- What is gathered place by place.
 use Rattle.std.proofs.lemmas.List.{take_more}
 use Rattle.std.proofs.lemmas.List.Folds.{list_any-append}
 use Rattle.std.proofs.Common.{◌≡◌, ℕ, ◌+◌, ◌<◌, Bool, true, false, cond, Option, Some, None, List, [], ◌∷◌, ◌++◌, length, take, get_or, refl, sym, ap, ◌∙◌}
 use Rattle.std.specs.Prelude.{◌&&◌, ◌||◌, filter}
 use Rattle.std.specs.Ordering.{eq_by_cmp}
 use Rattle.std.specs.FinMap as finmap
-use Rattle.load_path.specs.Paths.{PathParts, path_cmp}
+use Rattle.load_places.specs.Places.{PlaceParts, place_cmp}
 use Rattle.edit_sums.specs.Entries.{Entry}
 use Rattle.edit_sums.specs.declared.entries.Edit.{Edit}
 use Rattle.edit_sums.specs.Entries.{larger}
@@ -21,16 +21,16 @@ nothing true = refl
 nothing false = refl
 
 module _ (s : EntryMap) (ask : VersionMap) where
-  -- ---- no path
+  -- ---- no place
 
-  none_wanted : (q : PathParts) (y : Option Entry) → passed (is_wanted ask (Some [])) q y ≡ None
+  none_wanted : (q : PlaceParts) (y : Option Entry) → passed (is_wanted ask (Some [])) q y ≡ None
   none_wanted q None = refl
   none_wanted q (Some x) = refl
 
   pub cut_nowhere : cut s ask (Some []) ≡ finmap.empty
-  cut_nowhere = same_store _ _ (λ q. get-cut s ask (Some []) q ∙ none_wanted q (finmap.get s q) ∙ sym (finmap.get-empty path_cmp q))
+  cut_nowhere = same_store _ _ (λ q. get-cut s ask (Some []) q ∙ none_wanted q (finmap.get s q) ∙ sym (finmap.get-empty place_cmp q))
 
-  -- ---- more paths
+  -- ---- more places
 
   either : (a b n : Bool) (x : Entry) → larger (cond (a && n) (Some x) None) (cond (b && n) (Some x) None) ≡ cond ((a || b) && n) (Some x) None
   either true true true x = larger_idem (Some x)
@@ -39,49 +39,49 @@ module _ (s : EntryMap) (ask : VersionMap) where
   either true false false x = refl
   either false b n x = refl
 
-  both_wanted : (ps qs : List PathParts) (q : PathParts) (y : Option Entry) → larger (passed (is_wanted ask (Some ps)) q y) (passed (is_wanted ask (Some qs)) q y) ≡ passed (is_wanted ask (Some (ps ++ qs))) q y
+  both_wanted : (ps qs : List PlaceParts) (q : PlaceParts) (y : Option Entry) → larger (passed (is_wanted ask (Some ps)) q y) (passed (is_wanted ask (Some qs)) q y) ≡ passed (is_wanted ask (Some (ps ++ qs))) q y
   both_wanted ps qs q None = refl
   both_wanted ps qs q (Some x) =
       either (is_asked q (Some ps)) (is_asked q (Some qs)) (is_newer x.version (finmap.get ask q)) x
-      ∙ ap (λ b. cond (b && is_newer x.version (finmap.get ask q)) (Some x) None) (sym (list_any-append (λ p. eq_by_cmp path_cmp q p) ps qs))
+      ∙ ap (λ b. cond (b && is_newer x.version (finmap.get ask q)) (Some x) None) (sym (list_any-append (λ p. eq_by_cmp place_cmp q p) ps qs))
 
-  cut_at_both : (ps qs : List PathParts) → join (cut s ask (Some ps)) (cut s ask (Some qs)) ≡ cut s ask (Some (ps ++ qs))
+  cut_at_both : (ps qs : List PlaceParts) → join (cut s ask (Some ps)) (cut s ask (Some qs)) ≡ cut s ask (Some (ps ++ qs))
   cut_at_both ps qs = same_store _ _ (λ q.
       get-join (cut s ask (Some ps)) (cut s ask (Some qs)) q
       ∙ (λ i. larger (get-cut s ask (Some ps) q i) (get-cut s ask (Some qs) q i))
       ∙ both_wanted ps qs q (finmap.get s q)
       ∙ sym (get-cut s ask (Some (ps ++ qs)) q))
 
-  -- with what is cut at one path more
-  pub cut_at_more : (ps : List PathParts) (i : ℕ) (p : PathParts) → i < length ps → p ≡ get_or ps i p → join (cut s ask (Some (take i ps))) (cut s ask (Some (p ∷ []))) ≡ cut s ask (Some (take (i + 1) ps))
+  -- with what is cut at one place more
+  pub cut_at_more : (ps : List PlaceParts) (i : ℕ) (p : PlaceParts) → i < length ps → p ≡ get_or ps i p → join (cut s ask (Some (take i ps))) (cut s ask (Some (p ∷ []))) ≡ cut s ask (Some (take (i + 1) ps))
   cut_at_more ps i p h is =
       cut_at_both (take i ps) (p ∷ [])
-      ∙ ap (λ (r : PathParts). cut s ask (Some (take i ps ++ r ∷ []))) is
+      ∙ ap (λ (r : PlaceParts). cut s ask (Some (take i ps ++ r ∷ []))) is
       ∙ ap (λ rs. cut s ask (Some rs)) (sym (take_more ps i p h))
 
-  -- ---- one path
+  -- ---- one place
 
-  module _ (p : PathParts) where
-    one_asked : (q : PathParts) (y : Option Entry) → passed (is_wanted ask (Some (p ∷ []))) q y ≡ cond (eq_by_cmp path_cmp q p) (passed (is_wanted ask None) q y) None
-    one_asked q None = sym (nothing (eq_by_cmp path_cmp q p))
+  module _ (p : PlaceParts) where
+    one_asked : (q : PlaceParts) (y : Option Entry) → passed (is_wanted ask (Some (p ∷ []))) q y ≡ cond (eq_by_cmp place_cmp q p) (passed (is_wanted ask None) q y) None
+    one_asked q None = sym (nothing (eq_by_cmp place_cmp q p))
     one_asked q (Some x) =
-        elim (eq_by_cmp path_cmp q p) as (λ b. cond ((b || false) && is_newer x.version (finmap.get ask q)) (Some x) None ≡ cond b (cond (is_newer x.version (finmap.get ask q)) (Some x) None) None) [
+        elim (eq_by_cmp place_cmp q p) as (λ b. cond ((b || false) && is_newer x.version (finmap.get ask q)) (Some x) None ≡ cond b (cond (is_newer x.version (finmap.get ask q)) (Some x) None) None) [
           | true ↦ refl
           | false ↦ refl
         ]
 
-    at_one : (q : PathParts) → finmap.get (cut s ask (Some (p ∷ []))) q ≡ cond (eq_by_cmp path_cmp q p) (passed (is_wanted ask None) p (finmap.get s p)) None
-    at_one q = get-cut s ask (Some (p ∷ [])) q ∙ one_asked q (finmap.get s q) ∙ moved (eq_by_cmp path_cmp q p) refl
+    at_one : (q : PlaceParts) → finmap.get (cut s ask (Some (p ∷ []))) q ≡ cond (eq_by_cmp place_cmp q p) (passed (is_wanted ask None) p (finmap.get s p)) None
+    at_one q = get-cut s ask (Some (p ∷ [])) q ∙ one_asked q (finmap.get s q) ∙ moved (eq_by_cmp place_cmp q p) refl
       where
-        moved : (b : Bool) → eq_by_cmp path_cmp q p ≡ b → cond (eq_by_cmp path_cmp q p) (passed (is_wanted ask None) q (finmap.get s q)) None ≡ cond (eq_by_cmp path_cmp q p) (passed (is_wanted ask None) p (finmap.get s p)) None
-        moved true e = ap (λ (r : PathParts). cond (eq_by_cmp path_cmp q p) (passed (is_wanted ask None) r (finmap.get s r)) None) (tied q p e)
+        moved : (b : Bool) → eq_by_cmp place_cmp q p ≡ b → cond (eq_by_cmp place_cmp q p) (passed (is_wanted ask None) q (finmap.get s q)) None ≡ cond (eq_by_cmp place_cmp q p) (passed (is_wanted ask None) p (finmap.get s p)) None
+        moved true e = ap (λ (r : PlaceParts). cond (eq_by_cmp place_cmp q p) (passed (is_wanted ask None) r (finmap.get s r)) None) (tied q p e)
         moved false e = ap (λ b. cond b (passed (is_wanted ask None) q (finmap.get s q)) None) e ∙ sym (ap (λ b. cond b (passed (is_wanted ask None) p (finmap.get s p)) None) e)
 
     cut_one : (x : Entry) → passed (is_wanted ask None) p (finmap.get s p) ≡ Some x → cut s ask (Some (p ∷ [])) ≡ sum_of (edit_of (p, x) ∷ [])
-    cut_one x is = same_store _ _ (λ q. at_one q ∙ ap (λ y. cond (eq_by_cmp path_cmp q p) y None) is ∙ sym (get-sum_of (edit_of (p, x) ∷ []) q))
+    cut_one x is = same_store _ _ (λ q. at_one q ∙ ap (λ y. cond (eq_by_cmp place_cmp q p) y None) is ∙ sym (get-sum_of (edit_of (p, x) ∷ []) q))
 
     cut_none : passed (is_wanted ask None) p (finmap.get s p) ≡ None → cut s ask (Some (p ∷ [])) ≡ sum_of []
-    cut_none is = same_store _ _ (λ q. at_one q ∙ ap (λ y. cond (eq_by_cmp path_cmp q p) y None) is ∙ nothing (eq_by_cmp path_cmp q p) ∙ sym (get-sum_of [] q))
+    cut_none is = same_store _ _ (λ q. at_one q ∙ ap (λ y. cond (eq_by_cmp place_cmp q p) y None) is ∙ nothing (eq_by_cmp place_cmp q p) ∙ sym (get-sum_of [] q))
 
     module _ (g : EntryMap) where
       -- nothing is held there
@@ -104,8 +104,8 @@ and_true : (b : Bool) → (b && true) ≡ b
 and_true true = refl
 and_true false = refl
 
-pub only_is_cut : (ps : List PathParts) (s : EntryMap) → cut s finmap.empty (Some ps) ≡ only_at ps s
+pub only_is_cut : (ps : List PlaceParts) (s : EntryMap) → cut s finmap.empty (Some ps) ≡ only_at ps s
 only_is_cut ps s = λ i. sum_of (filter (λ (e : Edit). any e i) (edits_of s))
   where
-    any : (e : Edit) → is_wanted finmap.empty (Some ps) e ≡ is_asked e.path (Some ps)
-    any e = ap (λ v. is_asked e.path (Some ps) && is_newer e.version v) (finmap.get-empty path_cmp e.path) ∙ and_true (is_asked e.path (Some ps))
+    any : (e : Edit) → is_wanted finmap.empty (Some ps) e ≡ is_asked e.place (Some ps)
+    any e = ap (λ v. is_asked e.place (Some ps) && is_newer e.version v) (finmap.get-empty place_cmp e.place) ∙ and_true (is_asked e.place (Some ps))

@@ -3,4 +3,4 @@ pub mod Views
 pub mod Joined
 pub mod Passes
 pub mod Gathers
-pub mod AtPaths
+pub mod AtPlaces

@@ -1,43 +1,41 @@
 -- Digests and pieces, seen as maps.
 use Rattle.std.proofs.lemmas.List.{map-append, take-append-drop, length-drop}
 use Rattle.std.proofs.lemmas.Bool.Decides.{nat_tests}
-use Rattle.std.proofs.Common.{◌≡◌, ◌≤◌, ◌==◌, ◌↔◌, ℕ, arith, ◌++◌, take, drop, Bool, true, false, cond, Option, Some, None, Bor, List, [], ◌∷◌, IsTrue, length, map, refl, sym, ap, ◌∙◌}
+use Rattle.std.proofs.Common.{◌≡◌, ◌≤◌, ◌==◌, ◌↔◌, ℕ, arith, ◌++◌, take, drop, Bool, true, false, cond, None, List, [], ◌∷◌, IsTrue, length, map, refl, sym, ap, ◌∙◌}
 use Rattle.std.specs.Prelude.{filter}
 use Rattle.std.specs.FinMap as finmap
 use Rattle.std.specs.FinMap.{find, is_sorted, same_map}
 use Rattle.join_law.specs.declared.versions.Version.{Version}
-use Rattle.load_path.specs.Paths.{PathParts, path_cmp}
-use Rattle.load_path.specs.PathLaws.{path_cmp_total, path_cmp-IsAntisymmetric}
+use Rattle.load_places.specs.Places.{PlaceParts, place_cmp}
+use Rattle.load_places.specs.PlaceLaws.{place_cmp_total, place_cmp-IsAntisymmetric}
 use Rattle.edit_sums.specs.Entries.{Entry}
 use Rattle.edit_sums.specs.declared.entries.Edit.{Edit}
 use Rattle.edit_sums.specs.Sums.{EntryMap, edit_of, sum_of, join}
 use Rattle.edit_sums.specs.SumLaws.{sum_of-edits_of}
 use Rattle.world_law.specs.Cuts.{VersionMap, digest_of, is_newer, is_wanted, cut}
-use Rattle.world_law.specs.CutLaws.{get-digest_of}
-use Rattle.std.specs.Option.{option_copied, option_map}
 use Rattle.list_laws.specs.Truths.{to_T}
 
 -- the map of sorted versions
-abbrev pub versions_map : List (PathParts × Version) → VersionMap
+abbrev pub versions_map : List (PlaceParts × Version) → VersionMap
 versions_map ps = finmap.from_sorted ps
 
-pub get-versions : (ps : List (PathParts × Version)) (q : PathParts) → IsTrue (is_sorted path_cmp ps) → finmap.get (versions_map ps) q ≡ find path_cmp q ps
-get-versions ps q s = finmap.get-from_sorted path_cmp ps q (to_T _ s)
+pub get-versions : (ps : List (PlaceParts × Version)) (q : PlaceParts) → IsTrue (is_sorted place_cmp ps) → finmap.get (versions_map ps) q ≡ find place_cmp q ps
+get-versions ps q s = finmap.get-from_sorted place_cmp ps q (to_T _ s)
 
-pub entries-versions : (ps : List (PathParts × Version)) → IsTrue (is_sorted path_cmp ps) → finmap.entries (versions_map ps) ≡ ps
-entries-versions ps s = finmap.entries-from_sorted path_cmp ps (to_T _ s)
+pub entries-versions : (ps : List (PlaceParts × Version)) → IsTrue (is_sorted place_cmp ps) → finmap.entries (versions_map ps) ≡ ps
+entries-versions ps s = finmap.entries-from_sorted place_cmp ps (to_T _ s)
 
 pub no_versions : versions_map [] ≡ finmap.empty
-no_versions = finmap.empty_of_len _ (finmap.len-entries _ ∙ ap length (finmap.entries-from_sorted path_cmp [] tt))
+no_versions = finmap.empty_of_len _ (finmap.len-entries _ ∙ ap length (finmap.entries-from_sorted place_cmp [] tt))
 
 -- the versions of what is held are its digest
 pub versions_are_digest : (d : VersionMap) (s : EntryMap) → finmap.entries d ≡ map (λ p. (p.0, p.1.version)) (finmap.entries s) → d ≡ digest_of s
 versions_are_digest d s is =
-    same_map path_cmp_total path_cmp-IsAntisymmetric d (digest_of s) (λ q.
-    finmap.get-entries d q ∙ ap (find path_cmp q) is ∙ sym (finmap.get-from_entries path_cmp_total (map (λ p. (p.0, p.1.version)) (finmap.entries s)) q))
+    same_map place_cmp_total place_cmp-IsAntisymmetric d (digest_of s) (λ q.
+    finmap.get-entries d q ∙ ap (find place_cmp q) is ∙ sym (finmap.get-from_entries place_cmp_total (map (λ p. (p.0, p.1.version)) (finmap.entries s)) q))
 
 -- edits that pass a test are those of the entries that pass it
-filter_edits : (p : Edit → Bool) (es : List (PathParts × Entry)) → map edit_of (filter (λ e. p (edit_of e)) es) ≡ filter p (map edit_of es)
+filter_edits : (p : Edit → Bool) (es : List (PlaceParts × Entry)) → map edit_of (filter (λ e. p (edit_of e)) es) ≡ filter p (map edit_of es)
 filter_edits p [] = refl
 filter_edits p (e ∷ es) =
     elim (p (edit_of e)) as (λ b. map edit_of (cond b (e ∷ filter (λ x. p (edit_of x)) es) (filter (λ x. p (edit_of x)) es)) ≡ cond b (edit_of e ∷ filter p (map edit_of es)) (filter p (map edit_of es))) [
@@ -53,26 +51,26 @@ parts_are_whole n first second s f g =
     sum_of-edits_of s
 
 -- entries in order are those of their sum
-pub entries-sum_of : (es : List (PathParts × Entry)) → IsTrue (is_sorted path_cmp es) → finmap.entries (sum_of (map edit_of es)) ≡ es
+pub entries-sum_of : (es : List (PlaceParts × Entry)) → IsTrue (is_sorted place_cmp es) → finmap.entries (sum_of (map edit_of es)) ≡ es
 entries-sum_of es s =
-    let there : finmap.entries (finmap.from_sorted es) ≡ es = finmap.entries-from_sorted path_cmp es (to_T _ s) in
+    let there : finmap.entries (finmap.from_sorted es) ≡ es = finmap.entries-from_sorted place_cmp es (to_T _ s) in
     ap (λ l. finmap.entries (sum_of (map edit_of l))) (sym there) ∙ ap finmap.entries (sum_of-edits_of (finmap.from_sorted es)) ∙ there
 
 -- the sum of the entries that are newer is what is cut
 pub news_is_cut : (s : EntryMap) (d : VersionMap) → sum_of (map edit_of (filter (λ p. is_newer p.1.version (finmap.get d p.0)) (finmap.entries s))) ≡ cut s d None
 news_is_cut s d = ap sum_of (filter_edits (is_wanted d None) (finmap.entries s))
 
-pub newer_is_cut : (s : EntryMap) (d : VersionMap) (es : List (PathParts × Entry)) (vs : List (PathParts × Version)) → es ≡ finmap.entries s → vs ≡ finmap.entries d → sum_of (map edit_of (filter (λ p. is_newer p.1.version (find path_cmp p.0 vs)) es)) ≡ cut s d None
+pub newer_is_cut : (s : EntryMap) (d : VersionMap) (es : List (PlaceParts × Entry)) (vs : List (PlaceParts × Version)) → es ≡ finmap.entries s → vs ≡ finmap.entries d → sum_of (map edit_of (filter (λ p. is_newer p.1.version (find place_cmp p.0 vs)) es)) ≡ cut s d None
 newer_is_cut s d es vs held asked =
-    (λ i. sum_of (map edit_of (filter (λ (p : PathParts × Entry). is_newer p.1.version (find path_cmp p.0 (asked i))) (held i))))
-    ∙ (λ i. sum_of (map edit_of (filter (λ (p : PathParts × Entry). is_newer p.1.version (sym (finmap.get-entries d p.0) i)) (finmap.entries s))))
+    (λ i. sum_of (map edit_of (filter (λ (p : PlaceParts × Entry). is_newer p.1.version (find place_cmp p.0 (asked i))) (held i))))
+    ∙ (λ i. sum_of (map edit_of (filter (λ (p : PlaceParts × Entry). is_newer p.1.version (sym (finmap.get-entries d p.0) i)) (finmap.entries s))))
     ∙ news_is_cut s d
 
 -- no more are left than there were
-pub all_left : (n : ℕ) (es : List (PathParts × Entry)) (m : ℕ) → m ≡ length es → length (drop n es) ≤ m
+pub all_left : (n : ℕ) (es : List (PlaceParts × Entry)) (m : ℕ) → m ≡ length es → length (drop n es) ≤ m
 all_left n es m all = let left = length-drop n es in omega (arith, left, all)
 
-pub empty_test : (n : ℕ) (es : List (PathParts × Entry)) → n ≡ length es → IsTrue (n == 0) ↔ (es ≡ [])
+pub empty_test : (n : ℕ) (es : List (PlaceParts × Entry)) → n ≡ length es → IsTrue (n == 0) ↔ (es ≡ [])
 empty_test n [] h = (λ t. refl, λ e. ap (λ k. k == 0) h)
 empty_test n (e ∷ es) h = (λ t. absurd (some t), λ e. cc (e))
   where

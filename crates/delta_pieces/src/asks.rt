@@ -2,13 +2,13 @@
 ghost use Rattle.std.specs.Prelude.{◌≡◌, Some, IsTrue, IfOk, OnOk, map};
 ghost use Rattle.std.specs.FinMap as finmap;
 ghost use Rattle.std.specs.FinMap.{is_sorted, put};
-ghost use Rattle.load_path.specs.Paths.{path_cmp};
+ghost use Rattle.load_places.specs.Places.{place_cmp};
 ghost use Rattle.edit_sums.specs.Sums.{EntryMap};
 ghost use Rattle.world_law.specs.Cuts.{cut, digest_of, only_at};
 
 use crate::digests::Digest;
 use join_law::Version;
-use load_path::Path;
+use load_places::Place;
 use replica_store::{Replica, Store};
 use sorted_pairs::seek;
 use std::alloc::{AllocError, Global};
@@ -22,55 +22,55 @@ pub fn digest(alloc: Global, replica: &Replica) -> Result<Digest, AllocError>
     Ok(Digest::from_versions(versions))
 }
 
-// Each path with its version.
-fn versions_of(alloc: Global, store: &Store) -> Result<Vec<(Path, Version)>, AllocError>
+// Each place with its version.
+fn versions_of(alloc: Global, store: &Store) -> Result<Vec<(Place, Version)>, AllocError>
     ensures versions { IfOk result (λ versions. versions.items ≡ map (λ p. (p.0, p.1.version))
         (finmap.entries store.now)) }
 {
     let mut versions = Vec::with_capacity(alloc, store.len())?;
     let mut entries = store.entries();
     while let Some(placed) = entries.next_entry() {
-        versions.push((placed.path()?, placed.entry().version))?;
+        versions.push((placed.place()?, placed.entry().version))?;
     }
     Ok(versions)
 }
 
-/// The digest of what a replica holds at these paths, which are read as a set. What is cut for it at
-/// these paths is what is cut there for the whole digest.
+/// The digest of what a replica holds at these places, which are read as a set. What is cut for it at
+/// these places is what is cut there for the whole digest.
 ///
-/// For each path a search in the store and one among the versions found before, and at most one
-/// shift of these, none where the paths rise. No other path is copied. It fails for want of memory
+/// For each place a search in the store and one among the versions found before, and at most one
+/// shift of these, none where the places rise. No other place is copied. It fails for want of memory
 /// alone.
-pub fn digest_at(alloc: Global, replica: &Replica, paths: &[Path]) -> Result<Digest, AllocError>
-    ensures digest { IfOk result (λ digest. digest ≡ digest_of (only_at paths.now replica.now.store)) }
-    ensures same_cut { IfOk result (λ digest. (s : EntryMap) → cut s digest (Some paths.now) ≡ cut s
-        (digest_of replica.now.store) (Some paths.now)) }
+pub fn digest_at(alloc: Global, replica: &Replica, places: &[Place]) -> Result<Digest, AllocError>
+    ensures digest { IfOk result (λ digest. digest ≡ digest_of (only_at places.now replica.now.store)) }
+    ensures same_cut { IfOk result (λ digest. (s : EntryMap) → cut s digest (Some places.now) ≡ cut s
+        (digest_of replica.now.store) (Some places.now)) }
 {
     let mut versions = Vec::new(alloc);
-    for path in paths {
-        if let Some(entry) = replica.store().get(path) {
-            put_version(&mut versions, path, entry.version)?;
+    for place in places {
+        if let Some(entry) = replica.store().get(place) {
+            put_version(&mut versions, place, entry.version)?;
         }
     }
     Ok(Digest::from_versions(versions))
 }
 
-// Puts a version at a path.
+// Puts a version at a place.
 fn put_version(
-    versions: &mut Vec<(Path, Version)>,
-    path: &Path,
+    versions: &mut Vec<(Place, Version)>,
+    place: &Place,
     version: Version,
 ) -> Result<(), AllocError>
-    requires sorted { IsTrue (is_sorted path_cmp versions.old.items) }
-    ensures put { OnOk result (versions.new.items ≡ put path_cmp path.now version versions.old.items) }
+    requires sorted { IsTrue (is_sorted place_cmp versions.old.items) }
+    ensures put { OnOk result (versions.new.items ≡ put place_cmp place.now version versions.old.items) }
 {
-    match seek(versions, path) {
+    match seek(versions, place) {
         Ok(at) => {
             versions[at].1 = version;
             Ok(())
         }
         Err(at) => {
-            versions.insert(at, (path.try_clone()?, version))?;
+            versions.insert(at, (place.try_clone()?, version))?;
             Ok(())
         }
     }

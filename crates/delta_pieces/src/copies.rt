@@ -12,7 +12,7 @@ pub fn join_copy(store: &mut Store, placed: &Placed) -> Result<(), AllocError>
 {
     let Entry { version, content } = placed.entry().try_clone()?;
     store.join_edit(Edit {
-        path: placed.path()?,
+        place: placed.place()?,
         version,
         content,
     })

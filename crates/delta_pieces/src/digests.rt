@@ -2,21 +2,21 @@
 ghost use Rattle.std.specs.Prelude.{◌≡◌, IsTrue, IfOk};
 ghost use Rattle.std.specs.FinMap as finmap;
 ghost use Rattle.std.specs.FinMap.{is_sorted};
-ghost use Rattle.load_path.specs.Paths.{path_cmp};
+ghost use Rattle.load_places.specs.Places.{place_cmp};
 
 use join_law::Version;
-use load_path::Path;
+use load_places::Place;
 use sorted_pairs::seek;
 use std::alloc::{AllocError, Global};
 use std::marker::Model;
 
-/// What a replica asks with: the version of each entry that it holds, by path.
+/// What a replica asks with: the version of each entry that it holds, by place.
 ///
 /// It has no contents, so it is small beside the store that it tells of.
 #[derive(Debug, Drop)]
 pub struct Digest {
-    // In path order.
-    versions: Vec<(Path, Version)>,
+    // In place order.
+    versions: Vec<(Place, Version)>,
 }
 
 impl Model for Digest {
@@ -24,17 +24,17 @@ impl Model for Digest {
     ghost use Rattle.std.specs.FinMap as finmap;
     ghost use Rattle.std.specs.FinMap.{is_sorted};
     ghost use Rattle.join_law.specs.contracts.versions.Version as version;
-    ghost use Rattle.load_path.specs.Paths.{path_cmp};
-    ghost use Rattle.load_path.specs.PathLaws.{coded_path};
+    ghost use Rattle.load_places.specs.Places.{place_cmp};
+    ghost use Rattle.load_places.specs.PlaceLaws.{coded_place};
     ghost use Rattle.world_law.specs.Cuts.{VersionMap};
 
     ghost Value = { VersionMap };
 
-    ghost coded = { finmap.code coded_path (version.the_row).coded };
+    ghost coded = { finmap.code coded_place (version.the_row).coded };
 
     ghost view = { λ d. finmap.from_sorted d.versions.items };
 
-    ghost invariant = { λ d. IsTrue (is_sorted path_cmp d.versions.items) };
+    ghost invariant = { λ d. IsTrue (is_sorted place_cmp d.versions.items) };
 }
 
 impl Digest {
@@ -47,26 +47,26 @@ impl Digest {
         }
     }
 
-    // The digest of these versions, whose paths rise. It takes no memory.
-    pub(crate) fn from_versions(versions: Vec<(Path, Version)>) -> Digest
-        requires sorted { IsTrue (is_sorted path_cmp versions.items) }
+    // The digest of these versions, whose places rise. It takes no memory.
+    pub(crate) fn from_versions(versions: Vec<(Place, Version)>) -> Digest
+        requires sorted { IsTrue (is_sorted place_cmp versions.items) }
         ensures versions { finmap.entries result ≡ versions.items }
     {
         Digest { versions }
     }
 
-    /// The version at a path. O(log n), without memory.
-    pub fn get(&self, path: &Path) -> Option<Version>
-        ensures version { result ≡ finmap.get self.now path.now }
+    /// The version at a place. O(log n), without memory.
+    pub fn get(&self, place: &Place) -> Option<Version>
+        ensures version { result ≡ finmap.get self.now place.now }
     {
-        match seek(&self.versions, path) {
+        match seek(&self.versions, place) {
             Ok(at) => Some(self.versions[at].1),
             Err(_) => None,
         }
     }
 
-    /// All paths and versions in path order, without memory.
-    pub fn versions(&self) -> &[(Path, Version)]
+    /// All places and versions in place order, without memory.
+    pub fn versions(&self) -> &[(Place, Version)]
         ensures versions { result.now ≡ finmap.entries self.now }
     {
         &self.versions
@@ -83,12 +83,12 @@ impl Digest {
 }
 
 // A copy of the versions.
-fn copy_of(alloc: Global, versions: &[(Path, Version)]) -> Result<Vec<(Path, Version)>, AllocError>
+fn copy_of(alloc: Global, versions: &[(Place, Version)]) -> Result<Vec<(Place, Version)>, AllocError>
     ensures copy { IfOk result (λ copy. copy.items ≡ versions.now) }
 {
     let mut copy = Vec::with_capacity(alloc, versions.len())?;
-    for (path, version) in versions {
-        copy.push((path.try_clone()?, *version))?;
+    for (place, version) in versions {
+        copy.push((place.try_clone()?, *version))?;
     }
     Ok(copy)
 }

@@ -1,6 +1,6 @@
-//! What replicas send each other: digests, which tell the version at each path, and pieces, which carry entries. A
+//! What replicas send each other: digests, which tell the version at each place, and pieces, which carry entries. A
 //! piece that is cut for a digest carries what its owner lacks: entries of a greater version than the digest tells,
-//! and those at paths of which it tells nothing.
+//! and those at places of which it tells nothing.
 //!
 //! Promise: pieces are exact; a refused merge lies between; what was consumed comes back.
 //!

@@ -3,7 +3,7 @@ ghost use Rattle.std.specs.Prelude.{◌≡◌, ◌≢◌, [], ◌∷◌, Some, N
 ghost use Rattle.std.specs.Option.{option_map};
 ghost use Rattle.std.specs.declared.cmp.Ordering.TheVariants.{Less};
 ghost use Rattle.std.specs.FinMap.{is_sorted, find};
-ghost use Rattle.load_path.specs.Paths.{PathParts, path_cmp};
+ghost use Rattle.load_places.specs.Places.{PlaceParts, place_cmp};
 ghost use Rattle.edit_sums.specs.Sums.{edit_of, join, sum_of};
 ghost use Rattle.sorted_pairs.specs.Places.{IsNotBelow};
 ghost use Rattle.world_law.specs.Cuts.{cut, digest_of, is_newer};
@@ -12,7 +12,7 @@ use crate::copies::join_copy;
 use crate::digests::Digest;
 use edit_sums::{Edit, Entry};
 use join_law::Version;
-use load_path::Path;
+use load_places::Place;
 use replica_store::{Entries, Placed, Store};
 use std::alloc::{AllocError, Global};
 
@@ -20,17 +20,17 @@ use std::alloc::{AllocError, Global};
 pub fn newer_entries(
     alloc: Global,
     mut entries: Entries<'_>,
-    versions: &[(Path, Version)],
+    versions: &[(Place, Version)],
 ) -> Result<Store, AllocError>
-    requires sorted { IsTrue (is_sorted path_cmp entries) }
-    requires versions_sorted { IsTrue (is_sorted path_cmp versions.now) }
+    requires sorted { IsTrue (is_sorted place_cmp entries) }
+    requires versions_sorted { IsTrue (is_sorted place_cmp versions.now) }
     ensures newer { IfOk result (λ newer. newer ≡ sum_of (map edit_of (filter (λ p. is_newer p.1.version
-        (find path_cmp p.0 versions.now)) entries.entry))) }
+        (find place_cmp p.0 versions.now)) entries.entry))) }
 {
     let mut newer = Store::new(alloc);
     let mut left = versions;
     while let Some(placed) = entries.next_entry() {
-        left = from_path(left, &placed);
+        left = from_place(left, &placed);
         if is_newer(placed.entry().version, version_at(left, &placed)) {
             join_copy(&mut newer, &placed)?;
         }
@@ -38,12 +38,12 @@ pub fn newer_entries(
     Ok(newer)
 }
 
-// The versions whose paths are not below that of an entry. Linear in those that are.
-fn from_path<'a>(versions: &'a [(Path, Version)], placed: &Placed) -> &'a [(Path, Version)]
-    requires sorted { IsTrue (is_sorted path_cmp versions.now) }
-    ensures sorted { IsTrue (is_sorted path_cmp result.now) }
-    ensures next { IsNotBelow path_cmp placed.now.0 result.now }
-    ensures held { (q : PathParts) → path_cmp q placed.now.0 ≢ Less → find path_cmp q result.now ≡ find path_cmp
+// The versions whose places are not below that of an entry. Linear in those that are.
+fn from_place<'a>(versions: &'a [(Place, Version)], placed: &Placed) -> &'a [(Place, Version)]
+    requires sorted { IsTrue (is_sorted place_cmp versions.now) }
+    ensures sorted { IsTrue (is_sorted place_cmp result.now) }
+    ensures next { IsNotBelow place_cmp placed.now.0 result.now }
+    ensures held { (q : PlaceParts) → place_cmp q placed.now.0 ≢ Less → find place_cmp q result.now ≡ find place_cmp
         q versions.now }
 {
     let mut left = versions;
@@ -56,11 +56,11 @@ fn from_path<'a>(versions: &'a [(Path, Version)], placed: &Placed) -> &'a [(Path
     left
 }
 
-// The version at the path of an entry, which no other path is below.
-fn version_at(versions: &[(Path, Version)], placed: &Placed) -> Option<Version>
-    requires sorted { IsTrue (is_sorted path_cmp versions.now) }
-    requires next { IsNotBelow path_cmp placed.now.0 versions.now }
-    ensures version { result ≡ find path_cmp placed.now.0 versions.now }
+// The version at the place of an entry, which no other place is below.
+fn version_at(versions: &[(Place, Version)], placed: &Placed) -> Option<Version>
+    requires sorted { IsTrue (is_sorted place_cmp versions.now) }
+    requires next { IsNotBelow place_cmp placed.now.0 versions.now }
+    ensures version { result ≡ find place_cmp placed.now.0 versions.now }
 {
     let next = versions.first()?;
     if placed.order_of(&next.0).is_eq() {
@@ -104,40 +104,40 @@ fn is_newer(version: Version, asked: Option<Version>) -> bool
     }
 }
 
-// What is newer at these paths: for each path a search, and at most one shift of what was found.
+// What is newer at these places: for each place a search, and at most one shift of what was found.
 pub fn newer_at(
     alloc: Global,
     store: &Store,
     asked: &Digest,
-    paths: &[Path],
+    places: &[Place],
 ) -> Result<Store, AllocError>
-    ensures cut { IfOk result (λ newer. newer ≡ cut store.now asked.now (Some paths.now)) }
+    ensures cut { IfOk result (λ newer. newer ≡ cut store.now asked.now (Some places.now)) }
 {
     let mut newer = Store::new(alloc);
-    for path in paths {
-        join_newer(&mut newer, store, asked, path)?;
+    for place in places {
+        join_newer(&mut newer, store, asked, place)?;
     }
     Ok(newer)
 }
 
-// Joins what is newer at a path.
+// Joins what is newer at a place.
 fn join_newer(
     newer: &mut Store,
     store: &Store,
     asked: &Digest,
-    path: &Path,
+    place: &Place,
 ) -> Result<(), AllocError>
-    ensures ok { OnOk result (newer.new ≡ join newer.old (cut store.now asked.now (Some (path.now ∷ [])))) }
+    ensures ok { OnOk result (newer.new ≡ join newer.old (cut store.now asked.now (Some (place.now ∷ [])))) }
 {
-    let Some(entry) = store.get(path) else {
+    let Some(entry) = store.get(place) else {
         return Ok(());
     };
-    if !is_newer(entry.version, asked.get(path)) {
+    if !is_newer(entry.version, asked.get(place)) {
         return Ok(());
     }
     let Entry { version, content } = entry.try_clone()?;
     newer.join_edit(Edit {
-        path: path.try_clone()?,
+        place: place.try_clone()?,
         version,
         content,
     })

@@ -9,12 +9,12 @@ use crate::digests::Digest;
 use crate::newer::newer_at;
 use edit_sums::Edit;
 use join_law::Rest;
-use load_path::Path;
+use load_places::Place;
 use replica_store::Store;
 use std::alloc::{AllocError, Global};
 use std::marker::Model;
 
-/// Entries by path, to be sent and taken. Removals are among them.
+/// Entries by place, to be sent and taken. Removals are among them.
 #[derive(Debug, Drop)]
 pub struct Piece {
     store: Store,
@@ -22,13 +22,13 @@ pub struct Piece {
 
 impl Model for Piece {
     ghost use Rattle.std.specs.FinMap as finmap;
-    ghost use Rattle.load_path.specs.PathLaws.{coded_path};
+    ghost use Rattle.load_places.specs.PlaceLaws.{coded_place};
     ghost use Rattle.edit_sums.specs.EntryCodes.{coded_entry};
     ghost use Rattle.edit_sums.specs.Sums.{EntryMap};
 
     ghost Value = { EntryMap };
 
-    ghost coded = { finmap.code coded_path coded_entry };
+    ghost coded = { finmap.code coded_place coded_entry };
 
     ghost view = { λ p. p.store };
 }
@@ -65,7 +65,7 @@ impl Piece {
         &self.store
     }
 
-    /// How many paths it carries. O(1), without memory.
+    /// How many places it carries. O(1), without memory.
     pub fn len(&self) -> usize
         ensures len { result ≡ length (finmap.entries self.now) }
     {
@@ -79,19 +79,19 @@ impl Piece {
         self.len() == 0
     }
 
-    /// Copies of what it carries at these paths, which are read as a set. For each path a search,
-    /// and at most one shift of what was found before, none where the paths rise. It fails for want
+    /// Copies of what it carries at these places, which are read as a set. For each place a search,
+    /// and at most one shift of what was found before, none where the places rise. It fails for want
     /// of memory alone.
-    pub fn only(&self, paths: &[Path]) -> Result<Piece, AllocError>
-        ensures only { IfOk result (λ piece. piece ≡ only_at paths.now self.now) }
+    pub fn only(&self, places: &[Place]) -> Result<Piece, AllocError>
+        ensures only { IfOk result (λ piece. piece ≡ only_at places.now self.now) }
     {
         let alloc = self.store.allocator();
         let nothing = Digest::new(alloc);
-        let store = newer_at(alloc, &self.store, &nothing, paths)?;
+        let store = newer_at(alloc, &self.store, &nothing, places)?;
         Ok(Piece { store })
     }
 
-    /// Its first `at` entries in path order, and the others. Where it has no more than `at`, the
+    /// Its first `at` entries in place order, and the others. Where it has no more than `at`, the
     /// second part is empty. A search for each entry; the parts share the bytes of its entries.
     ///
     /// Where memory is refused, the piece comes back.

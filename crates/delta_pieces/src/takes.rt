@@ -1,7 +1,7 @@
 //! How a replica takes a piece.
 ghost use Rattle.std.specs.Prelude.{◌≡◌, IfOk, OnOk, OnErr, IfErr};
 ghost use Rattle.std.specs.FinMap as finmap;
-ghost use Rattle.edit_sums.specs.Sums.{changed_paths, join, IsStoreBelow};
+ghost use Rattle.edit_sums.specs.Sums.{changed_places, join, IsStoreBelow};
 
 use crate::pieces::Piece;
 use join_law::Rest;
@@ -14,7 +14,7 @@ pub struct TakeFault {
     pub rest: Piece,
 }
 
-/// Joins what a piece carries, and answers how many paths changed. Both are read side by side;
+/// Joins what a piece carries, and answers how many places changed. Both are read side by side;
 /// then it costs what is news and a search for each, or one pass over both, whichever is less.
 ///
 /// Where memory is refused, the replica's store lies between what it was and the join, and taking
@@ -22,7 +22,7 @@ pub struct TakeFault {
 /// was.
 pub fn take(replica: &mut Replica, piece: Piece) -> Result<u64, TakeFault>
     ensures ok { OnOk result (replica.new ≡ record replica.old { store = join replica.old.store piece }) }
-    ensures changed { IfOk result (λ changed. changed ≡ changed_paths replica.old.store replica.new.store) }
+    ensures changed { IfOk result (λ changed. changed ≡ changed_places replica.old.store replica.new.store) }
     ensures kept { OnErr result (IsStoreBelow replica.old.store replica.new.store) }
     ensures within { OnErr result (IsStoreBelow replica.new.store (join replica.old.store piece)) }
     ensures rest { IfErr result (λ fault. join replica.new.store fault.rest ≡ join replica.old.store piece) }

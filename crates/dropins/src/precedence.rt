@@ -66,7 +66,7 @@ pub fn paths_of(alloc: Global, entries: &[Placed]) -> Result<Vec<Path>, AllocErr
 {
     let mut paths = Vec::new(alloc);
     for placed in entries {
-        paths.push(placed.path()?)?;
+        paths.push(placed.place()?)?;
     }
     Ok(paths)
 }

@@ -7,7 +7,7 @@ use Rattle.std.specs.Ordering.{nat_cmp, ordering_then, is_gt}
 use Rattle.std.proofs.lemmas.Bool.Decides.{nat_tests}
 use Rattle.std.specs.FinMap as finmap
 use Rattle.list_laws.specs.Members.{IsAmong}
-use Rattle.load_path.specs.Paths.{PathParts}
+use Rattle.load_places.specs.Places.{PlaceParts}
 use Rattle.edit_sums.specs.Entries.{Entry}
 use Rattle.edit_sums.specs.declared.entries.Edit.{Edit}
 use Rattle.edit_sums.specs.Entries.{IsBelow}
@@ -23,7 +23,7 @@ high_among-append (x ∷ xs) ys = omega (arith, high_among-append xs ys)
 pub high_among-edits_of : (s : EntryMap) → high_among (edits_of s) ≡ high_of s
 high_among-edits_of s = by (finmap.entries s)
   where
-    by : (ps : List (PathParts × Entry)) → high_among (map edit_of ps) ≡ greatest_counter ps
+    by : (ps : List (PlaceParts × Entry)) → high_among (map edit_of ps) ≡ greatest_counter ps
     by [] = refl
     by (p ∷ ps) = ap (max p.1.version.counter) (by ps)
 
@@ -53,25 +53,25 @@ not_greater a b r s h = by (nat_cmp a b) refl h
 pub counter_of_below : (x : Entry) (y : Entry) → IsBelow (Some x) (Some y) → x.version.counter ≤ y.version.counter
 counter_of_below x y h = not_greater _ _ _ _ h
 
--- what is held at a path is one of the entries as edits
-pub edits_of-found : (s : EntryMap) (q : PathParts) (x : Entry) → finmap.get s q ≡ Some x → IsAmong (edit_of (q, x)) (edits_of s)
+-- what is held at a place is one of the entries as edits
+pub edits_of-found : (s : EntryMap) (q : PlaceParts) (x : Entry) → finmap.get s q ≡ Some x → IsAmong (edit_of (q, x)) (edits_of s)
 edits_of-found s q x h = (sum_of-IsSum (edits_of s)).found q x (ap (λ (t : EntryMap). finmap.get t q) (sum_of-edits_of s) ∙ h)
 
 -- each entry that is held has at most the greatest counter
-pub high_of-above : (s : EntryMap) (q : PathParts) (x : Entry) → finmap.get s q ≡ Some x → x.version.counter ≤ high_of s
+pub high_of-above : (s : EntryMap) (q : PlaceParts) (x : Entry) → finmap.get s q ≡ Some x → x.version.counter ≤ high_of s
 high_of-above s q x h = subst (λ n. x.version.counter ≤ n) (high_among-edits_of s) (counter_among (edit_of (q, x)) (edits_of s) (edits_of-found s q x h))
 
 pub high_of-sum_of : (es : List Edit) → high_of (sum_of es) ≡ high_among es
 high_of-sum_of es =
-    let down : high_of (sum_of es) ≤ high_among es = subst (λ n. n ≤ high_among es) (high_among-edits_of (sum_of es)) (high_among-least (edits_of (sum_of es)) (high_among es) (λ e a. counter_among e es ((sum_of-IsSum es).found e.path (entry_of e) (get_from_edits_of e (sum_of es) a)))) in
-    let up : high_among es ≤ high_of (sum_of es) = high_among-least es (high_of (sum_of es)) (λ e a. held e (finmap.get (sum_of es) e.path) refl ((sum_of-IsSum es).above e a)) in
+    let down : high_of (sum_of es) ≤ high_among es = subst (λ n. n ≤ high_among es) (high_among-edits_of (sum_of es)) (high_among-least (edits_of (sum_of es)) (high_among es) (λ e a. counter_among e es ((sum_of-IsSum es).found e.place (entry_of e) (get_from_edits_of e (sum_of es) a)))) in
+    let up : high_among es ≤ high_of (sum_of es) = high_among-least es (high_of (sum_of es)) (λ e a. held e (finmap.get (sum_of es) e.place) refl ((sum_of-IsSum es).above e a)) in
     omega arith
   where
-    held : (e : Edit) (y : Option Entry) → finmap.get (sum_of es) e.path ≡ y → IsBelow (Some (entry_of e)) y → e.version.counter ≤ high_of (sum_of es)
+    held : (e : Edit) (y : Option Entry) → finmap.get (sum_of es) e.place ≡ y → IsBelow (Some (entry_of e)) y → e.version.counter ≤ high_of (sum_of es)
     held e None g b = absurd b
     held e (Some y) g b =
         let low = counter_of_below (entry_of e) y b in
-        let high = high_of-above (sum_of es) e.path y g in
+        let high = high_of-above (sum_of es) e.place y g in
         omega arith
 
 pub high_of-join : (s t : EntryMap) → high_of (join s t) ≡ max (high_of s) (high_of t)

@@ -4,17 +4,17 @@ use Rattle.std.specs.FinMap as finmap
 use Rattle.std.specs.Ordering.{eq_by_cmp}
 use Rattle.std.specs.FinMap.{same_map}
 use Rattle.list_laws.specs.Members.{IsAmong}
-use Rattle.load_path.specs.Paths.{PathParts, path_cmp}
-use Rattle.load_path.specs.PathLaws.{path_cmp_total, path_cmp-IsAntisymmetric}
+use Rattle.load_places.specs.Places.{PlaceParts, place_cmp}
+use Rattle.load_places.specs.PlaceLaws.{place_cmp_total, place_cmp-IsAntisymmetric}
 use Rattle.edit_sums.specs.declared.entries.Edit.{Edit}
 use Rattle.edit_sums.specs.Entries.{IsBelow, larger}
 use Rattle.edit_sums.specs.Sums.{EntryMap, entry_of, greatest_at, with_edit, sum_of, edits_of, join, IsAboveEdits, IsStoreBelow, IsSum}
 use Rattle.edit_sums.specs.EntryLaws.{larger_assoc, larger_comm, larger_idem, larger-None, larger-left, larger-right, larger-least, below_refl, below_trans, below_antisym}
 use Rattle.edit_sums.specs.GreatestLaws.{get-with_edit, get-sum_of, get-join, greatest_at-append, greatest_at-edits_of, greatest_at-mono, greatest_at-above, greatest_at-found, greatest_at-least}
 
--- stores that have the same at each path are the same
-pub same_store : (s t : EntryMap) → ((q : PathParts) → finmap.get s q ≡ finmap.get t q) → s ≡ t
-same_store s t is = same_map path_cmp_total path_cmp-IsAntisymmetric s t is
+-- stores that have the same at each place are the same
+pub same_store : (s t : EntryMap) → ((q : PlaceParts) → finmap.get s q ≡ finmap.get t q) → s ≡ t
+same_store s t is = same_map place_cmp_total place_cmp-IsAntisymmetric s t is
 
 pub store_below_refl : (s : EntryMap) → IsStoreBelow s s
 store_below_refl s q = below_refl (finmap.get s q)
@@ -64,14 +64,14 @@ join-least s t u h k q = subst (λ y. IsBelow y (finmap.get u q)) (sym (get-join
 
 pub sum_of-IsSum : (es : List Edit) → IsSum es (sum_of es)
 sum_of-IsSum es = record {
-  above = λ e a. subst (λ y. IsBelow (Some (entry_of e)) y) (sym (get-sum_of es e.path)) (greatest_at-above e es a);
+  above = λ e a. subst (λ y. IsBelow (Some (entry_of e)) y) (sym (get-sum_of es e.place)) (greatest_at-above e es a);
   found = λ q x h. greatest_at-found q es x (sym (get-sum_of es q) ∙ h);
 }
 
 -- the sum lies below just those stores that are above its edits
 pub sum_of-least : (es : List Edit) (s : EntryMap) → IsStoreBelow (sum_of es) s ↔ IsAboveEdits es s
 sum_of-least es s = (
-  λ below e a. below_trans (Some (entry_of e)) (finmap.get (sum_of es) e.path) (finmap.get s e.path) ((sum_of-IsSum es).above e a) (below e.path),
+  λ below e a. below_trans (Some (entry_of e)) (finmap.get (sum_of es) e.place) (finmap.get s e.place) ((sum_of-IsSum es).above e a) (below e.place),
   λ above q. subst (λ x. IsBelow x (finmap.get s q)) (sym (get-sum_of es q))
       (greatest_at-least q es (finmap.get s q) (λ e a same. subst (λ p. IsBelow (Some (entry_of e)) (finmap.get s p)) same (above e a))),
 )
@@ -80,9 +80,9 @@ pub with_edit-join : (s : EntryMap) (e : Edit) → with_edit s e ≡ join s (sum
 with_edit-join s e =
     same_store _ _
     (λ q.
-    let one : finmap.get (sum_of (e ∷ [])) q ≡ cond (eq_by_cmp path_cmp q e.path) (Some (entry_of e)) None = get-sum_of (e ∷ []) q in
+    let one : finmap.get (sum_of (e ∷ [])) q ≡ cond (eq_by_cmp place_cmp q e.place) (Some (entry_of e)) None = get-sum_of (e ∷ []) q in
     get-with_edit s e q ∙
-    elim (eq_by_cmp path_cmp q e.path) as (λ b. cond b (larger (Some (entry_of e)) (finmap.get s q)) (finmap.get s q) ≡ larger (finmap.get s q) (cond b (Some (entry_of e)) None)) [
+    elim (eq_by_cmp place_cmp q e.place) as (λ b. cond b (larger (Some (entry_of e)) (finmap.get s q)) (finmap.get s q) ≡ larger (finmap.get s q) (cond b (Some (entry_of e)) None)) [
       | true ↦ larger_comm (Some (entry_of e)) (finmap.get s q)
       | false ↦ sym (larger-None (finmap.get s q))
     ] ∙

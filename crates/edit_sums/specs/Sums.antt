@@ -1,50 +1,50 @@
 -- Lists of edits, and their sum.
--- Source (states as joins of updates, and their order): Shapiro, Preguica, Baquero, Zawirski 2011. Honest edits, counters and changed paths are this project's own.
+-- Source (states as joins of updates, and their order): Shapiro, Preguica, Baquero, Zawirski 2011. Honest edits, counters and changed places are this project's own.
 use Rattle.std.specs.Prelude.{◌≡◌, ℕ, Bool, true, not, if◌then◌else◌, max, Option, Some, None, List, [], ◌∷◌, ◌++◌, map, count_by, unwrap_or}
 use Rattle.std.specs.Option.{option_and_then}
 use Rattle.std.specs.Ordering.{eq_by_cmp, is_eq}
 use Rattle.std.specs.FinMap as finmap
 use Rattle.std.specs.FinMap.{FinMap}
 use Rattle.list_laws.specs.Members.{IsAmong}
-use Rattle.load_path.specs.Paths.{PathParts, path_cmp}
+use Rattle.load_places.specs.Places.{PlaceParts, place_cmp}
 use Rattle.edit_sums.specs.declared.contents.Content.{Content}
 use Rattle.edit_sums.specs.declared.contents.Content.TheVariants.{Gone, Link, File}
 use Rattle.edit_sums.specs.Entries.{Entry}
 use Rattle.edit_sums.specs.declared.entries.Edit.{Edit}
 use Rattle.edit_sums.specs.Entries.{entry_cmp, larger, IsBelow}
 
--- what is held: at each path at most one entry
+-- what is held: at each place at most one entry
 abbrev pub EntryMap : Type 0
-EntryMap = FinMap path_cmp Entry
+EntryMap = FinMap place_cmp Entry
 
 abbrev pub entry_of : Edit → Entry
 entry_of e = record { version = e.version; content = e.content }
 
-abbrev pub edit_of : PathParts × Entry → Edit
-edit_of p = record { path = p.0; version = p.1.version; content = p.1.content }
+abbrev pub edit_of : PlaceParts × Entry → Edit
+edit_of p = record { place = p.0; version = p.1.version; content = p.1.content }
 
 -- no version stands for two edits
 abbrev pub IsHonest : List Edit → Type 0
 IsHonest es = (e f : Edit) → IsAmong e es → IsAmong f es → e.version ≡ f.version → e ≡ f
 
--- the greatest entry among the edits at a path
-abbrev pub greatest_at : PathParts → List Edit → Option Entry
+-- the greatest entry among the edits at a place
+abbrev pub greatest_at : PlaceParts → List Edit → Option Entry
 greatest_at q [] = None
-greatest_at q (e ∷ es) = if eq_by_cmp path_cmp q e.path then larger (Some (entry_of e)) (greatest_at q es) else greatest_at q es
+greatest_at q (e ∷ es) = if eq_by_cmp place_cmp q e.place then larger (Some (entry_of e)) (greatest_at q es) else greatest_at q es
 
--- what is held, and at the edit's path its entry if that is larger
+-- what is held, and at the edit's place its entry if that is larger
 abbrev pub with_edit : EntryMap → Edit → EntryMap
-with_edit s e = finmap.insert s e.path (unwrap_or (larger (Some (entry_of e)) (finmap.get s e.path)) (entry_of e))
+with_edit s e = finmap.insert s e.place (unwrap_or (larger (Some (entry_of e)) (finmap.get s e.place)) (entry_of e))
 
--- the sum of edits: at each path with an edit the greatest entry among the edits there
+-- the sum of edits: at each place with an edit the greatest entry among the edits there
 abbrev pub sum_of : List Edit → EntryMap
 sum_of [] = finmap.empty
 sum_of (e ∷ es) = with_edit (sum_of es) e
 
--- the same in other words: each edit is at most what is held at its path, and all that is held is one of the edits
+-- the same in other words: each edit is at most what is held at its place, and all that is held is one of the edits
 pub record IsSum (es : List Edit) (s : EntryMap) : Type 0 where
-  pub above : (e : Edit) → IsAmong e es → IsBelow (Some (entry_of e)) (finmap.get s e.path)
-  pub found : (q : PathParts) (x : Entry) → finmap.get s q ≡ Some x → IsAmong (edit_of (q, x)) es
+  pub above : (e : Edit) → IsAmong e es → IsBelow (Some (entry_of e)) (finmap.get s e.place)
+  pub found : (q : PlaceParts) (x : Entry) → finmap.get s q ≡ Some x → IsAmong (edit_of (q, x)) es
 
 -- what is held, as edits
 abbrev pub edits_of : EntryMap → List Edit
@@ -54,13 +54,13 @@ edits_of s = map edit_of (finmap.entries s)
 abbrev pub join : EntryMap → EntryMap → EntryMap
 join s t = sum_of (edits_of s ++ edits_of t)
 
--- s is below t: each path of s has in t an entry that is not less
+-- s is below t: each place of s has in t an entry that is not less
 abbrev pub IsStoreBelow : EntryMap → EntryMap → Type 0
-IsStoreBelow s t = (q : PathParts) → IsBelow (finmap.get s q) (finmap.get t q)
+IsStoreBelow s t = (q : PlaceParts) → IsBelow (finmap.get s q) (finmap.get t q)
 
--- the store is above each of these edits: at its path it has the edit or a greater one
+-- the store is above each of these edits: at its place it has the edit or a greater one
 abbrev pub IsAboveEdits : List Edit → EntryMap → Type 0
-IsAboveEdits es s = (e : Edit) → IsAmong e es → IsBelow (Some (entry_of e)) (finmap.get s e.path)
+IsAboveEdits es s = (e : Edit) → IsAmong e es → IsBelow (Some (entry_of e)) (finmap.get s e.place)
 
 -- the content of an entry that is no removal
 abbrev pub shown : Entry → Option Content
@@ -71,12 +71,12 @@ shown x = shown_content x.content
     shown_content (Link target) = Some (Link target)
     shown_content (File bytes) = Some (File bytes)
 
--- the visible content at a path
-abbrev pub visible_at : EntryMap → PathParts → Option Content
+-- the visible content at a place
+abbrev pub visible_at : EntryMap → PlaceParts → Option Content
 visible_at s q = option_and_then shown (finmap.get s q)
 
 -- the greatest counter of some entries, 0 where there are none
-abbrev pub greatest_counter : List (PathParts × Entry) → ℕ
+abbrev pub greatest_counter : List (PlaceParts × Entry) → ℕ
 greatest_counter [] = 0
 greatest_counter (p ∷ ps) = max p.1.version.counter (greatest_counter ps)
 
@@ -94,6 +94,6 @@ abbrev pub is_other : Option Entry → Entry → Bool
 is_other None y = true
 is_other (Some x) y = not (is_eq (entry_cmp x y))
 
--- how many paths hold what they did not hold before
-abbrev pub changed_paths : EntryMap → EntryMap → ℕ
-changed_paths old new = count_by (λ p. is_other (finmap.get old p.0) p.1) (finmap.entries new)
+-- how many places hold what they did not hold before
+abbrev pub changed_places : EntryMap → EntryMap → ℕ
+changed_places old new = count_by (λ p. is_other (finmap.get old p.0) p.1) (finmap.entries new)

@@ -1,4 +1,4 @@
--- Which of two edits at one path is held: the order of versions and contents in plain words.
+-- Which of two edits at one place is held: the order of versions and contents in plain words.
 -- Source (the last writer wins): Shapiro, Preguica, Baquero, Zawirski 2011; that ties go by content is this project's own.
 use Rattle.std.proofs.Common.{◌≡◌, ℕ, ◌<◌, true, cond, Some, None, [], ◌∷◌, refl, ap, sym, ◌∙◌, arith}
 use Rattle.std.specs.FinMap as finmap
@@ -10,8 +10,8 @@ use Rattle.std.specs.declared.cmp.Ordering.TheVariants.{Less, Equal, Greater}
 use Rattle.std.proofs.lemmas.Cmp.{ranked, tied_itself}
 use Rattle.join_law.specs.VersionOrder.{version_cmp}
 use Rattle.join_law.specs.VersionOrderLaws.{version_cmp_total}
-use Rattle.load_path.specs.Paths.{PathParts, path_cmp}
-use Rattle.load_path.specs.PathLaws.{path_cmp_total}
+use Rattle.load_places.specs.Places.{PlaceParts, place_cmp}
+use Rattle.load_places.specs.PlaceLaws.{place_cmp_total}
 use Rattle.edit_sums.specs.declared.contents.Content.{Content}
 use Rattle.edit_sums.specs.declared.contents.Content.TheVariants.{Gone, Link, File}
 use Rattle.edit_sums.specs.declared.entries.Edit.{Edit}
@@ -20,9 +20,9 @@ use Rattle.edit_sums.specs.Entries.{entry_cmp, larger}
 use Rattle.edit_sums.specs.Sums.{entry_of, greatest_at, sum_of}
 use Rattle.edit_sums.specs.GreatestLaws.{get-sum_of}
 
--- of two edits at one path the first is held
+-- of two edits at one place the first is held
 abbrev pub Wins : Edit → Edit → Type 0
-Wins e f = e.path ≡ f.path → finmap.get (sum_of (e ∷ f ∷ [])) e.path ≡ Some (entry_of e)
+Wins e f = e.place ≡ f.place → finmap.get (sum_of (e ∷ f ∷ [])) e.place ≡ Some (entry_of e)
 
 -- a removal is less than a link and a file, and a link is less than a file
 abbrev pub IsLesserSort : Content → Content → Type 0
@@ -55,15 +55,15 @@ greater x y h = by (nat_cmp x y) refl
     by Equal e = absurd (omega (arith, ranked x y Equal (sym e)))
     by Greater e = e
 
-same : (q : PathParts) → eq_by_cmp path_cmp q q ≡ true
-same q = ap is_eq (tied_itself path_cmp_total q)
+same : (q : PlaceParts) → eq_by_cmp place_cmp q q ≡ true
+same q = ap is_eq (tied_itself place_cmp_total q)
 
 -- the greater entry is held
 held : (e f : Edit) → entry_cmp (entry_of e) (entry_of f) ≡ Greater → Wins e f
 held e f more at =
-    get-sum_of (e ∷ f ∷ []) e.path
-    ∙ ap (λ b. cond b (larger (Some (entry_of e)) (greatest_at e.path (f ∷ []))) (greatest_at e.path (f ∷ []))) (same e.path)
-    ∙ ap (λ b. larger (Some (entry_of e)) (cond b (Some (entry_of f)) None)) (ap (λ q. eq_by_cmp path_cmp q f.path) at ∙ same f.path)
+    get-sum_of (e ∷ f ∷ []) e.place
+    ∙ ap (λ b. cond b (larger (Some (entry_of e)) (greatest_at e.place (f ∷ []))) (greatest_at e.place (f ∷ []))) (same e.place)
+    ∙ ap (λ b. larger (Some (entry_of e)) (cond b (Some (entry_of f)) None)) (ap (λ q. eq_by_cmp place_cmp q f.place) at ∙ same f.place)
     ∙ ap (λ r. cond (is_gt r) (Some (entry_of e)) (Some (entry_of f))) more
 
 pub counters_decide : CountersDecide

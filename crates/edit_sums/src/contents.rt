@@ -1,4 +1,4 @@
-//! What a path holds.
+//! What a place holds.
 ghost use Rattle.std.specs.Prelude.{◌≡◌, ◌≤◌, ◌⊎◌, length, Err, IsErr, IfOk};
 ghost use Rattle.std.specs.List.{list_all};
 ghost use Rattle.edit_sums.specs.Limits.{is_target, is_graphic};
@@ -117,7 +117,7 @@ impl LinkTarget {
     }
 }
 
-/// What an edit writes at a path: a removal, a symbolic link or a file.
+/// What an edit writes at a place: a removal, a symbolic link or a file.
 ///
 /// Contents are ordered removal, link, file, and two of one sort by their bytes; that order
 /// decides between edits that claim one version.

@@ -3,19 +3,19 @@ ghost use Rattle.std.specs.Prelude.{◌≡◌, IfOk};
 
 use crate::contents::Content;
 use join_law::Version;
-use load_path::Path;
+use load_places::Place;
 use plain_values::Key;
 use std::alloc::AllocError;
 
-/// What a store has at a path: a version and a content, ordered by version, then content. Of two
-/// entries at one path the greater one wins.
+/// What a store has at a place: a version and a content, ordered by version, then content. Of two
+/// entries at one place the greater one wins.
 pub type Entry = join_law::Entry<Content>;
 
-/// What a writer does at a path: under a version it writes a content there.
+/// What a writer does at a place: under a version it writes a content there.
 #[derive(Debug, PartialEq, Eq, Drop)]
 pub struct Edit {
     /// Where it writes.
-    pub path: Path,
+    pub place: Place,
     /// The number of the edit.
     pub version: Version,
     /// What it writes.
@@ -28,7 +28,7 @@ impl Edit {
         ensures copy { IfOk result (λ copy. copy ≡ self.now) }
     {
         Ok(Edit {
-            path: self.path.try_clone()?,
+            place: self.place.try_clone()?,
             version: self.version,
             content: self.content.try_clone()?,
         })

@@ -5,7 +5,7 @@ ghost use Rattle.edit_sums.specs.declared.entries.Edit.{Edit};
 ghost use Rattle.edit_sums.specs.Sums.{EntryMap, IsAboveEdits, IsSum, IsStoreBelow, sum_of, join, high_of, high_among};
 ghost use Rattle.edit_sums.specs.WinnerLaws.{CountersDecide, WritersDecide, SortsDecide};
 
-/// The sum of edits holds at each path the greatest of the edits there, and nothing else. It depends on which edits there
+/// The sum of edits holds at each place the greatest of the edits there, and nothing else. It depends on which edits there
 /// are, and not on their order or number. It lies below just those stores that are above each of the edits, and the sum of
 /// two lists is the join of their sums.
 pub fn sums_of_edits()
@@ -16,7 +16,7 @@ pub fn sums_of_edits()
     ensures append { (xs ys : List Edit) → sum_of (xs ++ ys) ≡ join (sum_of xs) (sum_of ys) }
 {}
 
-/// Of two edits at one path the sum holds that with the greater counter; under one counter that of
+/// Of two edits at one place the sum holds that with the greater counter; under one counter that of
 /// the greater writer; and under one version a file before a link, and a link before a removal.
 pub fn winners_of_sums()
     ensures counters { CountersDecide }

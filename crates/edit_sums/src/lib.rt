@@ -1,5 +1,5 @@
 //! Edits of unit files, the sum of a list of edits, and the laws of sums. What a store holds is the sum of the
-//! edits that it took: at each path the greatest of them.
+//! edits that it took: at each place the greatest of them.
 //!
 //! Promise: merge is the least upper bound; the store is its map.
 //!

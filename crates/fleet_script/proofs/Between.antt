@@ -1,41 +1,41 @@
 -- Commands between nodes: from what is kept to the outcome.
-use Rattle.std.proofs.Common.{◌≡◌, inl, inr, ℕ, zero, suc, ◌+◌, ◌-◌, ◌<◌, ◌≤◌, ◌==◌, Bool, true, false, cond, List, [], ◌∷◌, ◌++◌, map, length, set, get_or, Vec, Global, Option, Some, None, Result, Ok, Err, codes, refl, sym, ap, subst, ◌∙◌, arith}
+use Rattle.std.proofs.Common.{◌≡◌, inl, inr, ℕ, ◌+◌, ◌-◌, ◌<◌, ◌==◌, Bool, true, false, cond, List, [], ◌∷◌, ◌++◌, map, length, set, get_or, Vec, Global, Option, Some, None, Result, Ok, Err, refl, sym, ap, subst, ◌∙◌, arith}
 use Rattle.std.specs.Prelude.{count_by, not, MatchOption, OnOk}
 use Rattle.std.specs.Ordering.{is_eq}
 use Rattle.std.specs.Cmp.{tied_itself}
 use Rattle.std.specs.Str.{bytes_eq}
 use Rattle.std.specs.FinMap as finmap
 use Rattle.std.proofs.lemmas.Bool.{true≢false, eq-eqb, eqb-true}
-use Rattle.std.proofs.lemmas.List.{map-append, nil_from_length, set-get_or}
+use Rattle.std.proofs.lemmas.List.{nil_from_length, set-get_or}
 use Rattle.std.proofs.lemmas.List.Sums.{sum_by-cons}
-use Rattle.load_path.specs.Paths.{PathParts}
+use Rattle.load_places.specs.Places.{PlaceParts}
 use Rattle.edit_sums.specs.SumLaws.{join-nothing, join_idem}
 use Rattle.edit_sums.specs.declared.entries.Edit.{Edit}
 use Rattle.edit_sums.specs.Entries.{Entry}
 use Rattle.edit_sums.specs.EntryLaws.{entry_cmp_total}
 use Rattle.edit_sums.specs.GreatestLaws.{get_from_edits_of}
 use Rattle.list_laws.specs.Members.{IsAmong}
-use Rattle.edit_sums.specs.Sums.{EntryMap, changed_paths, edit_of, entry_of, is_other, join, sum_of}
+use Rattle.edit_sums.specs.Sums.{EntryMap, changed_places, edit_of, entry_of, is_other, join, sum_of}
 use Rattle.replica_store.specs.Replicas.{Replicated}
 use Rattle.world_law.specs.declared.events.Event.TheVariants.{Give}
 use Rattle.world_law.specs.Cuts.{VersionMap, cut, digest_of}
 use Rattle.script_commands.specs.declared.commands.LineRefusal.TheVariants.{UnknownNode, UnknownPiece}
 use Rattle.script_answers.specs.Texts.{changed_line, entries_line}
-use Rattle.script_worlds.specs.Worlds.{ScriptWorld, held, happened, merged, merged_all, numbers_from, parted, piece_named}
-use Rattle.fleet_script.specs.Does.{AtNode, Gives, Refuses, Sends, SendsTo, Sweeps, if_any}
+use Rattle.script_worlds.specs.Worlds.{ScriptWorld, held, happened, merged, merged_all, parted, piece_named}
+use Rattle.fleet_script.specs.Does.{AtNode, Gives, Refuses, Sends, SendsTo, if_any}
 use Rattle.fleet_script.specs.Holds.{Continues, Goes, Holds, IsJoinedAt, IsNamed, IsPiece, Keeps, joined_with}
 use Rattle.fleet_script.proofs.Nodes.{at_place, get_or_any, get_or_here, get_or_there, get_or_twice, holds_merge, holds_part, holds_send, length_set, set_twice, slice_get_at}
 
 -- ---- merging two nodes
 
 -- what stays as it is has no other path
-none_other : (s : EntryMap) (es : List (PathParts × Entry)) → ((e : Edit) → IsAmong e (map edit_of es) → finmap.get s e.path ≡ Some (entry_of e)) → count_by (λ p. is_other (finmap.get s p.0) p.1) es ≡ 0
+none_other : (s : EntryMap) (es : List (PlaceParts × Entry)) → ((e : Edit) → IsAmong e (map edit_of es) → finmap.get s e.place ≡ Some (entry_of e)) → count_by (λ p. is_other (finmap.get s p.0) p.1) es ≡ 0
 none_other s [] held = refl
 none_other s (p ∷ ps) held =
     let same : is_other (finmap.get s p.0) p.1 ≡ false = ap (λ y. is_other y p.1) (held (edit_of p) (inl refl)) ∙ ap (λ r. not (is_eq r)) (tied_itself entry_cmp_total p.1) in
     sum_by-cons _ p ps ∙ (λ i. cond (same i) 1 0 + none_other s ps (λ e a. held e (inr a)) i)
 
-pub none_changed : (s : EntryMap) → 0 ≡ changed_paths s s
+pub none_changed : (s : EntryMap) → 0 ≡ changed_places s s
 none_changed s = sym (none_other s (finmap.entries s) (λ e a. get_from_edits_of e s a))
 
 -- a node has all that it holds
@@ -100,18 +100,18 @@ module _ (shell now : Keeps) (j i : ℕ) (d : Replicated) (lt_from : j < length 
   same_count = ap (λ (s : Keeps). length s.nodes) (joined d) ∙ length_set shell.nodes i _
 
   -- the paths that change are counted
-  pub merge_counted : (changed : ℕ) (text : Vec ℕ Global) → ((c : Replicated) → changed ≡ changed_paths (get_or shell.nodes i c).store (get_or now.nodes i c).store) → text.items ≡ changed_line changed
-      → Goes shell now (λ old outcome new. Gives (changed_line (changed_paths (held old i) (held (merged old j i) i))) (merged old j i) outcome new) (Ok text)
+  pub merge_counted : (changed : ℕ) (text : Vec ℕ Global) → ((c : Replicated) → changed ≡ changed_places (get_or shell.nodes i c).store (get_or now.nodes i c).store) → text.items ≡ changed_line changed
+      → Goes shell now (λ old outcome new. Gives (changed_line (changed_places (held old i) (held (merged old j i) i))) (merged old j i) outcome new) (Ok text)
   merge_counted changed text counted e world h =
       let next = merge_goes world h in
       let within : i < length now.nodes = omega (arith, same_count) in
       let after : (get_or now.nodes i d).store ≡ held (merged world j i) i = at_place now next.0 next.1 i d within ∙ ap (λ (w : ScriptWorld). held w i) next.2 in
-      let count : changed ≡ changed_paths (held world i) (held (merged world j i) i) = counted d ∙ (λ n. changed_paths (at_place shell world h i d lt_to n) (after n)) in
+      let count : changed ≡ changed_places (held world i) (held (merged world j i) i) = counted d ∙ (λ n. changed_places (at_place shell world h i d lt_to n) (after n)) in
       (next.0, next.1, record { outcome_is = ap Ok (e ∙ ap changed_line count); world_is = next.2 })
 
 -- ---- part
 
-pub parts : (shell now : Keeps) (piece : List ℕ) (j i : ℕ) (d : Replicated) (paths : List PathParts) (entries : EntryMap) (text : Vec ℕ Global) → j < length shell.nodes → i < length shell.nodes
+pub parts : (shell now : Keeps) (piece : List ℕ) (j i : ℕ) (d : Replicated) (paths : List PlaceParts) (entries : EntryMap) (text : Vec ℕ Global) → j < length shell.nodes → i < length shell.nodes
     → ((c : Replicated) → entries ≡ cut (get_or shell.nodes j c).store (digest_of (get_or shell.nodes i c).store) (if_any paths))
     → now.nodes ≡ shell.nodes → now.number_of ≡ shell.number_of → now.is_taken ≡ shell.is_taken
     → ((other : List ℕ) → now.piece_of other ≡ cond (bytes_eq piece other) (Some entries) (shell.piece_of other))
@@ -126,7 +126,7 @@ parts shell now piece j i d paths entries text lt_from lt_to is nodes numbers wr
     )
 
 -- what is cut for the ask of a node, at all paths
-pub cut_at_all : (nodes : List Replicated) (from to : ℕ) (paths : List PathParts) (here there : Replicated) (asked : VersionMap) (piece : EntryMap) → from < length nodes → to < length nodes → here ≡ get_or nodes from here → there ≡ get_or nodes to there
+pub cut_at_all : (nodes : List Replicated) (from to : ℕ) (paths : List PlaceParts) (here there : Replicated) (asked : VersionMap) (piece : EntryMap) → from < length nodes → to < length nodes → here ≡ get_or nodes from here → there ≡ get_or nodes to there
     → asked ≡ digest_of there.store → true ≡ (length paths == 0) → piece ≡ cut here.store asked None
     → (d : Replicated) → piece ≡ cut (get_or nodes from d).store (digest_of (get_or nodes to d).store) (if_any paths)
 cut_at_all nodes from to paths here there asked piece lt_from lt_to is_here is_there is_asked none is d =
@@ -138,21 +138,21 @@ cut_at_all nodes from to paths here there asked piece lt_from lt_to is_here is_t
 -- ---- send
 
 sends : (shell : Keeps) (i : ℕ) (node new : Replicated) (entries : EntryMap) (changed : ℕ) (text : Vec ℕ Global) → i < length shell.nodes → node ≡ get_or shell.nodes i node
-    → new ≡ record node { store = join node.store entries } → changed ≡ changed_paths node.store new.store → text.items ≡ changed_line changed
+    → new ≡ record node { store = join node.store entries } → changed ≡ changed_places node.store new.store → text.items ≡ changed_line changed
     → (world : ScriptWorld) → Holds shell world → (number : ℕ) → IsPiece world number entries
-    → (next : ScriptWorld) × Holds (record shell { nodes = set shell.nodes i new }) next × Gives (changed_line (changed_paths (held world i) (held (happened world (Give number i)) i))) (happened world (Give number i)) (Ok text.items) next
+    → (next : ScriptWorld) × Holds (record shell { nodes = set shell.nodes i new }) next × Gives (changed_line (changed_places (held world i) (held (happened world (Give number i)) i))) (happened world (Give number i)) (Ok text.items) next
 sends shell i node new entries changed text lt here joined counted e world h number is =
     let at = slice_get_at shell.nodes i node lt here in
     let next = happened world (Give number i) in
     let store : new.store ≡ join node.store is.piece.entries = ap (λ (r : Replicated). r.store) joined ∙ ap (join node.store) (sym is.entries_are) in
     let holds = holds_send shell world h number i node new is.piece lt at is.there (ap (λ (r : Replicated). r.writer) joined) store in
     let after : new.store ≡ held next i = holds.stores i new (slice_get_at (set shell.nodes i new) i new (omega (arith, length_set shell.nodes i new)) (sym (get_or_here shell.nodes i new new lt))) in
-    let count : changed ≡ changed_paths (held world i) (held next i) = counted ∙ (λ n. changed_paths (h.stores i node at n) (after n)) in
+    let count : changed ≡ changed_places (held world i) (held next i) = counted ∙ (λ n. changed_places (h.stores i node at n) (after n)) in
     (next, holds, record { outcome_is = ap Ok (e ∙ ap changed_line count); world_is = refl })
 
 -- a piece is given to a node
 pub given : (shell : Keeps) (piece name : List ℕ) (i : ℕ) (node new : Replicated) (entries : EntryMap) (changed : ℕ) (text : Vec ℕ Global) → shell.piece_of piece ≡ Some entries → shell.number_of name ≡ Some i → i < length shell.nodes → node ≡ get_or shell.nodes i node
-    → new ≡ record node { store = join node.store entries } → changed ≡ changed_paths node.store new.store → text.items ≡ changed_line changed
+    → new ≡ record node { store = join node.store entries } → changed ≡ changed_places node.store new.store → text.items ≡ changed_line changed
     → Goes shell (record shell { nodes = set shell.nodes i new }) (λ old outcome after. Sends old outcome after piece name) (Ok text)
 given shell piece name i node new entries changed text kept some lt here joined counted e world h =
     by (piece_named world.pieces piece) refl (subst (λ (o : Option EntryMap). IsNamed world o (piece_named world.pieces piece)) kept (h.pieces piece))

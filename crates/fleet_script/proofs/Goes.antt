@@ -1,5 +1,5 @@
 -- What a step came to, one lemma for each word of the meaning.
-use Rattle.std.proofs.Common.{◌≡◌, ◌≢◌, inl, inr, ℕ, ◌+◌, ◌<◌, ◌==◌, Bool, true, false, cond, List, [], ◌∷◌, ◌++◌, length, set, get_or, Vec, Global, Option, Some, None, is_some, Result, Ok, Err, codes, refl, sym, ap, subst, ◌∙◌, arith}
+use Rattle.std.proofs.Common.{◌≡◌, ◌≢◌, inl, inr, ℕ, ◌+◌, ◌<◌, ◌==◌, Bool, true, false, cond, List, [], ◌∷◌, ◌++◌, length, set, get_or, Vec, Global, Option, Some, None, is_some, Result, Ok, Err, codes, refl, sym, ap, subst, ◌∙◌}
 use Rattle.std.specs.Prelude.{slice_get, MatchOption, MatchResult, IsErrOf, IsSome}
 use Rattle.std.specs.Bool.{MatchBool}
 use Rattle.std.specs.Str.{bytes_eq}
@@ -11,7 +11,8 @@ use Rattle.std.specs.declared.cmp.Ordering.TheVariants.{Equal}
 use Rattle.std.proofs.lemmas.Map.Text.{is_eq-slice_cmp}
 use Rattle.std.proofs.lemmas.Bool.{true≢false, eq-eqb, eqb-true, ne_eqb}
 use Rattle.join_law.specs.declared.versions.Version.{Version}
-use Rattle.load_path.specs.Paths.{PathParts, path_of}
+use Rattle.load_path.specs.Paths.{path_of}
+use Rattle.load_places.specs.Places.{PlaceParts}
 use Rattle.load_path.specs.declared.paths.PathFault.{PathFault}
 use Rattle.load_path.specs.declared.paths.PathFault.TheVariants as path
 use Rattle.edit_sums.specs.declared.contents.Content.{Content}
@@ -31,7 +32,7 @@ use Rattle.script_commands.specs.Files.{IsFileOf, IsLinkTo, IsNoFile, IsNoLink, 
 use Rattle.script_commands.specs.Outcomes.{IsSaid, Outcome}
 use Rattle.script_commands.specs.Paths.{IsPathFault, paths_of}
 use Rattle.script_answers.specs.Texts.{ok_line}
-use Rattle.script_worlds.specs.Worlds.{ScriptWorld, happened, has_writer, held, next_edit, node_named}
+use Rattle.script_worlds.specs.Worlds.{ScriptWorld, happened, has_writer, held, next_edit}
 use Rattle.script_worlds.specs.Worlds.{with_node as with_new_node}
 use Rattle.fleet_script.specs.Does.{AtNode, AtPath, AtPaths, Gives, IsRead, Names, Reads, Refuses, RefusesPath, WithFile, WithTarget, WithText, Writes}
 use Rattle.fleet_script.specs.Holds.{Goes, HasNoNode, Holds, IsNodeNamed, Keeps}
@@ -78,14 +79,14 @@ module _ (shell after : Keeps) (r : Told) where
   with_node name at P some = weaker shell after r (P at) _ (λ old h outcome new p. subst (λ (o : Option ℕ). MatchOption o (Refuses old UnknownNode outcome new) (λ k. P k old outcome new)) (sym some ∙ h.numbers name) p)
 
   -- the path that a text writes, and the paths that words write
-  pub with_path : (text : List ℕ) (p : PathParts) (P : PathParts → Step) → path_of text ≡ Ok p → Goes shell after (P p) r → Goes shell after (λ old outcome new. AtPath old outcome new text (λ q. P q old outcome new)) r
-  with_path text p P read = weaker shell after r (P p) _ (λ old h outcome new q. subst (λ (x : Result PathParts PathFault). MatchResult x (λ q. P q old outcome new) (RefusesPath old outcome new)) (sym read) q)
+  pub with_path : (text : List ℕ) (p : PlaceParts) (P : PlaceParts → Step) → path_of text ≡ Ok p → Goes shell after (P p) r → Goes shell after (λ old outcome new. AtPath old outcome new text (λ q. P q old outcome new)) r
+  with_path text p P read = weaker shell after r (P p) _ (λ old h outcome new q. subst (λ (x : Result PlaceParts PathFault). MatchResult x (λ q. P q old outcome new) (RefusesPath old outcome new)) (sym read) q)
 
-  pub with_paths : (texts : List (List ℕ)) (ps : List PathParts) (P : List PathParts → Step) → paths_of texts ≡ Ok ps → Goes shell after (P ps) r → Goes shell after (λ old outcome new. AtPaths old outcome new texts (λ q. P q old outcome new)) r
-  with_paths texts ps P read = weaker shell after r (P ps) _ (λ old h outcome new q. subst (λ (x : Result (List PathParts) PathFault). MatchResult x (λ q. P q old outcome new) (RefusesPath old outcome new)) (sym read) q)
+  pub with_paths : (texts : List (List ℕ)) (ps : List PlaceParts) (P : List PlaceParts → Step) → paths_of texts ≡ Ok ps → Goes shell after (P ps) r → Goes shell after (λ old outcome new. AtPaths old outcome new texts (λ q. P q old outcome new)) r
+  with_paths texts ps P read = weaker shell after r (P ps) _ (λ old h outcome new q. subst (λ (x : Result (List PlaceParts) PathFault). MatchResult x (λ q. P q old outcome new) (RefusesPath old outcome new)) (sym read) q)
 
   -- a path that a text writes, of the node of a name
-  pub with_place : (name text : List ℕ) (at : ℕ) (p : PathParts) (P : ℕ → PathParts → Step)
+  pub with_place : (name text : List ℕ) (at : ℕ) (p : PlaceParts) (P : ℕ → PlaceParts → Step)
       → shell.number_of name ≡ Some at → path_of text ≡ Ok p → Goes shell after (P at p) r
       → Goes shell after (λ old outcome new. AtNode old outcome new name (λ k. AtPath old outcome new text (λ q. P k q old outcome new))) r
   with_place name text at p P found read go =
@@ -112,13 +113,13 @@ module _ (shell : Keeps) (fault : Fault) where
   refuses_path path.Component S e s = refused shell Component fault S e (λ old h. s old (Err Component) (refuses old Component))
   refuses_path path.Memory S e s = no_memory shell shell fault S e
 
-  pub without_path : (text : List ℕ) (P : PathParts → Step) → IsPathFault (path_of text) fault → Goes shell shell (λ old outcome new. AtPath old outcome new text (λ q. P q old outcome new)) (Err fault)
+  pub without_path : (text : List ℕ) (P : PlaceParts → Step) → IsPathFault (path_of text) fault → Goes shell shell (λ old outcome new. AtPath old outcome new text (λ q. P q old outcome new)) (Err fault)
   without_path text P (inl e) = no_memory shell shell fault _ e
-  without_path text P (inr (f, read, e)) = refuses_path f _ e (λ old outcome r. subst (λ (x : Result PathParts PathFault). MatchResult x (λ q. P q old outcome old) (RefusesPath old outcome old)) (sym read) r)
+  without_path text P (inr (f, read, e)) = refuses_path f _ e (λ old outcome r. subst (λ (x : Result PlaceParts PathFault). MatchResult x (λ q. P q old outcome old) (RefusesPath old outcome old)) (sym read) r)
 
-  pub without_paths : (texts : List (List ℕ)) (P : List PathParts → Step) → IsPathFault (paths_of texts) fault → Goes shell shell (λ old outcome new. AtPaths old outcome new texts (λ q. P q old outcome new)) (Err fault)
+  pub without_paths : (texts : List (List ℕ)) (P : List PlaceParts → Step) → IsPathFault (paths_of texts) fault → Goes shell shell (λ old outcome new. AtPaths old outcome new texts (λ q. P q old outcome new)) (Err fault)
   without_paths texts P (inl e) = no_memory shell shell fault _ e
-  without_paths texts P (inr (f, read, e)) = refuses_path f _ e (λ old outcome r. subst (λ (x : Result (List PathParts) PathFault). MatchResult x (λ q. P q old outcome old) (RefusesPath old outcome old)) (sym read) r)
+  without_paths texts P (inr (f, read, e)) = refuses_path f _ e (λ old outcome r. subst (λ (x : Result (List PlaceParts) PathFault). MatchResult x (λ q. P q old outcome old) (RefusesPath old outcome old)) (sym read) r)
 
   pub without_file : (text : List ℕ) (P : Content → Step) → IsNoFile text fault → Goes shell shell (λ old outcome new. WithText old outcome new text (λ bytes. WithFile old outcome new bytes (λ c. P c old outcome new))) (Err fault)
   without_file text P (without_memory e) = no_memory shell shell fault _ e
@@ -154,14 +155,14 @@ reads shell r name replica s Tells is same told =
 pub set_again : (nodes : List Replicated) (i : ℕ) (node new : Replicated) → node ≡ get_or nodes i node → new ≡ node → set nodes i new ≡ nodes
 set_again nodes i node new is same = ap (set nodes i) same ∙ set_same nodes i node is
 
-module _ (shell : Keeps) (i : ℕ) (node : Replicated) (p : PathParts) (content : Content) (at : slice_get shell.nodes i ≡ Some node) where
+module _ (shell : Keeps) (i : ℕ) (node : Replicated) (p : PlaceParts) (content : Content) (at : slice_get shell.nodes i ≡ Some node) where
   -- the node's edit in the world is the replica's
-  edit_is : (world : ScriptWorld) → Holds shell world → ◌≡◌ {A = Edit} (record { path = p; version = next_version node; content = content }) (next_edit world i p content)
-  edit_is world h = λ n. record { path = p; version = record { counter = high_of (h.stores i node at n) + 1; writer = sym (h.writers i node at) n }; content = content }
+  edit_is : (world : ScriptWorld) → Holds shell world → ◌≡◌ {A = Edit} (record { place = p; version = next_version node; content = content }) (next_edit world i p content)
+  edit_is world h = λ n. record { place = p; version = record { counter = high_of (h.stores i node at n) + 1; writer = sym (h.writers i node at) n }; content = content }
 
   pub wrote : (new : Replicated) (version : Version) (text : Vec ℕ Global) → i < length shell.nodes
       → high_of node.store ≢ 18446744073709551615 → version ≡ next_version node → text.items ≡ ok_line version
-      → new ≡ with_put node (record { path = p; version = next_version node; content = content })
+      → new ≡ with_put node (record { place = p; version = next_version node; content = content })
       → Goes shell (record shell { nodes = set shell.nodes i new }) (λ old outcome after. Writes old outcome after i p content) (Ok text)
   wrote new version text lt below v e put_in world h =
       let same = edit_is world h in (
@@ -185,7 +186,7 @@ module _ (shell : Keeps) (i : ℕ) (node : Replicated) (p : PathParts) (content 
 -- ---- removing
 
 -- the content that is visible is removed
-removes : (shell after : Keeps) (r : Told) (i : ℕ) (node : Replicated) (p : PathParts) → slice_get shell.nodes i ≡ Some node → (visible_at node.store p ≡ None → ⊥)
+removes : (shell after : Keeps) (r : Told) (i : ℕ) (node : Replicated) (p : PlaceParts) → slice_get shell.nodes i ≡ Some node → (visible_at node.store p ≡ None → ⊥)
     → Goes shell after (λ old outcome new. Writes old outcome new i p Gone) r
     → Goes shell after (λ old outcome new. MatchOption (visible_at (held old i) p) (Refuses old Nothing outcome new) (λ shown. Writes old outcome new i p Gone)) r
 removes shell after r i node p at visible = weaker shell after r _ _ (λ old h outcome new w. by old outcome new w (visible_at (held old i) p) (ap (λ (s : EntryMap). visible_at s p) (h.stores i node at)))
@@ -194,14 +195,14 @@ removes shell after r i node p at visible = weaker shell after r _ _ (λ old h o
     by old outcome new w None e = absurd (visible e)
     by old outcome new w (Some c) e = w
 
-nothing_removed : (shell : Keeps) (i : ℕ) (node : Replicated) (p : PathParts) (fault : Fault) → slice_get shell.nodes i ≡ Some node → visible_at node.store p ≡ None → fault ≡ Refused Nothing
+nothing_removed : (shell : Keeps) (i : ℕ) (node : Replicated) (p : PlaceParts) (fault : Fault) → slice_get shell.nodes i ≡ Some node → visible_at node.store p ≡ None → fault ≡ Refused Nothing
     → Goes shell shell (λ old outcome new. MatchOption (visible_at (held old i) p) (Refuses old Nothing outcome new) (λ shown. Writes old outcome new i p Gone)) (Err fault)
 nothing_removed shell i node p fault at none e = refused shell Nothing fault _ e (λ old h.
     subst (λ (o : Option Content). MatchOption o (Refuses old Nothing (Err Nothing) old) (λ shown. Writes old (Err Nothing) old i p Gone)) (sym none ∙ ap (λ (s : EntryMap). visible_at s p) (h.stores i node at)) (refuses old Nothing))
 
-module _ (shell : Keeps) (i : ℕ) (node : Replicated) (p : PathParts) (at : slice_get shell.nodes i ≡ Some node) where
+module _ (shell : Keeps) (i : ℕ) (node : Replicated) (p : PlaceParts) (at : slice_get shell.nodes i ≡ Some node) where
   pub removed : (new : Replicated) (version : Version) (text : Vec ℕ Global) → i < length shell.nodes → (visible_at node.store p ≡ None → ⊥) → (IsSome (visible_at node.store p) → high_of node.store ≢ 18446744073709551615)
-      → version ≡ next_version node → text.items ≡ ok_line version → new ≡ with_put node (record { path = p; version = next_version node; content = Gone })
+      → version ≡ next_version node → text.items ≡ ok_line version → new ≡ with_put node (record { place = p; version = next_version node; content = Gone })
       → Goes shell (record shell { nodes = set shell.nodes i new }) (λ old outcome after. MatchOption (visible_at (held old i) p) (Refuses old Nothing outcome after) (λ shown. Writes old outcome after i p Gone)) (Ok text)
   removed new version text lt visible below v e put_in =
       removes shell (record shell { nodes = set shell.nodes i new }) (Ok text) i node p at visible (wrote shell i node p Gone at new version text lt (below (some_of (visible_at node.store p) visible)) v e put_in)

@@ -4,7 +4,7 @@ use Rattle.std.specs.Prelude.{slice_get}
 use Rattle.std.specs.Str.{bytes_eq}
 use Rattle.std.proofs.lemmas.Bool.{true≢false, eqb-true, eq-eqb}
 use Rattle.std.proofs.lemmas.Bool.Decides.{nat_tests}
-use Rattle.load_path.specs.Paths.{PathParts}
+use Rattle.load_places.specs.Places.{PlaceParts}
 use Rattle.edit_sums.specs.declared.contents.Content.{Content}
 use Rattle.edit_sums.specs.Sums.{EntryMap, sum_of, with_edit, join}
 use Rattle.replica_store.specs.Replicas.{Replicated}
@@ -165,7 +165,7 @@ module _ (shell : Keeps) (world : ScriptWorld) (h : Holds shell world) where
   }
 
   -- a node puts its next edit
-  pub holds_put : (i : ℕ) (path : PathParts) (content : Content) (node new : Replicated) → i < length shell.nodes → slice_get shell.nodes i ≡ Some node
+  pub holds_put : (i : ℕ) (path : PlaceParts) (content : Content) (node new : Replicated) → i < length shell.nodes → slice_get shell.nodes i ≡ Some node
       → new.writer ≡ node.writer → new.store ≡ with_edit node.store (next_edit world i path content)
       → Holds (record shell { nodes = set shell.nodes i new }) (happened world (Put i (next_edit world i path content)))
   holds_put i path content node new lt at writer store =
@@ -184,7 +184,7 @@ module _ (shell : Keeps) (world : ScriptWorld) (h : Holds shell world) where
       (store ∙ (λ n. join (h.stores i node at n) (h.stores j other from n)) ∙ sym (held_merged world h.lawful j i (below_count j lt_from) (below_count i lt_to)))
       (λ k ne. held_merged_elsewhere world j i k ne)
     where
-      answered_stays : (from to : ℕ) (paths : Option (List PathParts)) (p : ℕ) (piece : worlds.Piece) → slice_get (state world).pieces p ≡ Some piece → slice_get (state (answered world from to paths)).pieces p ≡ Some piece
+      answered_stays : (from to : ℕ) (paths : Option (List PlaceParts)) (p : ℕ) (piece : worlds.Piece) → slice_get (state world).pieces p ≡ Some piece → slice_get (state (answered world from to paths)).pieces p ≡ Some piece
       answered_stays from to paths p piece there = piece_stays (state (happened world (Ask to))) (Cut from (next_ask world) paths) p piece (piece_stays (state world) (Ask to) p piece there)
 
   -- a node is given a piece
@@ -197,7 +197,7 @@ module _ (shell : Keeps) (world : ScriptWorld) (h : Holds shell world) where
       (λ k ne. held_given_elsewhere world p i k ne)
 
   -- what a node cuts for another is kept under a name
-  pub holds_part : (name : List ℕ) (j i : ℕ) (paths : Option (List PathParts)) (now : Keeps) (piece : EntryMap) → j < length shell.nodes → i < length shell.nodes
+  pub holds_part : (name : List ℕ) (j i : ℕ) (paths : Option (List PlaceParts)) (now : Keeps) (piece : EntryMap) → j < length shell.nodes → i < length shell.nodes
       → piece ≡ cut (held world j) (digest_of (held world i)) paths
       → now.nodes ≡ shell.nodes → now.number_of ≡ shell.number_of → now.is_taken ≡ shell.is_taken
       → ((other : List ℕ) → now.piece_of other ≡ cond (bytes_eq name other) (Some piece) (shell.piece_of other))

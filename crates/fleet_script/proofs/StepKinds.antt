@@ -5,13 +5,14 @@ use Rattle.std.specs.Prelude.{MatchOption, MatchResult}
 use Rattle.std.specs.Bool.{MatchBool}
 use Rattle.std.specs.FinMap as finmap
 use Rattle.std.proofs.lemmas.Bool.{true≢false}
-use Rattle.load_path.specs.Paths.{PathParts, path_of}
+use Rattle.load_path.specs.Paths.{path_of}
+use Rattle.load_places.specs.Places.{PlaceParts}
 use Rattle.load_path.specs.declared.paths.PathFault.{PathFault}
 use Rattle.load_path.specs.declared.paths.PathFault.TheVariants as path
 use Rattle.edit_sums.specs.declared.contents.Content.{Content}
 use Rattle.edit_sums.specs.declared.contents.Content.TheVariants as content
 use Rattle.edit_sums.specs.Limits.{is_file, is_target}
-use Rattle.edit_sums.specs.Sums.{EntryMap, changed_paths, high_of, visible_at}
+use Rattle.edit_sums.specs.Sums.{EntryMap, changed_places, high_of, visible_at}
 use Rattle.world_law.specs.declared.events.Event.TheVariants as event
 use Rattle.world_law.specs.Cuts.{cut, digest_of}
 use Rattle.script_words.specs.TextLaws.{spells_one}
@@ -140,10 +141,10 @@ module _ (old : ScriptWorld) where
   refuses_path path.Component = refuses Component refl
   refuses_path path.Memory = never
 
-  at_path : (text : List ℕ) (P : PathParts → Outcome → ScriptWorld → Type 0) → ((at : PathParts) → IsStep old (P at)) → IsStep old (λ outcome new. AtPath old outcome new text (λ at. P at outcome new))
+  at_path : (text : List ℕ) (P : PlaceParts → Outcome → ScriptWorld → Type 0) → ((at : PlaceParts) → IsStep old (P at)) → IsStep old (λ outcome new. AtPath old outcome new text (λ at. P at outcome new))
   at_path text P f = with_result (path_of text) P (λ fault outcome new. RefusesPath old outcome new fault) f refuses_path
 
-  at_paths : (texts : List (List ℕ)) (P : List PathParts → Outcome → ScriptWorld → Type 0) → ((paths : List PathParts) → IsStep old (P paths)) → IsStep old (λ outcome new. AtPaths old outcome new texts (λ paths. P paths outcome new))
+  at_paths : (texts : List (List ℕ)) (P : List PlaceParts → Outcome → ScriptWorld → Type 0) → ((paths : List PlaceParts) → IsStep old (P paths)) → IsStep old (λ outcome new. AtPaths old outcome new texts (λ paths. P paths outcome new))
   at_paths texts P f = with_result (paths_of texts) P (λ fault outcome new. RefusesPath old outcome new fault) f refuses_path
 
   with_text : (text : List ℕ) (P : List ℕ → Outcome → ScriptWorld → Type 0) → ((bytes : List ℕ) → IsStep old (P bytes)) → IsStep old (λ outcome new. WithText old outcome new text (λ bytes. P bytes outcome new))
@@ -166,7 +167,7 @@ module _ (old : ScriptWorld) where
       unspent free outcome new (inl p) = (f p.0).unspent free outcome new p.2
       unspent free outcome new (inr p) = ap is_spent p.1.outcome_is
 
-  writes : (k : ℕ) (at : PathParts) (c : Content) → k < length old.nodes → IsStep old (λ outcome new. Writes old outcome new k at c)
+  writes : (k : ℕ) (at : PlaceParts) (c : Content) → k < length old.nodes → IsStep old (λ outcome new. Writes old outcome new k at c)
   writes k at c lt =
       let edit = next_edit old k at c in
       with_bool (high_of (held old k) == 18446744073709551615) (λ outcome new. Refuses old VersionsSpent outcome new) (λ outcome new. Gives (ok_line edit.version) (happened old (event.Put k edit)) outcome new)
@@ -249,24 +250,24 @@ module _ (old : ScriptWorld) where
       (λ at. with_option (visible_at (held old k) at) (λ outcome new. Refuses old Nothing outcome new) (λ shown outcome new. Writes old outcome new k at content.Gone)
       (λ none. refuses Nothing refl) (λ shown is. writes k at content.Gone lt)))
   does (Merge from to) =
-      let G : ℕ → ℕ → Outcome → ScriptWorld → Type 0 = λ j k outcome new. Gives (changed_line (changed_paths (held old k) (held (merged old j k) k))) (merged old j k) outcome new in
+      let G : ℕ → ℕ → Outcome → ScriptWorld → Type 0 = λ j k outcome new. Gives (changed_line (changed_places (held old k) (held (merged old j k) k))) (merged old j k) outcome new in
       at_node from (λ j outcome new. AtNode old outcome new to (λ k. G j k outcome new))
-      (λ j lt_from. at_node to (G j) (λ k lt_to. gives (changed_line (changed_paths (held old k) (held (merged old j k) k))) (merged old j k) (puts_nothing (merged old j k) (λ l. lawful_merged old j k l lt_from lt_to) refl)))
+      (λ j lt_from. at_node to (G j) (λ k lt_to. gives (changed_line (changed_places (held old k) (held (merged old j k) k))) (merged old j k) (puts_nothing (merged old j k) (λ l. lawful_merged old j k l lt_from lt_to) refl)))
   does (Part piece from to texts) =
-      let words : ℕ → ℕ → List PathParts → List ℕ = λ j k paths. entries_line (length (finmap.entries (cut (held old j) (digest_of (held old k)) (if_any paths)))) in
-      let G : ℕ → ℕ → List PathParts → Outcome → ScriptWorld → Type 0 = λ j k paths outcome new. Gives (words j k paths) (parted old piece j k (if_any paths)) outcome new in
+      let words : ℕ → ℕ → List PlaceParts → List ℕ = λ j k paths. entries_line (length (finmap.entries (cut (held old j) (digest_of (held old k)) (if_any paths)))) in
+      let G : ℕ → ℕ → List PlaceParts → Outcome → ScriptWorld → Type 0 = λ j k paths outcome new. Gives (words j k paths) (parted old piece j k (if_any paths)) outcome new in
       at_node from (λ j outcome new. AtNode old outcome new to (λ k. AtPaths old outcome new texts (λ paths. G j k paths outcome new)))
       (λ j lt_from. at_node to (λ k outcome new. AtPaths old outcome new texts (λ paths. G j k paths outcome new))
       (λ k lt_to. at_paths texts (G j k) (λ paths. gives (words j k paths) (parted old piece j k (if_any paths)) (puts_nothing (parted old piece j k (if_any paths)) (λ l. lawful_parted piece j k paths l lt_from lt_to) refl))))
     where
-      lawful_parted : (name : List ℕ) (j k : ℕ) (paths : List PathParts) → IsLawful old → j < length old.nodes → k < length old.nodes → IsLawful (parted old name j k (if_any paths))
+      lawful_parted : (name : List ℕ) (j k : ℕ) (paths : List PlaceParts) → IsLawful old → j < length old.nodes → k < length old.nodes → IsLawful (parted old name j k (if_any paths))
       lawful_parted name j k paths lawful lt_from lt_to =
           let l = lawful_answered old j k (if_any paths) lawful lt_from lt_to in
           record { within = l.within; apart = l.apart; own = λ e a. (let own = l.own e a in record { node = own.node; within = own.within; writer = own.writer; counter = own.counter }); honest = l.honest }
   does (Send piece node) =
-      let G : ℕ → ℕ → Outcome → ScriptWorld → Type 0 = λ p k outcome new. Gives (changed_line (changed_paths (held old k) (held (happened old (event.Give p k)) k))) (happened old (event.Give p k)) outcome new in
+      let G : ℕ → ℕ → Outcome → ScriptWorld → Type 0 = λ p k outcome new. Gives (changed_line (changed_places (held old k) (held (happened old (event.Give p k)) k))) (happened old (event.Give p k)) outcome new in
       at_piece piece (λ p outcome new. AtNode old outcome new node (λ k. G p k outcome new))
-      (λ p. at_node node (G p) (λ k lt. gives (changed_line (changed_paths (held old k) (held (happened old (event.Give p k)) k))) (happened old (event.Give p k)) (puts_nothing (happened old (event.Give p k)) (λ l. lawful_given old p k l lt) refl)))
+      (λ p. at_node node (G p) (λ k lt. gives (changed_line (changed_places (held old k) (held (happened old (event.Give p k)) k))) (happened old (event.Give p k)) (puts_nothing (happened old (event.Give p k)) (λ l. lawful_given old p k l lt) refl)))
   does Sweep =
       let others = numbers_from 1 (length old.nodes - 1) in
       gives (codes "ok\n") (swept old) (puts_nothing (swept old) (lawful_swept old) (puts_merged_all old (map (λ k. (k, 0)) others ++ map (λ k. (0, k)) others)))

@@ -2,13 +2,14 @@
 -- Source: this project's own.
 use Rattle.std.specs.Prelude.{◌≡◌, ◌≢◌, ◌⊎◌, ℕ, ◌==◌, codes, List, [], ◌∷◌, length, Option, Some, None, Ok, Err, MatchOption, MatchResult, MatchBool}
 use Rattle.std.specs.FinMap as finmap
-use Rattle.load_path.specs.Paths.{PathParts, path_of}
+use Rattle.load_path.specs.Paths.{path_of}
+use Rattle.load_places.specs.Places.{PlaceParts}
 use Rattle.load_path.specs.declared.paths.PathFault.{PathFault}
 use Rattle.load_path.specs.declared.paths.PathFault.TheVariants as path
 use Rattle.edit_sums.specs.declared.contents.Content.{Content}
 use Rattle.edit_sums.specs.declared.contents.Content.TheVariants.{Gone, Link, File}
 use Rattle.edit_sums.specs.Limits.{is_file, is_target}
-use Rattle.edit_sums.specs.Sums.{EntryMap, high_of, visible_at, changed_paths}
+use Rattle.edit_sums.specs.Sums.{EntryMap, high_of, visible_at, changed_places}
 use Rattle.world_law.specs.declared.events.Event.TheVariants as event
 use Rattle.world_law.specs.Cuts.{cut, digest_of}
 use Rattle.script_words.specs.Text.{Spells, IsBadText}
@@ -45,7 +46,7 @@ abbrev pub TellsPaths : EntryMap → Outcome → Type 0
 TellsPaths s outcome = outcome ≡ Ok (files_text s)
 
 -- these paths, or all where none are given
-abbrev pub if_any : List PathParts → Option (List PathParts)
+abbrev pub if_any : List PlaceParts → Option (List PlaceParts)
 if_any [] = None
 if_any (path ∷ paths) = Some (path ∷ paths)
 
@@ -66,11 +67,11 @@ module _ (old : ScriptWorld) (outcome : Outcome) (new : ScriptWorld) where
   AtPiece name P = MatchOption (piece_named old.pieces name) (Refuses old UnknownPiece outcome new) P
 
   -- what holds of the path that a text writes, if it writes one
-  abbrev pub AtPath : List ℕ → (PathParts → Type 0) → Type 0
+  abbrev pub AtPath : List ℕ → (PlaceParts → Type 0) → Type 0
   AtPath text P = MatchResult (path_of text) P RefusesPath
 
   -- what holds of the paths that some texts write, if each writes one
-  abbrev pub AtPaths : List (List ℕ) → (List PathParts → Type 0) → Type 0
+  abbrev pub AtPaths : List (List ℕ) → (List PlaceParts → Type 0) → Type 0
   AtPaths texts P = MatchResult (paths_of texts) P RefusesPath
 
   -- what holds of the bytes that a text spells, if it spells some
@@ -86,7 +87,7 @@ module _ (old : ScriptWorld) (outcome : Outcome) (new : ScriptWorld) where
   WithTarget target P = MatchBool (is_target target) (P (Link target)) (Refuses old BadLink outcome new)
 
   -- the node puts its next edit, unless the greatest counter is held already
-  abbrev pub Writes : ℕ → PathParts → Content → Type 0
+  abbrev pub Writes : ℕ → PlaceParts → Content → Type 0
   Writes k path content =
       let edit = next_edit old k path content in
       MatchBool (high_of (held old k) == 18446744073709551615) (Refuses old VersionsSpent outcome new) (Gives (ok_line edit.version) (happened old (event.Put k edit)) outcome new)
@@ -107,7 +108,7 @@ module _ (old : ScriptWorld) (outcome : Outcome) (new : ScriptWorld) where
   Links node path target = AtNode node (λ k. AtPath path (λ at. WithTarget target (Writes k at)))
 
   -- what is visible at a path of the node of a number is removed
-  abbrev pub RemovesAt : ℕ → PathParts → Type 0
+  abbrev pub RemovesAt : ℕ → PlaceParts → Type 0
   RemovesAt k at = MatchOption (visible_at (held old k) at) (Refuses old Nothing outcome new) (λ shown. Writes k at Gone)
 
   abbrev pub Removes : List ℕ → List ℕ → Type 0
@@ -115,13 +116,13 @@ module _ (old : ScriptWorld) (outcome : Outcome) (new : ScriptWorld) where
 
   -- the node of one number is given all that it lacks of that of another, and the paths that this changes are counted
   abbrev pub MergesInto : ℕ → ℕ → Type 0
-  MergesInto j k = let next = merged old j k in Gives (changed_line (changed_paths (held old k) (held next k))) next outcome new
+  MergesInto j k = let next = merged old j k in Gives (changed_line (changed_places (held old k) (held next k))) next outcome new
 
   abbrev pub Merges : List ℕ → List ℕ → Type 0
   Merges from to = AtNode from (λ j. AtNode to (λ k. MergesInto j k))
 
   -- the node of one number cuts for the ask of that of another, at these paths or at all; what is cut is kept under a name, and its entries are counted
-  abbrev pub PartsAt : List ℕ → ℕ → ℕ → List PathParts → Type 0
+  abbrev pub PartsAt : List ℕ → ℕ → ℕ → List PlaceParts → Type 0
   PartsAt piece j k paths =
       let entries = cut (held old j) (digest_of (held old k)) (if_any paths) in
       Gives (entries_line (length (finmap.entries entries))) (parted old piece j k (if_any paths)) outcome new
@@ -131,7 +132,7 @@ module _ (old : ScriptWorld) (outcome : Outcome) (new : ScriptWorld) where
 
   -- the piece of a number is given to the node of a number, and the paths that this changes are counted
   abbrev pub SendsTo : ℕ → ℕ → Type 0
-  SendsTo p k = let next = happened old (event.Give p k) in Gives (changed_line (changed_paths (held old k) (held next k))) next outcome new
+  SendsTo p k = let next = happened old (event.Give p k) in Gives (changed_line (changed_places (held old k) (held next k))) next outcome new
 
   abbrev pub Sends : List ℕ → List ℕ → Type 0
   Sends piece node = AtPiece piece (λ p. AtNode node (SendsTo p))

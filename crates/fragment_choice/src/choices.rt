@@ -157,7 +157,7 @@ fn entry_says(
             if file.bytes().is_empty() {
                 return Ok(Some(Choice::Masked));
             }
-            Ok(Some(Choice::Fragment(placed.path()?)))
+            Ok(Some(Choice::Fragment(placed.place()?)))
         }
         Content::Link(target) => {
             if target.bytes() == b"/dev/null".as_slice() {

@@ -3,7 +3,7 @@
 use Rattle.std.specs.Prelude.{◌≡◌, ℕ, List, [], ◌∷◌, ◌++◌, refl}
 use Rattle.std.specs.Coded.{Coded, Coded-set, code_by, coded×, coded_list, coded_ℕ, ×_prop, Unit-prop, le_prop}
 use Rattle.std.specs.FinMap as finmap
-use Rattle.load_path.specs.PathLaws.{coded_path}
+use Rattle.load_places.specs.PlaceLaws.{coded_place}
 use Rattle.edit_sums.specs.EntryCodes.{coded_entry}
 use Rattle.edit_sums.specs.declared.entries.Edit.{Edit}
 use Rattle.edit_sums.specs.Sums.{EntryMap, edits_of}
@@ -15,7 +15,7 @@ use Rattle.node_histories.specs.Books.{TurnNow}
 use Rattle.node_histories.specs.Histories.{IsNext, IsLegalAfter, IsLegal, edits_in}
 
 abbrev pub coded_store : Coded EntryMap
-coded_store = finmap.code coded_path coded_entry
+coded_store = finmap.code coded_place coded_entry
 
 abbrev pub coded_history : Coded (List HistoryEvent)
 coded_history = coded_list (event.the_row).coded

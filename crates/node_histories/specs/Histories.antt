@@ -5,7 +5,7 @@ use mathlib.Core.List.{IsPrefix}
 use Rattle.std.specs.FinMap as finmap
 use Rattle.list_laws.specs.Members.{IsAmong}
 use Rattle.edit_sums.specs.declared.entries.Edit.{Edit}
-use Rattle.edit_sums.specs.Sums.{EntryMap, edits_of, sum_of, high_among, changed_paths}
+use Rattle.edit_sums.specs.Sums.{EntryMap, edits_of, sum_of, high_among, changed_places}
 use Rattle.replica_store.specs.Replicas.{Replicated}
 use Rattle.node_histories.specs.declared.events.HistoryEvent.{HistoryEvent}
 use Rattle.node_histories.specs.declared.events.HistoryEvent.TheVariants.{Opening, Edited, Absorbed}
@@ -75,9 +75,9 @@ takes_of seat h = count_by (λ x. is_take_of seat x) h
 abbrev pub EndsWith : List HistoryEvent → List HistoryEvent → HistoryEvent → Type 0
 EndsWith seen h x = (before : List HistoryEvent) × IsPrefix seen before × (h ≡ before ++ x ∷ [])
 
--- the same, and this many paths changed at the event
+-- the same, and this many places changed at the event
 abbrev pub EndsChanging : List HistoryEvent → List HistoryEvent → HistoryEvent → ℕ → Type 0
-EndsChanging seen h x changed = (before : List HistoryEvent) × IsPrefix seen before × (h ≡ before ++ x ∷ []) × (changed ≡ changed_paths (store_of before) (store_of h))
+EndsChanging seen h x changed = (before : List HistoryEvent) × IsPrefix seen before × (h ≡ before ++ x ∷ []) × (changed ≡ changed_places (store_of before) (store_of h))
 
 -- the edit has the writer's number, and a counter above that of each edit before it
 abbrev pub IsAbove : ℕ → List Edit → Edit → Type 0

@@ -12,7 +12,7 @@ use Rattle.edit_sums.specs.GreatestLaws.{get-sum_of}
 use Rattle.edit_sums.specs.SumLaws.{sum_of-append, sum_of-edits_of}
 use Rattle.world_law.specs.declared.events.Event as world_events
 use Rattle.world_law.specs.declared.events.Event.TheVariants.{Put, Ask, Cut, Give}
-use Rattle.world_law.specs.Cuts.{digest_of, is_newer, is_wanted, at_paths, cut}
+use Rattle.world_law.specs.Cuts.{digest_of, is_newer, is_wanted, at_places, cut}
 use Rattle.world_law.specs.CutLaws.{get-digest_of}
 use Rattle.world_law.specs.Worlds.{Node, Asked, Piece, EventWorld, taken, changed_at, asked_by, cut_for, given_to, edits_with, happens, after, blank}
 use Rattle.world_law.specs.WorldLaws.{slice_get_last}
@@ -86,14 +86,14 @@ whole_cut : (s : EntryMap) → cut s (digest_of finmap.empty) None ≡ s
 whole_cut s = ap sum_of (filter_all (is_wanted (digest_of finmap.empty) None) (edits_of s) wanted) ∙ sum_of-edits_of s
   where
     wanted : (e : Edit) → is_wanted (digest_of finmap.empty) None e ≡ true
-    wanted e = ap (is_newer e.version) (get-digest_of finmap.empty e.path ∙ ap (option_map (λ x. x.version)) (get-sum_of [] e.path))
+    wanted e = ap (is_newer e.version) (get-digest_of finmap.empty e.place ∙ ap (option_map (λ x. x.version)) (get-sum_of [] e.place))
 
 -- the ask and the piece by which a store comes behind so many others
 abbrev pub ask_of : ℕ → Asked
 ask_of m = record { node = suc (suc (double m)); versions = digest_of finmap.empty }
 
 abbrev pub piece_of : ℕ → EntryMap → Piece
-piece_of m s = record { entries = cut (sum_of (edits_of s)) (digest_of finmap.empty) None; asker = suc (suc (double m)); had = at_paths None (edits_of s) }
+piece_of m s = record { entries = cut (sum_of (edits_of s)) (digest_of finmap.empty) None; asker = suc (suc (double m)); had = at_places None (edits_of s) }
 
 -- a node that is given such a piece has taken the store
 takes_piece : (es : List Edit) (m : ℕ) (s : EntryMap) → taken (piece_of m s).entries (edits_with (piece_of m s) 0) (node_of es) ≡ node_of (es ++ edits_of s)

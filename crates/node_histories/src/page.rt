@@ -2,7 +2,7 @@
 ghost use Rattle.std.specs.Prelude.{◌≡◌, ◌-◌, ◌<◌, ◌^◌, ◌++◌, ◌∷◌, [], IfOk, IfSome, IfNone};
 ghost use mathlib.Core.List.{IsPrefix};
 ghost use Rattle.std.specs.Arc.{arc_value};
-ghost use Rattle.edit_sums.specs.Sums.{changed_paths};
+ghost use Rattle.edit_sums.specs.Sums.{changed_places};
 ghost use Rattle.replica_store.specs.Replicas.{next_version};
 ghost use Rattle.node_histories.specs.declared.events.HistoryEvent.TheVariants.{Opening, Edited, Absorbed};
 ghost use Rattle.node_histories.specs.Histories.{store_of, counter_of, replica_of, takes_in, opening_of, all_edits, IsLegal, IsNext};
@@ -16,7 +16,7 @@ use delta_pieces::{Piece, take};
 use edit_sums::{Content, Edit};
 use join_law::Version;
 use left_right::Absorb;
-use load_path::Path;
+use load_places::Place;
 use replica_store::Replica;
 use std::alloc::{AllocError, Global};
 use std::sync::Arc;
@@ -138,22 +138,22 @@ impl Page {
     }
 
     // What it has seen, with an edit that is to come next, and what the edit writes.
-    fn turn_to_edit<N: NodeName>(&self, seat: u64, edit: Edit) -> (Turn<N>, Path, Content)
+    fn turn_to_edit<N: NodeName>(&self, seat: u64, edit: Edit) -> (Turn<N>, Place, Content)
         requires book { self.now.seen.book ≡ N.book }
         requires opening { opening_of self.now.seen.log ≡ N.opening }
         ensures seen { result.0.seen ≡ self.now.seen.log }
         ensures ask { result.0.ask ≡ Edited seat edit }
-        ensures path { result.1 ≡ edit.path }
+        ensures place { result.1 ≡ edit.place }
         ensures content { result.2 ≡ edit.content }
     {
         let asked = AskedEdit { seat, edit };
         let turn = self.front::<N>().ask(&asked);
         let Edit {
-            path,
+            place,
             version: _,
             content,
         } = asked.edit;
-        (turn, path, content)
+        (turn, place, content)
     }
 
     // What it has seen, with a piece that is to come next, and the piece.
@@ -175,7 +175,7 @@ impl Page {
         &self,
         head: &Head,
         seat: u64,
-        path: Path,
+        place: Place,
         content: Content,
     ) -> Result<(Version, Page), AllocError>
         requires book { self.now.seen.book ≡ N.book }
@@ -185,7 +185,7 @@ impl Page {
         requires counter { counter_of self.now.seen.log < 2 ^ 64 - 1 }
         ensures version { IfOk result (λ r. r.0 ≡ next_version (replica_of self.now.seen.log)) }
         ensures log { IfOk result (λ r. r.1.seen.log ≡ self.now.seen.log
-            ++ Edited seat (record { path = path; version = r.0; content = content }) ∷ []) }
+            ++ Edited seat (record { place = place; version = r.0; content = content }) ∷ []) }
         ensures book { IfOk result (λ r. r.1.seen.book ≡ N.book) }
         ensures opening { IfOk result (λ r. opening_of r.1.seen.log ≡ N.opening) }
     {
@@ -195,19 +195,19 @@ impl Page {
             writer: replica.writer(),
         };
         let edit = Edit {
-            path,
+            place,
             version,
             content,
         };
-        let (turn, path, content) = self.turn_to_edit::<N>(seat, edit);
-        let Ok(version) = replica.put(path, content) else {
+        let (turn, place, content) = self.turn_to_edit::<N>(seat, edit);
+        let Ok(version) = replica.put(place, content) else {
             return Err(AllocError);
         };
         let page = turned_page(turn, head, replica)?;
         Ok((version, page))
     }
 
-    /// The page with a piece more, which then stands in the history too, and how many paths changed. One copy of the
+    /// The page with a piece more, which then stands in the history too, and how many places changed. One copy of the
     /// replica, which copies no contents. It fails for want of memory alone; the history is then as it was.
     pub fn with_piece<N: NodeName>(
         &self,
@@ -219,7 +219,7 @@ impl Page {
         requires opening { opening_of self.now.seen.log ≡ N.opening }
         requires head { head.now ≡ head_of N.book }
         requires room { takes_in self.now.seen.log < 2 ^ 64 - 1 }
-        ensures changed { IfOk result (λ r. r.0 ≡ changed_paths (store_of self.now.seen.log) (store_of r.1.seen.log)) }
+        ensures changed { IfOk result (λ r. r.0 ≡ changed_places (store_of self.now.seen.log) (store_of r.1.seen.log)) }
         ensures log { IfOk result (λ r. r.1.seen.log ≡ self.now.seen.log ++ Absorbed seat piece ∷ []) }
         ensures book { IfOk result (λ r. r.1.seen.book ≡ N.book) }
         ensures opening { IfOk result (λ r. opening_of r.1.seen.log ≡ N.opening) }

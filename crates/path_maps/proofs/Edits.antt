@@ -42,42 +42,42 @@ nothing_kept = record {
 -- ---- the maps of one edit
 
 abbrev pub one_edit : Edit → RankMap
-one_edit e = (e.path.rank, (e.path.folder, (e.path.name, At (entry_of e)) ∷ []) ∷ []) ∷ []
+one_edit e = (e.place.rank, (e.place.folder, (e.place.name, At (entry_of e)) ∷ []) ∷ []) ∷ []
 
 pub one_ranks : (e : Edit) → AreRanks (one_edit e)
 one_ranks e =
-    let names : AreNames ((e.path.name, At (entry_of e)) ∷ []) = record { sorted = refl; held = (record { not_least = not_least content_cmp (entry_of e); lawful = tt }, tt) } in
-    let names_left = entry_not_least bytes_cmp (IsUpTo content_cmp) nat_list_cmp_total e.path.name (At (entry_of e)) (not_least content_cmp (entry_of e)) in
-    let folders : AreFolders ((e.path.folder, (e.path.name, At (entry_of e)) ∷ []) ∷ []) = record { sorted = refl; held = (record { not_least = names_left; lawful = names }, tt) } in
-    let folders_left = entry_not_least bytes_cmp NamesBelow nat_list_cmp_total e.path.folder ((e.path.name, At (entry_of e)) ∷ []) names_left in
+    let names : AreNames ((e.place.name, At (entry_of e)) ∷ []) = record { sorted = refl; held = (record { not_least = not_least content_cmp (entry_of e); lawful = tt }, tt) } in
+    let names_left = entry_not_least bytes_cmp (IsUpTo content_cmp) nat_list_cmp_total e.place.name (At (entry_of e)) (not_least content_cmp (entry_of e)) in
+    let folders : AreFolders ((e.place.folder, (e.place.name, At (entry_of e)) ∷ []) ∷ []) = record { sorted = refl; held = (record { not_least = names_left; lawful = names }, tt) } in
+    let folders_left = entry_not_least bytes_cmp NamesBelow nat_list_cmp_total e.place.folder ((e.place.name, At (entry_of e)) ∷ []) names_left in
     record { sorted = refl; held = (record { not_least = folders_left; lawful = folders }, tt) }
 
 pub flat-one : (e : Edit) → flat (one_edit e) ≡ sum_of (e ∷ [])
 flat-one e = same_store (flat (one_edit e)) (sum_of (e ∷ []))
-    (λ q. finmap.get-from_sorted path_cmp ((e.path, entry_of e) ∷ []) q tt ∙ sym (get-sum_of (e ∷ []) q))
+    (λ q. finmap.get-from_sorted path_cmp ((e.place, entry_of e) ∷ []) q tt ∙ sym (get-sum_of (e ∷ []) q))
 
 -- what joins the maps of one edit, whose path is told by its parts, has one edit more
-pub joined_edit : (m n : RankMap) (s : EntryMap) (e : Edit) (p : PathParts) → p ≡ e.path → flat m ≡ s → AreRanks m → AreRanks n → IsJoin RanksBelow m (one_edit (record e { path = p })) n → flat n ≡ with_edit s e
+pub joined_edit : (m n : RankMap) (s : EntryMap) (e : Edit) (p : PathParts) → p ≡ e.place → flat m ≡ s → AreRanks m → AreRanks n → IsJoin RanksBelow m (one_edit (record e { place = p })) n → flat n ≡ with_edit s e
 joined_edit m n s e p parts is is_m is_n j =
-    let e' : Edit = record e { path = p } in
+    let e' : Edit = record e { place = p } in
     flat-join m (one_edit e') n is_m (one_ranks e') is_n j ∙ ap (join (flat m)) (flat-one e') ∙ sym (with_edit-join (flat m) e')
-    ∙ ap (λ (t : EntryMap). with_edit t e') is ∙ ap (λ (q : PathParts). with_edit s (record e { path = q })) parts
+    ∙ ap (λ (t : EntryMap). with_edit t e') is ∙ ap (λ (q : PathParts). with_edit s (record e { place = q })) parts
 
-pub counted_edit : (s : EntryMap) (len high len' : ℕ) (e : Edit) → IsPath e.path → IsCounted s len high → len' ≡ cond (finmap.contains_key s e.path) (finmap.len s) (finmap.len s + 1) → IsCounted (with_edit s e) len' (max high e.version.counter)
+pub counted_edit : (s : EntryMap) (len high len' : ℕ) (e : Edit) → IsPath e.place → IsCounted s len high → len' ≡ cond (finmap.contains_key s e.place) (finmap.len s) (finmap.len s + 1) → IsCounted (with_edit s e) len' (max high e.version.counter)
 counted_edit s len high len' e lawful c is = record {
-  paths = λ q h. path q (larger (Some (entry_of e)) (finmap.get s q)) (eq_by_cmp path_cmp q e.path) refl (subst (λ (x : Option Entry). IsSome x) (get-with_edit s e q) h);
-  counted = is ∙ sym (finmap.len-insert path_cmp_total s e.path _);
+  paths = λ q h. path q (larger (Some (entry_of e)) (finmap.get s q)) (eq_by_cmp path_cmp q e.place) refl (subst (λ (x : Option Entry). IsSome x) (get-with_edit s e q) h);
+  counted = is ∙ sym (finmap.len-insert path_cmp_total s e.place _);
   greatest = (λ i. max (c.greatest i) (one i)) ∙ sym (high_of-join s (sum_of (e ∷ []))) ∙ ap high_of (sym (with_edit-join s e));
 }
   where
     one : e.version.counter ≡ high_of (sum_of (e ∷ []))
     one = let m : max e.version.counter 0 ≡ e.version.counter = omega arith in sym (high_of-sum_of (e ∷ []) ∙ m)
 
-    path : (q : PathParts) (x : Option Entry) (b : Bool) → eq_by_cmp path_cmp q e.path ≡ b → IsSome (cond b x (finmap.get s q)) → IsPath q
-    path q x true t h = subst IsPath (sym (tied q e.path t)) lawful
+    path : (q : PathParts) (x : Option Entry) (b : Bool) → eq_by_cmp path_cmp q e.place ≡ b → IsSome (cond b x (finmap.get s q)) → IsPath q
+    path q x true t h = subst IsPath (sym (tied q e.place t)) lawful
     path q x false t h = c.paths q h
 
-pub kept_edit : (m n : RankMap) (s : EntryMap) (len high len' : ℕ) (e : Edit) (p : PathParts) → p ≡ e.path → IsPath e.path → flat m ≡ s → IsKept m len high → AreRanks n → IsJoin RanksBelow m (one_edit (record e { path = p })) n → len' ≡ cond (finmap.contains_key s e.path) (finmap.len s) (finmap.len s + 1) → len' ≤ 2 ^ 64 - 1 → IsKept n len' (max high e.version.counter)
+pub kept_edit : (m n : RankMap) (s : EntryMap) (len high len' : ℕ) (e : Edit) (p : PathParts) → p ≡ e.place → IsPath e.place → flat m ≡ s → IsKept m len high → AreRanks n → IsJoin RanksBelow m (one_edit (record e { place = p })) n → len' ≡ cond (finmap.contains_key s e.place) (finmap.len s) (finmap.len s + 1) → len' ≤ 2 ^ 64 - 1 → IsKept n len' (max high e.version.counter)
 kept_edit m n s len high len' e p parts lawful is k is_n j counted fits = record {
   ranks = is_n;
   counted =

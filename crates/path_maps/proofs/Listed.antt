@@ -7,7 +7,7 @@ use Rattle.list_laws.specs.Truths.{to_T}
 use Rattle.load_path.specs.Paths.{PathParts, IsPath, path_cmp}
 use Rattle.edit_sums.specs.Entries.{Entry}
 use Rattle.edit_sums.specs.Sums.{EntryMap}
-use Rattle.edit_sums.specs.GreatestLaws.{same_path}
+use Rattle.edit_sums.specs.GreatestLaws.{same_place}
 use Rattle.path_maps.specs.Spread.{AllKeys}
 use Rattle.path_maps.specs.PathMaps.{RankMap, AreRanks, flat, listed}
 use Rattle.path_maps.specs.PathMapLaws.{listed_sorted, entries-flat}
@@ -19,7 +19,7 @@ IsKeyOf q (e ∷ es) = (q ≡ e.0) ⊎ IsKeyOf q es
 
 found_by : (q : PathParts) (e : PathParts × Entry) (es : List (PathParts × Entry)) (b : Bool) → eq_by_cmp path_cmp q e.0 ≡ b → (q ≡ e.0) ⊎ IsSome (find path_cmp q es) → IsSome (cond b (Some e.1) (find path_cmp q es))
 found_by q e es true t h = refl
-found_by q e es false t (inl is) = let wrong = sym (ap (λ (p : PathParts). eq_by_cmp path_cmp q p) (sym is) ∙ same_path q) ∙ t in cc (wrong)
+found_by q e es false t (inl is) = let wrong = sym (ap (λ (p : PathParts). eq_by_cmp path_cmp q p) (sym is) ∙ same_place q) ∙ t in cc (wrong)
 found_by q e es false t (inr is) = is
 
 found_in : (q : PathParts) (es : List (PathParts × Entry)) → IsKeyOf q es → IsSome (find path_cmp q es)

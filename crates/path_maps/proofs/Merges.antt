@@ -6,7 +6,7 @@ use Rattle.join_law.specs.Order.{IsJoin, IsBetween, IsPartialJoin}
 use Rattle.load_path.specs.Paths.{PathParts, IsPath}
 use Rattle.edit_sums.specs.Entries.{Entry, larger}
 use Rattle.edit_sums.specs.EntryLaws.{larger_cases}
-use Rattle.edit_sums.specs.Sums.{EntryMap, join, changed_paths, greatest_counter, IsStoreBelow}
+use Rattle.edit_sums.specs.Sums.{EntryMap, join, changed_places, greatest_counter, IsStoreBelow}
 use Rattle.edit_sums.specs.SumLaws.{store_below_trans, store_below_antisym, join-left, join-right, join-least}
 use Rattle.edit_sums.specs.GreatestLaws.{get-join}
 use Rattle.edit_sums.specs.CounterLaws.{high_of-join}
@@ -69,8 +69,8 @@ module _ (m o : RankMap) (s t : EntryMap) (a b g h : ℕ) (is : flat m ≡ s) (i
         fits = fits;
       }
 
-      pub merged_changes : (changed : ℕ) → changed ≡ rises s (finmap.entries t) → changed ≡ changed_paths s (flat n)
-      merged_changes changed e = e ∙ sym (changed-join s t) ∙ ap (changed_paths s) (sym merged)
+      pub merged_changes : (changed : ℕ) → changed ≡ rises s (finmap.entries t) → changed ≡ changed_places s (flat n)
+      merged_changes changed e = e ∙ sym (changed-join s t) ∙ ap (changed_places s) (sym merged)
 
     module _ (v : IsBetween RanksBelow m o n) where
       pub part_kept : IsStoreBelow s (flat n)

@@ -15,9 +15,9 @@ use Rattle.load_path.specs.Paths.{PathParts, path_cmp}
 use Rattle.load_path.specs.PathLaws.{path_cmp_total, path_cmp-IsAntisymmetric}
 use Rattle.edit_sums.specs.Entries.{Entry, entry_cmp, larger}
 use Rattle.edit_sums.specs.EntryLaws.{entry_cmp_total, larger-None}
-use Rattle.edit_sums.specs.Sums.{EntryMap, is_other, changed_paths, edit_of, with_edit, sum_of, join}
+use Rattle.edit_sums.specs.Sums.{EntryMap, is_other, changed_places, edit_of, with_edit, sum_of, join}
 use Rattle.edit_sums.specs.SumLaws.{same_store, sum_of-edits_of, with_edit-of_join, join-nothing}
-use Rattle.edit_sums.specs.GreatestLaws.{get-join, get-with_edit, same_path, tied}
+use Rattle.edit_sums.specs.GreatestLaws.{get-join, get-with_edit, same_place, tied}
 use Rattle.path_maps.specs.SpreadLaws.{find_below}
 use Rattle.path_maps.specs.Beside.{Compared}
 use Rattle.path_maps.specs.Changes.{is_rise, rises, additions}
@@ -94,12 +94,12 @@ module _ (s : EntryMap) where
     more : joined (e ∷ es) ≡ with_edit (joined es) (edit_of e)
     more = sym (with_edit-of_join s (sum_of (map edit_of es)) (edit_of e))
 
-    pub more_changed : changed_paths s (joined (e ∷ es)) ≡ cond (is_rise (finmap.get s e.0) e.1) 1 0 + changed_paths s (joined es)
+    pub more_changed : changed_places s (joined (e ∷ es)) ≡ cond (is_rise (finmap.get s e.0) e.1) 1 0 + changed_places s (joined es)
     more_changed =
-        ap (changed_paths s) more
+        ap (changed_places s) more
         ∙ ap (λ (x : List (PathParts × Entry)). others (finmap.get s) e.0 e.1 x) (finmap.entries-insert path_cmp_total (joined es) e.0 _)
         ∙ put_changes (finmap.get s) e.0 _ (finmap.entries (joined es)) (sym untouched ∙ found_there)
-        ∙ ap (λ b. cond b 1 0 + changed_paths s (joined es)) (ap (λ y. is_other (finmap.get s e.0) (unwrap_or (larger (Some e.1) y) e.1)) untouched ∙ written_other (finmap.get s e.0) e.1)
+        ∙ ap (λ b. cond b 1 0 + changed_places s (joined es)) (ap (λ y. is_other (finmap.get s e.0) (unwrap_or (larger (Some e.1) y) e.1)) untouched ∙ written_other (finmap.get s e.0) e.1)
       where
         found_there : finmap.get (joined es) e.0 ≡ find path_cmp e.0 (finmap.entries (joined es))
         found_there = found_entry (joined es) e.0
@@ -127,7 +127,7 @@ own_below k (e ∷ es) b p (inr h) = own_below k es (and_parts _ _ b).1 p h
 
 find_own : (es : List (PathParts × Entry)) → IsTrue (is_sorted path_cmp es) → (p : PathParts × Entry) → IsOneOf p es → find path_cmp p.0 es ≡ Some p.1
 find_own [] s p h = absurd h
-find_own (e ∷ es) s p (inl h) = ap (λ (r : PathParts × Entry). cond (eq_by_cmp path_cmp r.0 e.0) (Some e.1) (find path_cmp r.0 es)) (sym h) ∙ ap (λ b. cond b (Some e.1) (find path_cmp e.0 es)) (same_path e.0) ∙ ap (λ (r : PathParts × Entry). Some r.1) h
+find_own (e ∷ es) s p (inl h) = ap (λ (r : PathParts × Entry). cond (eq_by_cmp path_cmp r.0 e.0) (Some e.1) (find path_cmp r.0 es)) (sym h) ∙ ap (λ b. cond b (Some e.1) (find path_cmp e.0 es)) (same_place e.0) ∙ ap (λ (r : PathParts × Entry). Some r.1) h
 find_own (e ∷ es) s p (inr h) = ap (λ b. cond b (Some e.1) (find path_cmp p.0 es)) (own_below e.0 es (and_parts _ _ s).0 p h) ∙ find_own es (and_parts (below_all path_cmp e.0 es) _ s).1 p h
 
 none_other : (first : PathParts → Option Entry) (es : List (PathParts × Entry)) → ((p : PathParts × Entry) → IsOneOf p es → first p.0 ≡ Some p.1) → count_by (λ (p : PathParts × Entry). is_other (first p.0) p.1) es ≡ 0
@@ -136,12 +136,12 @@ none_other first (e ∷ es) h =
     count_cons _ e es ∙ ap (λ b. cond b 1 0 + count_by (λ (p : PathParts × Entry). is_other (first p.0) p.1) es) (ap (λ y. is_other y e.1) (h e (inl refl)) ∙ itself_no_other e.1)
     ∙ nothing_more _ ∙ none_other first es (λ p a. h p (inr a))
 
-pub nothing_changed : (s : EntryMap) → changed_paths s s ≡ 0
+pub nothing_changed : (s : EntryMap) → changed_places s s ≡ 0
 nothing_changed s = none_other (finmap.get s) (finmap.entries s) (λ p is. found_entry s p.0 ∙ find_own (finmap.entries s) (from_T _ (finmap.entries_sorted s)) p is)
 
 module _ (s : EntryMap) where
-  changed_by : (es : List (PathParts × Entry)) → IsTrue (is_sorted path_cmp es) → changed_paths s (joined s es) ≡ rises s es
-  changed_by [] t = ap (changed_paths s) (join-nothing s) ∙ nothing_changed s
+  changed_by : (es : List (PathParts × Entry)) → IsTrue (is_sorted path_cmp es) → changed_places s (joined s es) ≡ rises s es
+  changed_by [] t = ap (changed_places s) (join-nothing s) ∙ nothing_changed s
   changed_by (e ∷ es) t =
       more_changed s e es t ∙ ap (λ n. cond (is_rise (finmap.get s e.0) e.1) 1 0 + n) (changed_by es (and_parts (below_all path_cmp e.0 es) _ t).1)
       ∙ sym (count_cons _ e es)
@@ -158,8 +158,8 @@ module _ (s : EntryMap) where
     all_joined = ap (join s) (sum_of-edits_of t)
 
     -- a join changes as many paths as the other has greater entries
-    pub changed-join : changed_paths s (join s t) ≡ rises s (finmap.entries t)
-    changed-join = ap (changed_paths s) (sym all_joined) ∙ changed_by (finmap.entries t) (from_T _ (finmap.entries_sorted t))
+    pub changed-join : changed_places s (join s t) ≡ rises s (finmap.entries t)
+    changed-join = ap (changed_places s) (sym all_joined) ∙ changed_by (finmap.entries t) (from_T _ (finmap.entries_sorted t))
 
     -- and has as many more as there was nothing at
     pub len-join : finmap.len (join s t) ≡ additions s (finmap.entries t) + finmap.len s

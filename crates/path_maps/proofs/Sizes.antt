@@ -13,7 +13,7 @@ use Rattle.load_path.specs.Paths.{PathParts, path_cmp}
 use Rattle.load_path.specs.PathLaws.{path_cmp_total}
 use Rattle.edit_sums.specs.Entries.{Entry, IsBelow}
 use Rattle.edit_sums.specs.Sums.{EntryMap, IsStoreBelow}
-use Rattle.edit_sums.specs.GreatestLaws.{same_path, tied}
+use Rattle.edit_sums.specs.GreatestLaws.{same_place, tied}
 use Rattle.path_maps.specs.SpreadLaws.{find_below}
 use Rattle.path_maps.proofs.Rises.{found_entry}
 
@@ -53,7 +53,7 @@ lengths [] ys s t h = omega arith
 lengths (x ∷ xs) [] s t h = absurd (none_some None refl (h x.0 (first x xs)))
   where
     first : (x : PathParts × Entry) (xs : Pairs) → IsSome (find path_cmp x.0 (x ∷ xs))
-    first x xs = subst (λ b. IsSome (cond b (Some x.1) (find path_cmp x.0 xs))) (sym (same_path x.0)) refl
+    first x xs = subst (λ b. IsSome (cond b (Some x.1) (find path_cmp x.0 xs))) (sym (same_place x.0)) refl
 lengths (x ∷ xs) (y ∷ ys) s t h = by (path_cmp x.0 y.0) refl (lengths xs ys (and_parts (below_all path_cmp x.0 xs) _ s).1 (and_parts (below_all path_cmp y.0 ys) _ t).1) (lengths (x ∷ xs) ys s (and_parts (below_all path_cmp y.0 ys) _ t).1)
   where
     below_x : IsTrue (below_all path_cmp x.0 xs)
@@ -63,7 +63,7 @@ lengths (x ∷ xs) (y ∷ ys) s t h = by (path_cmp x.0 y.0) refl (lengths xs ys 
     below_y = (and_parts (below_all path_cmp y.0 ys) _ t).0
 
     here : IsSome (find path_cmp x.0 (x ∷ xs))
-    here = subst (λ b. IsSome (cond b (Some x.1) (find path_cmp x.0 xs))) (sym (same_path x.0)) refl
+    here = subst (λ b. IsSome (cond b (Some x.1) (find path_cmp x.0 xs))) (sym (same_place x.0)) refl
 
     by : (r : Ordering) → path_cmp x.0 y.0 ≡ r → (((q : PathParts) → IsSome (find path_cmp q xs) → IsSome (find path_cmp q ys)) → length xs ≤ length ys) → (((q : PathParts) → IsSome (find path_cmp q (x ∷ xs)) → IsSome (find path_cmp q ys)) → length (x ∷ xs) ≤ length ys) → length (x ∷ xs) ≤ length (y ∷ ys)
     by Less o rest all = absurd (none_some (find path_cmp x.0 (y ∷ ys)) (find_below path_cmp x.0 (y ∷ ys) (below_further x.0 y ys o below_y)) (h x.0 here))

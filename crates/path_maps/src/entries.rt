@@ -53,9 +53,9 @@ impl<'a> Placed<'a> {
         }
     }
 
-    /// Its path. It fails for want of memory alone, and copies no bytes.
-    pub fn path(&self) -> Result<Path, AllocError>
-        ensures path { IfOk result (λ path. path ≡ self.now.0) }
+    /// Its place. It fails for want of memory alone, and copies no bytes.
+    pub fn place(&self) -> Result<Path, AllocError>
+        ensures place { IfOk result (λ place. place ≡ self.now.0) }
     {
         let folder = self.folder.try_clone()?;
         Ok(Path::from_parts(self.rank, folder, self.name.try_clone()?))
@@ -278,7 +278,7 @@ impl<'a> Entries<'a> {
     {
         let mut paths = Vec::new(alloc);
         while let Some(placed) = self.next_entry() {
-            paths.push(placed.path()?)?;
+            paths.push(placed.place()?)?;
         }
         Ok(paths)
     }

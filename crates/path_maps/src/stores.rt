@@ -4,7 +4,7 @@ ghost use Rattle.std.specs.Bool.{OnTrue, OnFalse};
 ghost use Rattle.std.specs.Option.{option_copied, option_map, IfSome};
 ghost use Rattle.std.specs.FinMap as finmap;
 ghost use Rattle.edit_sums.specs.declared.contents.Content.TheVariants.{Gone};
-ghost use Rattle.edit_sums.specs.Sums.{changed_paths, high_of, join, sum_of, visible_at, with_edit, IsStoreBelow};
+ghost use Rattle.edit_sums.specs.Sums.{changed_places, high_of, join, sum_of, visible_at, with_edit, IsStoreBelow};
 ghost use Rattle.path_maps.specs.Beside.{beside};
 ghost use Rattle.path_maps.specs.Folders.{is_in, path_at};
 ghost use Rattle.path_maps.specs.PathMaps.{AreRanks, flat};
@@ -211,17 +211,17 @@ impl Store {
     pub fn join_edit(&mut self, edit: Edit) -> Result<(), AllocError>
         ensures ok { OnOk result (self.new ≡ with_edit self.old edit) }
         ensures err { OnErr result (self.new ≡ self.old) }
-        ensures held { IsSome (finmap.get self.old edit.path) → IsOk result }
+        ensures held { IsSome (finmap.get self.old edit.place) → IsOk result }
     {
         let Edit {
-            path,
+            place,
             version,
             content,
         } = edit;
-        if self.is_full_for(&path) {
+        if self.is_full_for(&place) {
             return Err(AllocError);
         }
-        let (rank, folder, name) = path.into_parts();
+        let (rank, folder, name) = place.into_parts();
         let value = Versioned::At(Entry { version, content });
         let added = self.ranks.join_deep(rank, folder, name, value)?;
         self.len += usize::from(added);
@@ -234,7 +234,7 @@ impl Store {
     pub fn join_removal(&mut self, path: &Path, version: Version) -> bool
         ensures visible { result ≡ is_some (visible_at self.old path.now) }
         ensures removed { OnTrue result (self.new ≡ with_edit self.old (record
-            { path = path.now; version = version; content = Gone })) }
+            { place = path.now; version = version; content = Gone })) }
         ensures same { OnFalse result (self.new ≡ self.old) }
     {
         let (rank, folder, name) = path.parts();
@@ -267,7 +267,7 @@ impl Store {
     /// where the other has one entry, the store is as it was.
     pub fn merge(&mut self, other: &Store) -> Result<u64, AllocError>
         ensures ok { OnOk result (self.new ≡ join self.old other.now) }
-        ensures changed { IfOk result (λ changed. changed ≡ changed_paths self.old self.new) }
+        ensures changed { IfOk result (λ changed. changed ≡ changed_places self.old self.new) }
         ensures kept { OnErr result (IsStoreBelow self.old self.new) }
         ensures within { OnErr result (IsStoreBelow self.new (join self.old other.now)) }
         ensures again { OnErr result (join self.new other.now ≡ join self.old other.now) }
@@ -300,7 +300,7 @@ impl Store {
     /// gives that join; where the other has one entry, the store is as it was.
     pub fn absorb(&mut self, other: Store) -> Result<u64, Rest<Store>>
         ensures ok { OnOk result (self.new ≡ join self.old other) }
-        ensures changed { IfOk result (λ changed. changed ≡ changed_paths self.old self.new) }
+        ensures changed { IfOk result (λ changed. changed ≡ changed_places self.old self.new) }
         ensures kept { OnErr result (IsStoreBelow self.old self.new) }
         ensures within { OnErr result (IsStoreBelow self.new (join self.old other)) }
         ensures rest { IfErr result (λ fault. join self.new fault.rest ≡ join self.old other) }

@@ -1,5 +1,5 @@
 -- Marks, rows and options, as the code reads them.
-use Rattle.std.proofs.Common.{◌≡◌, ℕ, zero, suc, ◌<◌, ◌∷◌, [], ◌++◌, arith, Bool, true, false, not, IsTrue, List, refl, sym, subst, Option, Some, None, get_or}
+use Rattle.std.proofs.Common.{◌≡◌, ℕ, zero, suc, ◌<◌, ◌∷◌, [], arith, Bool, true, false, not, IsTrue, List, refl, sym, subst, Option, Some, None, get_or}
 use Rattle.std.specs.List.{All}
 use Rattle.std.specs.Option.{MatchOption, is_some}
 use Rattle.std.specs.declared.vec.Vec.{Vec}

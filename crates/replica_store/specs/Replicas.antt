@@ -4,7 +4,7 @@ use Rattle.std.specs.Prelude.{ℕ, ◌+◌, refl}
 use Rattle.std.specs.Coded.{Coded, code_by, coded×, coded_ℕ}
 use Rattle.std.specs.FinMap as finmap
 use Rattle.join_law.specs.declared.versions.Version.{Version}
-use Rattle.load_path.specs.PathLaws.{coded_path}
+use Rattle.load_places.specs.PlaceLaws.{coded_place}
 use Rattle.edit_sums.specs.EntryCodes.{coded_entry}
 use Rattle.edit_sums.specs.declared.entries.Edit.{Edit}
 use Rattle.edit_sums.specs.Sums.{EntryMap, high_of, with_edit}
@@ -14,7 +14,7 @@ pub record Replicated : Type 0 where
   pub writer : ℕ
 
 abbrev pub coded_replicated : Coded Replicated
-coded_replicated = code_by (EntryMap × ℕ) (coded× (finmap.code coded_path coded_entry) coded_ℕ) (λ r. (r.store, r.writer)) (λ p. record { store = p.0; writer = p.1 }) (λ _. refl)
+coded_replicated = code_by (EntryMap × ℕ) (coded× (finmap.code coded_place coded_entry) coded_ℕ) (λ r. (r.store, r.writer)) (λ p. record { store = p.0; writer = p.1 }) (λ _. refl)
 
 -- the version of its next edit: one above all that it holds
 abbrev pub next_version : Replicated → Version

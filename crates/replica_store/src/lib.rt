@@ -1,5 +1,5 @@
 //! Replicas: what a node holds of the edits of a whole fleet, and the number under which it writes. A replica's
-//! store is a finite map from paths to entries, the sum of the edits that it took.
+//! store is a finite map from places to entries, the sum of the edits that it took.
 //!
 //! Promise: the store is its map; a refused edit changes nothing.
 //!
@@ -12,5 +12,6 @@ mod replicas;
 pub use edit_sums::{Content, ContentFault, Edit, Entry, FileBytes, LinkTarget};
 pub use join_law::{Rest, Version};
 pub use load_path::{Path, PathFault};
+pub use load_places::Place;
 pub use path_maps::{Beside, Entries, FolderMap, NameMap, Placed, RankMap, Store};
 pub use replicas::{EditFault, Replica};

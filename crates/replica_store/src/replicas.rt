@@ -2,12 +2,12 @@
 ghost use Rattle.std.specs.Prelude.{◌≡◌, ◌↔◌, IfOk, OnOk, OnErr, IfErr, IsErrOf, IsSome, None, MatchOption, ◌≢◌};
 ghost use Rattle.std.specs.FinMap as finmap;
 ghost use Rattle.edit_sums.specs.declared.contents.Content.TheVariants.{Gone};
-ghost use Rattle.edit_sums.specs.Sums.{changed_paths, high_of, join, visible_at, IsStoreBelow};
+ghost use Rattle.edit_sums.specs.Sums.{changed_places, high_of, join, visible_at, IsStoreBelow};
 ghost use Rattle.replica_store.specs.Replicas.{next_version, with_put};
 
 use edit_sums::{Content, Edit};
 use join_law::{Rest, Version};
-use load_path::Path;
+use load_places::Place;
 use path_maps::Store;
 use std::alloc::{AllocError, Global};
 use std::marker::Model;
@@ -91,25 +91,25 @@ impl Replica {
         self.store.high()
     }
 
-    /// Writes a content at a path, under the next version: `high` + 1 and the writer. A removal is
+    /// Writes a content at a place, under the next version: `high` + 1 and the writer. A removal is
     /// written whether or not anything is visible. A search and at most one shift of entries in each of three maps.
     ///
     /// It is refused as `VersionsSpent` exactly where `high` is the greatest counter, and else for
-    /// want of memory alone, and not even that at a path that is held. A refusal changes nothing.
-    pub fn put(&mut self, path: Path, content: Content) -> Result<Version, EditFault>
+    /// want of memory alone, and not even that at a place that is held. A refusal changes nothing.
+    pub fn put(&mut self, place: Place, content: Content) -> Result<Version, EditFault>
         ensures version { IfOk result (λ version. version ≡ next_version self.old) }
         ensures joined { OnOk result (self.new ≡ with_put self.old (record
-            { path = path; version = next_version self.old; content = content })) }
+            { place = place; version = next_version self.old; content = content })) }
         ensures spent { IsErrOf result EditFault.VersionsSpent ↔ (high_of self.old.store ≡ u64.MAX) }
         ensures always { IsErrOf result EditFault.Nothing → ⊥ }
-        ensures held { IsSome (finmap.get self.old.store path) → IsErrOf result EditFault.Memory → ⊥ }
+        ensures held { IsSome (finmap.get self.old.store place) → IsErrOf result EditFault.Memory → ⊥ }
         ensures err { OnErr result (self.new ≡ self.old) }
     {
         let Some(version) = self.next_version() else {
             return Err(EditFault::VersionsSpent);
         };
         let edit = Edit {
-            path,
+            place,
             version,
             content,
         };
@@ -119,28 +119,28 @@ impl Replica {
         }
     }
 
-    /// Removes what is visible at a path, under the next version. The removal is an entry that
+    /// Removes what is visible at a place, under the next version. The removal is an entry that
     /// stays.
     ///
     /// It is refused as `Nothing` exactly where nothing is visible, else as `put` is. It takes no
-    /// memory, since the path is held, and seeks it once. A refusal changes nothing.
-    pub fn remove(&mut self, path: Path) -> Result<Version, EditFault>
+    /// memory, since the place is held, and seeks it once. A refusal changes nothing.
+    pub fn remove(&mut self, place: Place) -> Result<Version, EditFault>
         ensures version { IfOk result (λ version. version ≡ next_version self.old) }
         ensures joined { OnOk result (self.new ≡ with_put self.old (record
-            { path = path; version = next_version self.old; content = Gone })) }
-        ensures nothing { IsErrOf result EditFault.Nothing ↔ (visible_at self.old.store path ≡ None) }
-        ensures spent { IsErrOf result EditFault.VersionsSpent ↔ (IsSome (visible_at self.old.store path)
+            { place = place; version = next_version self.old; content = Gone })) }
+        ensures nothing { IsErrOf result EditFault.Nothing ↔ (visible_at self.old.store place ≡ None) }
+        ensures spent { IsErrOf result EditFault.VersionsSpent ↔ (IsSome (visible_at self.old.store place)
             × (high_of self.old.store ≡ u64.MAX)) }
         ensures without_memory { IsErrOf result EditFault.Memory → ⊥ }
         ensures err { OnErr result (self.new ≡ self.old) }
     {
         let Some(version) = self.next_version() else {
-            return match self.store.visible(&path) {
+            return match self.store.visible(&place) {
                 Some(_) => Err(EditFault::VersionsSpent),
                 None => Err(EditFault::Nothing),
             };
         };
-        if self.store.join_removal(&path, version) {
+        if self.store.join_removal(&place, version) {
             Ok(version)
         } else {
             Err(EditFault::Nothing)
@@ -159,14 +159,14 @@ impl Replica {
         })
     }
 
-    /// Joins copies of what a store holds, and answers how many paths changed. Both are read side by side; then it costs
+    /// Joins copies of what a store holds, and answers how many places changed. Both are read side by side; then it costs
     /// what is news and a search for each, or one pass over both, whichever is less. Copies of entries share their bytes.
     ///
     /// Where memory is refused, the store lies between what it was and the join, and the same call
     /// may be made again; where the other has one entry, the replica is as it was.
     pub fn merge(&mut self, other: &Store) -> Result<u64, AllocError>
         ensures ok { OnOk result (self.new ≡ record self.old { store = join self.old.store other.now }) }
-        ensures changed { IfOk result (λ changed. changed ≡ changed_paths self.old.store self.new.store) }
+        ensures changed { IfOk result (λ changed. changed ≡ changed_places self.old.store self.new.store) }
         ensures kept { OnErr result (IsStoreBelow self.old.store self.new.store) }
         ensures within { OnErr result (IsStoreBelow self.new.store (join self.old.store other.now)) }
         ensures again { OnErr result (join self.new.store other.now ≡ join self.old.store other.now) }
@@ -176,14 +176,14 @@ impl Replica {
         self.store.merge(other)
     }
 
-    /// Joins what a store holds, and answers how many paths changed. Both are read side by side; then it costs what is
+    /// Joins what a store holds, and answers how many places changed. Both are read side by side; then it costs what is
     /// news and a search for each, or one pass over both, whichever is less.
     ///
     /// Where memory is refused, the store lies between what it was and the join, and joining the rest that comes back
     /// gives that join; where the other has one entry, the replica is as it was.
     pub fn absorb(&mut self, other: Store) -> Result<u64, Rest<Store>>
         ensures ok { OnOk result (self.new ≡ record self.old { store = join self.old.store other }) }
-        ensures changed { IfOk result (λ changed. changed ≡ changed_paths self.old.store self.new.store) }
+        ensures changed { IfOk result (λ changed. changed ≡ changed_places self.old.store self.new.store) }
         ensures kept { OnErr result (IsStoreBelow self.old.store self.new.store) }
         ensures within { OnErr result (IsStoreBelow self.new.store (join self.old.store other)) }
         ensures rest { IfErr result (λ fault. join self.new.store fault.rest ≡ join self.old.store other) }

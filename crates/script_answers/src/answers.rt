@@ -161,7 +161,7 @@ fn append_version(
 fn append_path(out: &mut Vec<u8>, placed: &Placed) -> Result<(), AllocError>
     ensures appended { OnOk result (out.new.items ≡ out.old.items ++ text_of placed.now.0) }
 {
-    placed.path()?.append_to(out)
+    placed.place()?.append_to(out)
 }
 
 // Appends the line of an entry.

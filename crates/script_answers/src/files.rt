@@ -46,7 +46,7 @@ fn append_entry(out: &mut Vec<u8>, placed: &Placed) -> Result<(), AllocError>
     requires file { IsFile (shown placed.now.1) }
     ensures appended { OnOk result (out.new.items ≡ out.old.items ++ entry_lines placed.now) }
 {
-    append_file(out, &placed.path()?, bytes_of(placed.visible()))
+    append_file(out, &placed.place()?, bytes_of(placed.visible()))
 }
 
 // The files of a unit: its fragment, and then its drop-ins. Linear in what is written, and a

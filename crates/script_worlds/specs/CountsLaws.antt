@@ -1,7 +1,7 @@
 -- The greatest counter of a world grows by one at most where a node puts its next edit, and else it stays.
 use Rattle.std.proofs.Common.{◌≡◌, ℕ, suc, ◌+◌, ◌<◌, ◌≤◌, List, [], ◌∷◌, length, Option, Some, None, inl, inr, refl, ap, subst, arith}
 use Rattle.std.specs.Prelude.{slice_get}
-use Rattle.load_path.specs.Paths.{PathParts}
+use Rattle.load_places.specs.Places.{PlaceParts}
 use Rattle.edit_sums.specs.declared.contents.Content.{Content}
 use Rattle.edit_sums.specs.declared.entries.Edit.{Edit}
 use Rattle.edit_sums.specs.Sums.{IsHonest, high_of}
@@ -54,12 +54,12 @@ pub put_same : (n : ℕ) (old new : ScriptWorld) → puts new ≡ puts old → I
 put_same n old new same up e a = let most = up e (subst (λ (es : List Edit). IsAmong e es) same a) in omega arith
 
 -- a node put its next edit
-pub put_next : (n : ℕ) (world : ScriptWorld) (i : ℕ) (path : PathParts) (content : Content) → IsLawful world → i < length world.nodes → IsPutUpTo n world
-    → IsPutUpTo (suc n) (happened world (Put i (next_edit world i path content)))
-put_next n world i path content lawful lt up f a = by (subst (λ (es : List Edit). IsAmong f es) (puts_of-Put (length world.nodes) world.events i e lt) a)
+pub put_next : (n : ℕ) (world : ScriptWorld) (i : ℕ) (place : PlaceParts) (content : Content) → IsLawful world → i < length world.nodes → IsPutUpTo n world
+    → IsPutUpTo (suc n) (happened world (Put i (next_edit world i place content)))
+put_next n world i place content lawful lt up f a = by (subst (λ (es : List Edit). IsAmong f es) (puts_of-Put (length world.nodes) world.events i e lt) a)
   where
     e : Edit
-    e = next_edit world i path content
+    e = next_edit world i place content
 
     by : IsAmong f (e ∷ puts world) → f.version.counter ≤ suc n
     by (inl same) =

@@ -3,7 +3,7 @@ use Rattle.std.proofs.Common.{◌≡◌, ◌≢◌, ◌⊎◌, inl, inr, ℕ, ze
 use Rattle.std.specs.Prelude.{slice_get}
 use Rattle.std.proofs.lemmas.Option.{slice_get_past}
 use Rattle.std.proofs.lemmas.Bool.{true≢false, eq-eqb, eqb-true}
-use Rattle.load_path.specs.Paths.{PathParts}
+use Rattle.load_places.specs.Places.{PlaceParts}
 use Rattle.edit_sums.specs.declared.contents.Content.{Content}
 use Rattle.edit_sums.specs.declared.entries.Edit.{Edit}
 use Rattle.edit_sums.specs.Sums.{EntryMap, sum_of, with_edit, join, high_of, high_among}
@@ -31,8 +31,8 @@ module _ (world : ScriptWorld) where
   pub held_ask : (i k : ℕ) → held (happened world (Ask i)) k ≡ held world k
   held_ask i k = ap sum_of (took-Ask (state world) i k)
 
-  pub held_answered : (from to : ℕ) (paths : Option (List PathParts)) (k : ℕ) → held (answered world from to paths) k ≡ held world k
-  held_answered from to paths k = ap sum_of (took-Cut (happens (state world) (Ask to)) from (next_ask world) paths k) ∙ held_ask to k
+  pub held_answered : (from to : ℕ) (places : Option (List PlaceParts)) (k : ℕ) → held (answered world from to places) k ≡ held world k
+  held_answered from to places k = ap sum_of (took-Cut (happens (state world) (Ask to)) from (next_ask world) places k) ∙ held_ask to k
 
   pub held_given_elsewhere : (p k l : ℕ) → l ≢ k → held (happened world (Give p k)) l ≡ held world l
   held_given_elsewhere p k l ne = ap sum_of (took-Give_elsewhere (state world) p k l ne)
@@ -75,8 +75,8 @@ lawful_quiet world event lawful within same = record {
 }
 
 -- a node puts its next edit
-pub lawful_put : (world : ScriptWorld) (i : ℕ) (path : PathParts) (content : Content) → IsLawful world → i < length world.nodes → IsLawful (happened world (Put i (next_edit world i path content)))
-lawful_put world i path content lawful lt = record {
+pub lawful_put : (world : ScriptWorld) (i : ℕ) (place : PlaceParts) (content : Content) → IsLawful world → i < length world.nodes → IsLawful (happened world (Put i (next_edit world i place content)))
+lawful_put world i place content lawful lt = record {
   within = (lt, lawful.within);
   apart = lawful.apart;
   own = λ f a. owned f (subst (λ (es : List Edit). IsAmong f es) more a);
@@ -84,7 +84,7 @@ lawful_put world i path content lawful lt = record {
 }
   where
     e : Edit
-    e = next_edit world i path content
+    e = next_edit world i place content
 
     more : puts (happened world (Put i e)) ≡ e ∷ puts world
     more = puts_of-Put (length world.nodes) world.events i e lt
@@ -115,9 +115,9 @@ lawful_put world i path content lawful lt = record {
     honest f g (inr a) (inl b) same = absurd (fresh f a (ap (λ (h : Edit). h.version) b ∙ sym same))
     honest f g (inr a) (inr b) same = lawful.honest f g a b same
 
-pub lawful_answered : (world : ScriptWorld) (from to : ℕ) (paths : Option (List PathParts)) → IsLawful world → from < length world.nodes → to < length world.nodes → IsLawful (answered world from to paths)
-lawful_answered world from to paths lawful lt_from lt_to =
-    lawful_quiet (happened world (Ask to)) (Cut from (next_ask world) paths) (lawful_quiet world (Ask to) lawful (lt_to, lawful.within) refl) (lt_from, (lt_to, lawful.within)) refl
+pub lawful_answered : (world : ScriptWorld) (from to : ℕ) (places : Option (List PlaceParts)) → IsLawful world → from < length world.nodes → to < length world.nodes → IsLawful (answered world from to places)
+lawful_answered world from to places lawful lt_from lt_to =
+    lawful_quiet (happened world (Ask to)) (Cut from (next_ask world) places) (lawful_quiet world (Ask to) lawful (lt_to, lawful.within) refl) (lt_from, (lt_to, lawful.within)) refl
 
 pub lawful_given : (world : ScriptWorld) (p k : ℕ) → IsLawful world → k < length world.nodes → IsLawful (happened world (Give p k))
 lawful_given world p k lawful lt = lawful_quiet world (Give p k) lawful (lt, lawful.within) refl
@@ -213,10 +213,10 @@ abbrev pub BlankIsLawful : Type 0
 BlankIsLawful = IsLawful blank
 
 abbrev pub EditsStayLawful : Type 0
-EditsStayLawful = (world : ScriptWorld) (i : ℕ) (path : PathParts) (content : Content) → IsLawful world → i < length world.nodes → IsLawful (happened world (Put i (next_edit world i path content)))
+EditsStayLawful = (world : ScriptWorld) (i : ℕ) (place : PlaceParts) (content : Content) → IsLawful world → i < length world.nodes → IsLawful (happened world (Put i (next_edit world i place content)))
 
 abbrev pub AnswersStayLawful : Type 0
-AnswersStayLawful = (world : ScriptWorld) (from to : ℕ) (paths : Option (List PathParts)) → IsLawful world → from < length world.nodes → to < length world.nodes → IsLawful (answered world from to paths)
+AnswersStayLawful = (world : ScriptWorld) (from to : ℕ) (places : Option (List PlaceParts)) → IsLawful world → from < length world.nodes → to < length world.nodes → IsLawful (answered world from to places)
 
 abbrev pub GiftsStayLawful : Type 0
 GiftsStayLawful = (world : ScriptWorld) (p k : ℕ) → IsLawful world → k < length world.nodes → IsLawful (happened world (Give p k))

@@ -4,7 +4,7 @@ use Rattle.std.specs.Prelude.{ℕ, zero, suc, ◌+◌, ◌-◌, ◌==◌, Bool, 
 use Rattle.std.specs.Option.{option_map}
 use Rattle.std.specs.List.{list_any}
 use Rattle.std.specs.Str.{bytes_eq}
-use Rattle.load_path.specs.Paths.{PathParts}
+use Rattle.load_places.specs.Places.{PlaceParts}
 use Rattle.edit_sums.specs.declared.contents.Content.{Content}
 use Rattle.edit_sums.specs.declared.entries.Edit.{Edit}
 use Rattle.edit_sums.specs.Sums.{EntryMap, sum_of, high_of}
@@ -56,8 +56,8 @@ abbrev pub writer_at : List Member → ℕ → ℕ
 writer_at nodes k = unwrap_or (option_map (λ member. member.writer) (slice_get nodes k)) 0
 
 -- a node's next edit: its version is above all that the node holds
-abbrev pub next_edit : ScriptWorld → ℕ → PathParts → Content → Edit
-next_edit world k path content = record { path = path; version = record { counter = high_of (held world k) + 1; writer = writer_at world.nodes k }; content = content }
+abbrev pub next_edit : ScriptWorld → ℕ → PlaceParts → Content → Edit
+next_edit world k place content = record { place = place; version = record { counter = high_of (held world k) + 1; writer = writer_at world.nodes k }; content = content }
 
 -- the numbers of the next ask and of the next piece
 abbrev pub next_ask : ScriptWorld → ℕ
@@ -67,12 +67,12 @@ abbrev pub next_piece : ScriptWorld → ℕ
 next_piece world = length (state world).pieces
 
 -- one node asks, and another cuts for that ask
-abbrev pub answered : ScriptWorld → (from to : ℕ) → Option (List PathParts) → ScriptWorld
-answered world from to paths = happened (happened world (Ask to)) (Cut from (next_ask world) paths)
+abbrev pub answered : ScriptWorld → (from to : ℕ) → Option (List PlaceParts) → ScriptWorld
+answered world from to places = happened (happened world (Ask to)) (Cut from (next_ask world) places)
 
 -- what was cut then is kept under a name
-abbrev pub parted : ScriptWorld → List ℕ → (from to : ℕ) → Option (List PathParts) → ScriptWorld
-parted world name from to paths = record (answered world from to paths) { pieces = (name, next_piece world) ∷ world.pieces }
+abbrev pub parted : ScriptWorld → List ℕ → (from to : ℕ) → Option (List PlaceParts) → ScriptWorld
+parted world name from to places = record (answered world from to places) { pieces = (name, next_piece world) ∷ world.pieces }
 
 -- the number of the latest piece of a name
 abbrev pub piece_named : List (List ℕ × ℕ) → List ℕ → Option ℕ

@@ -1,7 +1,7 @@
 -- What a refusal of a node leaves.
 -- Source: this project's own.
 use Rattle.std.specs.Prelude.{◌≡◌, ◌≢◌, ℕ, ◌+◌, ◌<◌, ◌≤◌, ◌⊎◌, None, Some, List, [], ◌∷◌, ◌++◌}
-use Rattle.load_path.specs.Paths.{PathParts}
+use Rattle.load_places.specs.Places.{PlaceParts}
 use Rattle.edit_sums.specs.declared.contents.Content.{Content}
 use Rattle.edit_sums.specs.Sums.{EntryMap}
 use Rattle.replica_store.specs.Replicas.{Replicated}
@@ -75,14 +75,14 @@ IsSeatFault VersionsSpent = ⊥
 IsSeatFault Memory = ⊥
 
 -- what is accepted after a refused edit: the edit, where its publish was refused, and else nothing more
-abbrev pub AcceptsEdit : {N : Type 0} → NodeFault N → ℕ → PathParts → Content → List HistoryEvent → List HistoryEvent → Type 0
-AcceptsEdit NoSeat seat path content old new = ⊥
-AcceptsEdit (Pending None) seat path content old new = ⊥
-AcceptsEdit (Pending (Some version)) seat path content old new = new ≡ old ++ Edited seat (record { path = path; version = version; content = content }) ∷ []
-AcceptsEdit (TakesSpent told) seat path content old new = new ≡ old
-AcceptsEdit (Disagree seen held) seat path content old new = new ≡ old
-AcceptsEdit VersionsSpent seat path content old new = new ≡ old
-AcceptsEdit Memory seat path content old new = new ≡ old
+abbrev pub AcceptsEdit : {N : Type 0} → NodeFault N → ℕ → PlaceParts → Content → List HistoryEvent → List HistoryEvent → Type 0
+AcceptsEdit NoSeat seat place content old new = ⊥
+AcceptsEdit (Pending None) seat place content old new = ⊥
+AcceptsEdit (Pending (Some version)) seat place content old new = new ≡ old ++ Edited seat (record { place = place; version = version; content = content }) ∷ []
+AcceptsEdit (TakesSpent told) seat place content old new = new ≡ old
+AcceptsEdit (Disagree seen held) seat place content old new = new ≡ old
+AcceptsEdit VersionsSpent seat place content old new = new ≡ old
+AcceptsEdit Memory seat place content old new = new ≡ old
 
 -- and after a refused piece
 abbrev pub AcceptsPiece : {N : Type 0} → NodeFault N → ℕ → EntryMap → List HistoryEvent → List HistoryEvent → Type 0

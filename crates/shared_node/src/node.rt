@@ -15,7 +15,7 @@ use crate::seat::Seat;
 use delta_pieces::Piece;
 use edit_sums::Content;
 use join_law::Version;
-use load_path::Path;
+use load_places::Place;
 use node_histories::{History, NodeName};
 use replica_store::Replica;
 use std::sync::{Mutex, MutexGuard, Wait};
@@ -102,24 +102,24 @@ impl<N: NodeName> Node<N> {
         &self,
         rt: &R,
         seat: &mut Seat<N>,
-        path: Path,
+        place: Place,
         content: Content,
     ) -> Result<(Version, Told<N>), NodeFault<N>>
         ensures taken { IfOk result (λ r.
             EndsWith seat.old.seen r.1 (Edited seat.old.number
-            (record { path = path; version = r.0; content = content }))) }
+            (record { place = place; version = r.0; content = content }))) }
         ensures told { IfOk result (λ r. IsLegal N.opening r.1 × (seat.new.seen ≡ r.1)) }
         ensures counted { IfOk result (λ _. CountsOneMore seat.old seat.new) }
         ensures fault { IfErr result (λ f. AtFault N.opening f seat.old seat.new) }
         ensures kind { IfErr result (λ f. IsEditFault f) }
     {
         let mut keeper = self.keeper.lock(rt);
-        let result = keeper.edit(rt, seat, path, content);
+        let result = keeper.edit(rt, seat, place, content);
         MutexGuard::unlock(keeper);
         result
     }
 
-    /// Takes a piece for this seat, publishes it, and answers how many paths changed. It may wait, as `edit` does. It
+    /// Takes a piece for this seat, publishes it, and answers how many places changed. It may wait, as `edit` does. It
     /// costs what the piece changes and one copy of the replica, which copies no contents.
     ///
     /// This take is the last of the answer's history, which goes on from what the seat had seen. It is refused as `edit` is,

@@ -9,7 +9,7 @@ use crate::seat::Seat;
 use crossbeam_channel::Receiver;
 use delta_pieces::Piece;
 use edit_sums::Content;
-use load_path::Path;
+use load_places::Place;
 use node_histories::NodeName;
 use std::sync::Wait;
 use worker_rounds::{Gate, pass_gate};
@@ -18,7 +18,7 @@ use worker_rounds::{Gate, pass_gate};
 #[derive(Drop)]
 pub enum Message {
     /// An edit, as `Node::edit`.
-    Edit(Path, Content),
+    Edit(Place, Content),
     /// A piece, as `Node::absorb`.
     Absorb(Piece),
     /// The end of the service.
@@ -66,9 +66,9 @@ fn do_message<N: NodeName, R: Wait, G: Gate>(
     ensures number { seat.new.number ≡ seat.old.number }
 {
     match message {
-        Message::Edit(path, content) => {
+        Message::Edit(place, content) => {
             pass_gate(gate, number);
-            Some(step_of(node.edit(rt, seat, path, content)))
+            Some(step_of(node.edit(rt, seat, place, content)))
         }
         Message::Absorb(piece) => {
             pass_gate(gate, number);

@@ -1,7 +1,7 @@
 //! How a keeper takes.
 ghost use Rattle.std.specs.Prelude.{◌≡◌, ◌+◌, ◌-◌, ◌^◌, ◌<◌, ◌++◌, ◌∷◌, [], IfOk, IfErr, MatchResult, MatchOption};
 ghost use mathlib.Core.List.{IsPrefix};
-ghost use Rattle.edit_sums.specs.Sums.{changed_paths};
+ghost use Rattle.edit_sums.specs.Sums.{changed_places};
 ghost use Rattle.node_histories.specs.declared.events.HistoryEvent.TheVariants.{Edited, Absorbed};
 ghost use Rattle.node_histories.specs.Histories.{IsLegal, EndsWith, EndsChanging, store_of, counter_of, opening_of, takes_in};
 ghost use Rattle.shared_node.specs.Accounts.{IsTakenAfter};
@@ -15,7 +15,7 @@ use crate::seat::Seat;
 use delta_pieces::Piece;
 use edit_sums::Content;
 use join_law::Version;
-use load_path::Path;
+use load_places::Place;
 use node_histories::{NodeName, Page};
 use std::alloc::AllocError;
 use std::sync::Wait;
@@ -75,7 +75,7 @@ impl<N: NodeName> Keeper<N> {
         &mut self,
         rt: &R,
         seat: usize,
-        path: Path,
+        place: Place,
         content: Content,
     ) -> Result<Version, AllocError>
         requires seat { seat < N.seats }
@@ -84,17 +84,17 @@ impl<N: NodeName> Keeper<N> {
         ensures given { self.new.given ≡ self.old.given }
         ensures accepted { MatchResult result
             (λ version. self.new.accepted ≡ self.old.accepted
-            ++ Edited seat (record { path = path; version = version; content = content }) ∷ [])
+            ++ Edited seat (record { place = place; version = version; content = content }) ∷ [])
             (λ _. self.new.accepted ≡ self.old.accepted) }
     {
         self.flush(rt)?;
         let page = self.post.page();
-        let (version, page) = page.with_edit::<N>(&self.head, seat as u64, path, content)?;
+        let (version, page) = page.with_edit::<N>(&self.head, seat as u64, place, content)?;
         self.accept(seat, page);
         Ok(version)
     }
 
-    // Publishes a take that is pending, and accepts a piece after it; answers how many paths changed.
+    // Publishes a take that is pending, and accepts a piece after it; answers how many places changed.
     fn accept_piece<R: Wait>(
         &mut self,
         rt: &R,
@@ -108,7 +108,7 @@ impl<N: NodeName> Keeper<N> {
             (λ _. self.new.accepted ≡ self.old.accepted ++ Absorbed seat piece ∷ [])
             (λ _. self.new.accepted ≡ self.old.accepted) }
         ensures changed { IfOk result (λ changed. changed
-            ≡ changed_paths (store_of self.old.accepted) (store_of self.new.accepted)) }
+            ≡ changed_places (store_of self.old.accepted) (store_of self.new.accepted)) }
     {
         self.flush(rt)?;
         let (changed, page) = self
@@ -140,24 +140,24 @@ impl<N: NodeName> Keeper<N> {
         &mut self,
         rt: &R,
         seat: &mut Seat<N>,
-        path: Path,
+        place: Place,
         content: Content,
     ) -> Result<(Version, Told<N>), NodeFault<N>>
         ensures given { self.new.given ≡ self.old.given }
         ensures taken { IfOk result (λ r.
             EndsWith seat.old.seen r.1 (Edited seat.old.number
-            (record { path = path; version = r.0; content = content }))) }
+            (record { place = place; version = r.0; content = content }))) }
         ensures told { IfOk result (λ r. IsLegal N.opening r.1 × (seat.new.seen ≡ r.1)) }
         ensures counted { IfOk result (λ _. CountsOneMore seat.old seat.new) }
         ensures shown { IfOk result (λ r. (self.new.shown ≡ r.1) × (self.new.accepted ≡ r.1)) }
         ensures fault { IfErr result (λ f. AtFault N.opening f seat.old seat.new) }
         ensures kind { IfErr result (λ f. IsEditFault f) }
         ensures accepted { IfErr result
-            (λ f. AcceptsEdit f seat.old.number path content self.old.accepted self.new.accepted) }
+            (λ f. AcceptsEdit f seat.old.number place content self.old.accepted self.new.accepted) }
         ensures early { IfErr result (λ f. IsEarly f → self.new ≡ self.old) }
     {
         self.may_edit(seat)?;
-        let Ok(version) = self.accept_edit(rt, seat.number(), path, content) else {
+        let Ok(version) = self.accept_edit(rt, seat.number(), place, content) else {
             return Err(NodeFault::Memory);
         };
         match self.finish(rt, seat) {
@@ -169,7 +169,7 @@ impl<N: NodeName> Keeper<N> {
         }
     }
 
-    // Takes a piece for this seat, and publishes it, after a take that is pending; answers how many paths changed.
+    // Takes a piece for this seat, and publishes it, after a take that is pending; answers how many places changed.
     pub(crate) fn absorb<R: Wait>(
         &mut self,
         rt: &R,

@@ -57,7 +57,7 @@ impl UnitText {
         ensures items { OnOk result (self.new.items ≡ self.old.items ++ lent_items (placed.now ∷ [])) }
         ensures notes { OnOk result (self.new.notes ≡ self.old.notes ++ lent_notes (placed.now ∷ [])) }
     {
-        self.add_file(alloc, &placed.path()?, bytes_of(placed.visible()))
+        self.add_file(alloc, &placed.place()?, bytes_of(placed.visible()))
     }
 
     // Adds what the file at a path says, which has these bytes.
@@ -101,7 +101,7 @@ pub(crate) fn paths_of(alloc: Global, dropins: &[Placed]) -> Result<Vec<Path>, A
 {
     let mut paths = Vec::new(alloc);
     for placed in dropins {
-        paths.push(placed.path()?)?;
+        paths.push(placed.place()?)?;
     }
     Ok(paths)
 }

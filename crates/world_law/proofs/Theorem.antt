@@ -22,7 +22,7 @@ puts_of-append_left n (Put i f ∷ xs) ys e a =
       | false ↦ λ h. puts_of-append_left n xs ys e h
     ] a
 puts_of-append_left n (Ask i ∷ xs) ys e a = puts_of-append_left n xs ys e a
-puts_of-append_left n (Cut j b paths ∷ xs) ys e a = puts_of-append_left n xs ys e a
+puts_of-append_left n (Cut j b places ∷ xs) ys e a = puts_of-append_left n xs ys e a
 puts_of-append_left n (Give p k ∷ xs) ys e a = puts_of-append_left n xs ys e a
 
 run_sound : (n : ℕ) (all events : List Event) → IsHonest (puts_of n all) → ((e : Edit) → IsAmong e (puts_of n events) → IsAmong e (puts_of n all)) → IsSound n (λ e. IsAmong e (puts_of n all)) (after events (blank n))

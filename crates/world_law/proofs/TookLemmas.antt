@@ -10,9 +10,9 @@ use Rattle.edit_sums.specs.Entries.{Entry}
 use Rattle.edit_sums.specs.declared.entries.Edit.{Edit}
 use Rattle.edit_sums.specs.Entries.{IsBelow}
 use Rattle.world_law.proofs.Theorem.{each_store_is_its_sum, IfSome_from}
-use Rattle.load_path.specs.Paths.{PathParts}
+use Rattle.load_places.specs.Places.{PlaceParts}
 use Rattle.edit_sums.specs.Sums.{EntryMap, edits_of, entry_of, edit_of, sum_of}
-use Rattle.world_law.specs.Cuts.{is_asked, at_paths, cut}
+use Rattle.world_law.specs.Cuts.{is_asked, at_places, cut}
 use Rattle.edit_sums.specs.GreatestLaws.{get-sum_of, greatest_at-above, greatest_at-found, IsAmong_from_filter}
 use Rattle.world_law.specs.declared.events.Event.{Event}
 use Rattle.world_law.specs.declared.events.Event.TheVariants.{Put, Ask, Cut, Give}
@@ -76,10 +76,10 @@ asked_nodes : (w : EventWorld) (i : ℕ) (o : Option Node) → (asked_by w i o).
 asked_nodes w i None = refl
 asked_nodes w i (Some n) = refl
 
-cut_nodes : (w : EventWorld) (paths : Option (List PathParts)) (o : Option Node) (q : Option Asked) → (cut_for w paths o q).nodes ≡ w.nodes
-cut_nodes w paths None q = refl
-cut_nodes w paths (Some n) None = refl
-cut_nodes w paths (Some n) (Some a) = refl
+cut_nodes : (w : EventWorld) (places : Option (List PlaceParts)) (o : Option Node) (q : Option Asked) → (cut_for w places o q).nodes ≡ w.nodes
+cut_nodes w places None q = refl
+cut_nodes w places (Some n) None = refl
+cut_nodes w places (Some n) (Some a) = refl
 
 asked_pieces : (w : EventWorld) (i : ℕ) (o : Option Node) → (asked_by w i o).pieces ≡ w.pieces
 asked_pieces w i None = refl
@@ -98,17 +98,17 @@ module _ (n : ℕ) where
     earlier : List Event
     j : ℕ
     a : ℕ
-    paths : Option (List PathParts)
-    cut_then : WasCut n history p earlier j a paths
+    places : Option (List PlaceParts)
+    cut_then : WasCut n history p earlier j a places
     asker : IsAskOf (world_of n earlier) a piece.asker
-    had : piece.had ≡ at_paths paths (took (world_of n earlier) j)
+    had : piece.had ≡ at_places places (took (world_of n earlier) j)
 
   history_stays : (event : Event) (history : List Event) (p : ℕ) (piece : Piece) → History history p piece → History (event ∷ history) p piece
   history_stays event history p piece h = record {
     earlier = h.earlier;
     j = h.j;
     a = h.a;
-    paths = h.paths;
+    places = h.places;
     cut_then = record {
       later = event ∷ h.cut_then.later;
       is = ap (λ (es : List Event). event ∷ es) h.cut_then.is;
@@ -125,18 +125,18 @@ module _ (n : ℕ) where
   history_of (Put i e ∷ es) p piece h = history_stays (Put i e) es p piece (history_of es p piece h)
   history_of (Ask i ∷ es) p piece h = history_stays (Ask i) es p piece (history_of es p piece (ap (λ ps. slice_get ps p) (sym (asked_pieces (world_of n es) i (slice_get (world_of n es).nodes i))) ∙ h))
   history_of (Give q k ∷ es) p piece h = history_stays (Give q k) es p piece (history_of es p piece (ap (λ ps. slice_get ps p) (sym (given_pieces (world_of n es) k (slice_get (world_of n es).pieces q))) ∙ h))
-  history_of (Cut j a paths ∷ es) p piece h =
-      elim (slice_get (world_of n es).nodes j) as (λ o. slice_get (world_of n es).nodes j ≡ o → slice_get (cut_for (world_of n es) paths o (slice_get (world_of n es).asks a)).pieces p ≡ Some piece → History (Cut j a paths ∷ es) p piece) [
-        | None ↦ λ _ g. history_stays (Cut j a paths) es p piece (history_of es p piece g)
-        | Some node ↦ λ nd g. elim (slice_get (world_of n es).asks a) as (λ o. slice_get (world_of n es).asks a ≡ o → slice_get (cut_for (world_of n es) paths (Some node) o).pieces p ≡ Some piece → History (Cut j a paths ∷ es) p piece) [
-          | None ↦ λ _ k. history_stays (Cut j a paths) es p piece (history_of es p piece k)
+  history_of (Cut j a places ∷ es) p piece h =
+      elim (slice_get (world_of n es).nodes j) as (λ o. slice_get (world_of n es).nodes j ≡ o → slice_get (cut_for (world_of n es) places o (slice_get (world_of n es).asks a)).pieces p ≡ Some piece → History (Cut j a places ∷ es) p piece) [
+        | None ↦ λ _ g. history_stays (Cut j a places) es p piece (history_of es p piece g)
+        | Some node ↦ λ nd g. elim (slice_get (world_of n es).asks a) as (λ o. slice_get (world_of n es).asks a ≡ o → slice_get (cut_for (world_of n es) places (Some node) o).pieces p ≡ Some piece → History (Cut j a places ∷ es) p piece) [
+          | None ↦ λ _ k. history_stays (Cut j a places) es p piece (history_of es p piece k)
           | Some ask ↦ λ as_is k. elim (got_cases (world_of n es).pieces _ p piece k) [
-            | inl was ↦ history_stays (Cut j a paths) es p piece (history_of es p piece was)
+            | inl was ↦ history_stays (Cut j a places) es p piece (history_of es p piece was)
             | inr new ↦ record {
               earlier = es;
               j = j;
               a = a;
-              paths = paths;
+              places = places;
               cut_then = record {
                 later = [];
                 is = refl;
@@ -145,7 +145,7 @@ module _ (n : ℕ) where
                 for_ask = subst (λ (o : Option Asked). IsSome o) (sym as_is) refl;
               };
               asker = (ask, as_is, ap (λ (q : Piece). q.asker) new.1);
-              had = ap (λ (q : Piece). q.had) (sym new.1) ∙ ap (λ (o : Option Node). at_paths paths (took_by o)) (sym nd);
+              had = ap (λ (q : Piece). q.had) (sym new.1) ∙ ap (λ (o : Option Node). at_places places (took_by o)) (sym nd);
             }
           ]
         ] refl g
@@ -166,8 +166,8 @@ module _ (n : ℕ) where
       ]
   took_sound (suc m) (Ask i ∷ es) short k e h =
       stays (Ask i) (took_sound m es (omega arith) k e (subst (λ (ns : List Node). IsAmong e (took_by (slice_get ns k))) (asked_nodes (world_of n es) i (slice_get (world_of n es).nodes i)) h))
-  took_sound (suc m) (Cut j a paths ∷ es) short k e h =
-      stays (Cut j a paths) (took_sound m es (omega arith) k e (subst (λ (ns : List Node). IsAmong e (took_by (slice_get ns k))) (cut_nodes (world_of n es) paths (slice_get (world_of n es).nodes j) (slice_get (world_of n es).asks a)) h))
+  took_sound (suc m) (Cut j a places ∷ es) short k e h =
+      stays (Cut j a places) (took_sound m es (omega arith) k e (subst (λ (ns : List Node). IsAmong e (took_by (slice_get ns k))) (cut_nodes (world_of n es) places (slice_get (world_of n es).nodes j) (slice_get (world_of n es).asks a)) h))
   took_sound (suc m) (Give p i ∷ es) short k e h =
       elim (slice_get (world_of n es).pieces p) as (λ o. slice_get (world_of n es).pieces p ≡ o → IsAmong e (took_by (slice_get (given_to (world_of n es) i o).nodes k)) → Took n (Give p i ∷ es) k e) [
         | None ↦ λ _ g. stays (Give p i) (took_sound m es (omega arith) k e g)
@@ -182,12 +182,12 @@ module _ (n : ℕ) where
                   | true ↦ λ own m_had.
                       let from : History es p piece = history_of es p piece there in
                       let asker_is : piece.asker ≡ k = eqb-true piece.asker i own ∙ r.0 in
-                      let taken_then : IsAmong e (at_paths from.paths (took (world_of n from.earlier) from.j)) = subst (λ (xs : List Edit). IsAmong e xs) from.had m_had in
-                      let less : length from.earlier < length es = subst (λ (xs : List Event). length from.earlier < length xs) (sym from.cut_then.is) (shorter from.cut_then.later (Cut from.j from.a from.paths) from.earlier) in
-                      whole from.earlier from.j from.a from.paths within from.cut_then
+                      let taken_then : IsAmong e (at_places from.places (took (world_of n from.earlier) from.j)) = subst (λ (xs : List Edit). IsAmong e xs) from.had m_had in
+                      let less : length from.earlier < length es = subst (λ (xs : List Event). length from.earlier < length xs) (sym from.cut_then.is) (shorter from.cut_then.later (Cut from.j from.a from.places) from.earlier) in
+                      whole from.earlier from.j from.a from.places within from.cut_then
                       (subst (λ (c : ℕ). IsAskOf (world_of n from.earlier) from.a c) asker_is from.asker)
-                      (filter_passes (λ f. is_asked f.path from.paths) e (took (world_of n from.earlier) from.j) taken_then)
-                      (took_sound m from.earlier (omega arith) from.j e (IsAmong_from_filter (λ f. is_asked f.path from.paths) e (took (world_of n from.earlier) from.j) taken_then))
+                      (filter_passes (λ f. is_asked f.place from.places) e (took (world_of n from.earlier) from.j) taken_then)
+                      (took_sound m from.earlier (omega arith) from.j e (IsAmong_from_filter (λ f. is_asked f.place from.places) e (took (world_of n from.earlier) from.j) taken_then))
                   | false ↦ λ _ none. absurd none
                 ] refl l
               ])
@@ -199,12 +199,12 @@ module _ (n : ℕ) where
   pieces_stay (event ∷ later) base p x h = piece_stays (world_of n (later ++ base)) event p x (pieces_stay later base p x h)
 
   -- the piece that a cut made
-  cut_piece : (earlier : List Event) (j a : ℕ) (paths : Option (List PathParts)) (p : ℕ) → length (world_of n earlier).pieces ≡ p → (node : Node) → slice_get (world_of n earlier).nodes j ≡ Some node → (ask : Asked) → slice_get (world_of n earlier).asks a ≡ Some ask →
-      slice_get (world_of n (Cut j a paths ∷ earlier)).pieces p ≡ Some (record { entries = cut node.store ask.versions paths; asker = ask.node; had = at_paths paths node.took })
-  cut_piece earlier j a paths p number node nd ask as_is =
-      ap (λ o. slice_get (cut_for (world_of n earlier) paths o (slice_get (world_of n earlier).asks a)).pieces p) nd ∙
-      ap (λ o. slice_get (cut_for (world_of n earlier) paths (Some node) o).pieces p) as_is ∙
-      ap (λ q. slice_get ((world_of n earlier).pieces ++ record { entries = cut node.store ask.versions paths; asker = ask.node; had = at_paths paths node.took } ∷ []) q) (sym number) ∙
+  cut_piece : (earlier : List Event) (j a : ℕ) (places : Option (List PlaceParts)) (p : ℕ) → length (world_of n earlier).pieces ≡ p → (node : Node) → slice_get (world_of n earlier).nodes j ≡ Some node → (ask : Asked) → slice_get (world_of n earlier).asks a ≡ Some ask →
+      slice_get (world_of n (Cut j a places ∷ earlier)).pieces p ≡ Some (record { entries = cut node.store ask.versions places; asker = ask.node; had = at_places places node.took })
+  cut_piece earlier j a places p number node nd ask as_is =
+      ap (λ o. slice_get (cut_for (world_of n earlier) places o (slice_get (world_of n earlier).asks a)).pieces p) nd ∙
+      ap (λ o. slice_get (cut_for (world_of n earlier) places (Some node) o).pieces p) as_is ∙
+      ap (λ q. slice_get ((world_of n earlier).pieces ++ record { entries = cut node.store ask.versions places; asker = ask.node; had = at_places places node.took } ∷ []) q) (sym number) ∙
       slice_get_last (world_of n earlier).pieces _
 
   took_by_piece : (history : List Event) (p k : ℕ) (piece : Piece) (e : Edit) → k < n → slice_get (world_of n history).pieces p ≡ Some piece → IsAmong e (edits_with piece k) → IsAmong e (took (world_of n (Give p k ∷ history)) k)
@@ -215,18 +215,18 @@ module _ (n : ℕ) where
   pub took_complete : {history : List Event} {k : ℕ} {e : Edit} → Took n history k e → IsAmong e (took (world_of n history) k)
   took_complete (put {history = history} {k = k} {e = e} within) = took_new k (sum_of (e ∷ [])) (e ∷ []) (world_of n history).nodes e (subst (λ (c : ℕ). k < c) (sym (node_count n history)) within) (inl refl)
   took_complete (entry {history = history} {p = p} {k = k} {e = e} piece within there h) = took_by_piece history p k piece e within there (IsAmong-append_left e (edits_of piece.entries) _ h)
-  took_complete (whole {history = history} {p = p} {k = k} {e = e} earlier j a paths within was ask asked t) =
+  took_complete (whole {history = history} {p = p} {k = k} {e = e} earlier j a places within was ask asked t) =
       let had : IsAmong e (took (world_of n earlier) j) = took_complete t in
       let node = some_value (slice_get (world_of n earlier).nodes j) was.by_node in
-      let piece : Piece = record { entries = cut node.0.store ask.0.versions paths; asker = ask.0.node; had = at_paths paths node.0.took } in
+      let piece : Piece = record { entries = cut node.0.store ask.0.versions places; asker = ask.0.node; had = at_places places node.0.took } in
       let there : slice_get (world_of n history).pieces p ≡ Some piece =
       subst (λ (es : List Event). slice_get (world_of n es).pieces p ≡ Some piece) (sym was.is)
-      (pieces_stay was.later (Cut j a paths ∷ earlier) p piece (cut_piece earlier j a paths p was.number node.0 node.1 ask.0 ask.1))
+      (pieces_stay was.later (Cut j a places ∷ earlier) p piece (cut_piece earlier j a places p was.number node.0 node.1 ask.0 ask.1))
       in
       let had_node : IsAmong e node.0.took = subst (λ (o : Option Node). IsAmong e (took_by o)) node.1 had in
       took_by_piece history p k piece e within there
       (IsAmong-append_right e (edits_of piece.entries) _
-      (subst (λ (b : Bool). IsAmong e (cond b piece.had [])) (sym (eq-eqb ask.0.node k ask.2)) (filter_keeps (λ f. is_asked f.path paths) e node.0.took had_node asked)))
+      (subst (λ (b : Bool). IsAmong e (cond b piece.had [])) (sym (eq-eqb ask.0.node k ask.2)) (filter_keeps (λ f. is_asked f.place places) e node.0.took had_node asked)))
   took_complete (stays {history = history} {k = k} {e = e} event t) = took_stays (world_of n history) event k e (took_complete t)
 
   -- the machine's took sets are those that the events tell
@@ -258,7 +258,7 @@ module _ (n : ℕ) where
       record {
         above = λ e t.
             let among : IsAmong e node.took = subst (λ (xs : List Edit). IsAmong e xs) same (took_complete t) in
-            subst (λ (y : Option Entry). IsBelow (Some (entry_of e)) y) (sym (ap (λ (s : EntryMap). finmap.get s e.path) sums ∙ get-sum_of node.took e.path)) (greatest_at-above e node.took among);
+            subst (λ (y : Option Entry). IsBelow (Some (entry_of e)) y) (sym (ap (λ (s : EntryMap). finmap.get s e.place) sums ∙ get-sum_of node.took e.place)) (greatest_at-above e node.took among);
         found = λ q x h.
             let among : IsAmong (edit_of (q, x)) node.took = greatest_at-found q node.took x (sym (ap (λ (s : EntryMap). finmap.get s q) sums ∙ get-sum_of node.took q) ∙ h) in
             (took_is (reverse events) k (edit_of (q, x))).0 (subst (λ (xs : List Edit). IsAmong (edit_of (q, x)) xs) (sym same) among);

@@ -1,4 +1,4 @@
--- What asks and cuts hold at a path.
+-- What asks and cuts hold at a place.
 use Rattle.std.proofs.Common.{◌≡◌, Bool, true, false, cond, Option, Some, None, List, [], ◌∷◌, ◌++◌, map, refl, sym, ap, subst, ◌∙◌}
 use Rattle.std.specs.Option.{option_map}
 use Rattle.std.specs.declared.cmp.Ordering.TheVariants.{Less, Equal, Greater}
@@ -8,8 +8,8 @@ use Rattle.std.specs.FinMap.{find}
 use Rattle.list_laws.specs.Members.{IsAmong-append_left, IsAmong-append_right}
 use Rattle.join_law.specs.VersionOrder.{version_cmp}
 use Rattle.join_law.specs.VersionOrderLaws.{version_cmp-IsAntisymmetric}
-use Rattle.load_path.specs.Paths.{PathParts, path_cmp}
-use Rattle.load_path.specs.PathLaws.{path_cmp_total}
+use Rattle.load_places.specs.Places.{PlaceParts, place_cmp}
+use Rattle.load_places.specs.PlaceLaws.{place_cmp_total}
 use Rattle.edit_sums.specs.Entries.{Entry}
 use Rattle.edit_sums.specs.declared.entries.Edit.{Edit}
 use Rattle.edit_sums.specs.Contents.{content_cmp}
@@ -19,48 +19,48 @@ use Rattle.edit_sums.specs.Sums.{EntryMap, entry_of, edit_of, IsHonest, greatest
 use Rattle.edit_sums.specs.GreatestLaws.{tied, passed, get-sum_of, get-join, greatest_at-filter, passed_was}
 use Rattle.edit_sums.specs.SumLaws.{same_store}
 use Rattle.edit_sums.specs.CounterLaws.{edits_of-found}
-use Rattle.world_law.specs.Cuts.{VersionMap, digest_of, is_newer, is_asked, at_paths, is_wanted, cut, only_at}
+use Rattle.world_law.specs.Cuts.{VersionMap, digest_of, is_newer, is_asked, at_places, is_wanted, cut, only_at}
 
-pub get-cut : (s : EntryMap) (ask : VersionMap) (paths : Option (List PathParts)) (q : PathParts) → finmap.get (cut s ask paths) q ≡ passed (is_wanted ask paths) q (finmap.get s q)
-get-cut s ask paths q = get-sum_of _ q ∙ greatest_at-filter (is_wanted ask paths) q s
+pub get-cut : (s : EntryMap) (ask : VersionMap) (places : Option (List PlaceParts)) (q : PlaceParts) → finmap.get (cut s ask places) q ≡ passed (is_wanted ask places) q (finmap.get s q)
+get-cut s ask places q = get-sum_of _ q ∙ greatest_at-filter (is_wanted ask places) q s
 
-find_versions : (q : PathParts) (es : List (PathParts × Entry)) → find path_cmp q (map (λ p. (p.0, p.1.version)) es) ≡ option_map (λ x. x.version) (find path_cmp q es)
+find_versions : (q : PlaceParts) (es : List (PlaceParts × Entry)) → find place_cmp q (map (λ p. (p.0, p.1.version)) es) ≡ option_map (λ x. x.version) (find place_cmp q es)
 find_versions q [] = refl
 find_versions q (e ∷ es) =
-    ap (cond (eq_by_cmp path_cmp q e.0) (Some e.1.version)) (find_versions q es) ∙
-    elim (eq_by_cmp path_cmp q e.0) as (λ b. cond b (Some e.1.version) (option_map (λ x. x.version) (find path_cmp q es)) ≡ option_map (λ x. x.version) (cond b (Some e.1) (find path_cmp q es))) [ true ↦ refl | false ↦ refl ]
+    ap (cond (eq_by_cmp place_cmp q e.0) (Some e.1.version)) (find_versions q es) ∙
+    elim (eq_by_cmp place_cmp q e.0) as (λ b. cond b (Some e.1.version) (option_map (λ x. x.version) (find place_cmp q es)) ≡ option_map (λ x. x.version) (cond b (Some e.1) (find place_cmp q es))) [ true ↦ refl | false ↦ refl ]
 
-pub get-digest_of : (s : EntryMap) (q : PathParts) → finmap.get (digest_of s) q ≡ option_map (λ x. x.version) (finmap.get s q)
+pub get-digest_of : (s : EntryMap) (q : PlaceParts) → finmap.get (digest_of s) q ≡ option_map (λ x. x.version) (finmap.get s q)
 get-digest_of s q =
-    finmap.get-from_entries path_cmp_total (map (λ p. (p.0, p.1.version)) (finmap.entries s)) q ∙ find_versions q (finmap.entries s) ∙
+    finmap.get-from_entries place_cmp_total (map (λ p. (p.0, p.1.version)) (finmap.entries s)) q ∙ find_versions q (finmap.entries s) ∙
     ap (option_map (λ x. x.version)) (sym (finmap.get-entries s q))
 
 nothing : (b : Bool) → ◌≡◌ {A = Option Entry} None (cond b None None)
 nothing true = refl
 nothing false = refl
 
--- the edits at the asked paths
-pub greatest_at-at_paths : (paths : Option (List PathParts)) (q : PathParts) (es : List Edit) → greatest_at q (at_paths paths es) ≡ cond (is_asked q paths) (greatest_at q es) None
-greatest_at-at_paths paths q [] = nothing (is_asked q paths)
-greatest_at-at_paths paths q (e ∷ es) =
-    let rest : greatest_at q (at_paths paths es) ≡ cond (is_asked q paths) (greatest_at q es) None = greatest_at-at_paths paths q es in
-    elim (eq_by_cmp path_cmp q e.path) as (λ b. eq_by_cmp path_cmp q e.path ≡ b → greatest_at q (cond (is_asked e.path paths) (e ∷ at_paths paths es) (at_paths paths es)) ≡ cond (is_asked q paths) (cond b (larger (Some (entry_of e)) (greatest_at q es)) (greatest_at q es)) None) [
+-- the edits at the asked places
+pub greatest_at-at_places : (places : Option (List PlaceParts)) (q : PlaceParts) (es : List Edit) → greatest_at q (at_places places es) ≡ cond (is_asked q places) (greatest_at q es) None
+greatest_at-at_places places q [] = nothing (is_asked q places)
+greatest_at-at_places places q (e ∷ es) =
+    let rest : greatest_at q (at_places places es) ≡ cond (is_asked q places) (greatest_at q es) None = greatest_at-at_places places q es in
+    elim (eq_by_cmp place_cmp q e.place) as (λ b. eq_by_cmp place_cmp q e.place ≡ b → greatest_at q (cond (is_asked e.place places) (e ∷ at_places places es) (at_places places es)) ≡ cond (is_asked q places) (cond b (larger (Some (entry_of e)) (greatest_at q es)) (greatest_at q es)) None) [
       | true ↦ λ t.
-          let here : q ≡ e.path = tied q e.path t in
-          ap (λ (k : PathParts). greatest_at q (cond (is_asked k paths) (e ∷ at_paths paths es) (at_paths paths es))) (sym here) ∙
-          elim (is_asked q paths) as (λ c. greatest_at q (at_paths paths es) ≡ cond c (greatest_at q es) None → greatest_at q (cond c (e ∷ at_paths paths es) (at_paths paths es)) ≡ cond c (larger (Some (entry_of e)) (greatest_at q es)) None) [
-            | true ↦ λ r. ap (λ b. cond b (larger (Some (entry_of e)) (greatest_at q (at_paths paths es))) (greatest_at q (at_paths paths es))) t ∙ ap (larger (Some (entry_of e))) r
+          let here : q ≡ e.place = tied q e.place t in
+          ap (λ (k : PlaceParts). greatest_at q (cond (is_asked k places) (e ∷ at_places places es) (at_places places es))) (sym here) ∙
+          elim (is_asked q places) as (λ c. greatest_at q (at_places places es) ≡ cond c (greatest_at q es) None → greatest_at q (cond c (e ∷ at_places places es) (at_places places es)) ≡ cond c (larger (Some (entry_of e)) (greatest_at q es)) None) [
+            | true ↦ λ r. ap (λ b. cond b (larger (Some (entry_of e)) (greatest_at q (at_places places es))) (greatest_at q (at_places places es))) t ∙ ap (larger (Some (entry_of e))) r
             | false ↦ λ r. r
           ] rest
-      | false ↦ λ t. elim (is_asked e.path paths) as (λ c. greatest_at q (cond c (e ∷ at_paths paths es) (at_paths paths es)) ≡ greatest_at q (at_paths paths es)) [
-        | true ↦ ap (λ b. cond b (larger (Some (entry_of e)) (greatest_at q (at_paths paths es))) (greatest_at q (at_paths paths es))) t
+      | false ↦ λ t. elim (is_asked e.place places) as (λ c. greatest_at q (cond c (e ∷ at_places places es) (at_places places es)) ≡ greatest_at q (at_places places es)) [
+        | true ↦ ap (λ b. cond b (larger (Some (entry_of e)) (greatest_at q (at_places places es))) (greatest_at q (at_places places es))) t
         | false ↦ refl
       ] ∙ rest
     ] refl
 
 -- a cut has nothing that the store has not
-pub get_from_cut : (s : EntryMap) (ask : VersionMap) (paths : Option (List PathParts)) (q : PathParts) (x : Entry) → finmap.get (cut s ask paths) q ≡ Some x → finmap.get s q ≡ Some x
-get_from_cut s ask paths q x h = passed_was (is_wanted ask paths) q (finmap.get s q) x (sym (get-cut s ask paths q) ∙ h)
+pub get_from_cut : (s : EntryMap) (ask : VersionMap) (places : Option (List PlaceParts)) (q : PlaceParts) (x : Entry) → finmap.get (cut s ask places) q ≡ Some x → finmap.get s q ≡ Some x
+get_from_cut s ask places q x h = passed_was (is_wanted ask places) q (finmap.get s q) x (sym (get-cut s ask places q) ∙ h)
 
 -- an entry of a version that is not greater is at most the other, where versions tell edits apart
 pub not_greater : (x y : Entry) → is_gt (version_cmp x.version y.version) ≡ false → (x.version ≡ y.version → x ≡ y) → IsBelow (Some x) (Some y)
@@ -74,12 +74,12 @@ not_greater x y h same =
       | Greater ↦ λ e g. cc
     ] refl h
 
--- at a path
-at_path : (q : PathParts) (y z : Option Entry) → ((x v : Entry) → y ≡ Some v → z ≡ Some x → x.version ≡ v.version → x ≡ v) →
+-- at a place
+at_place : (q : PlaceParts) (y z : Option Entry) → ((x v : Entry) → y ≡ Some v → z ≡ Some x → x.version ≡ v.version → x ≡ v) →
     (ask : VersionMap) → finmap.get ask q ≡ option_map (λ x. x.version) y → larger y (passed (is_wanted ask None) q z) ≡ larger y z
-at_path q y None honest ask is = refl
-at_path q None (Some x) honest ask is = ap (λ o. larger None (cond (is_newer x.version o) (Some x) None)) is
-at_path q (Some v) (Some x) honest ask is =
+at_place q y None honest ask is = refl
+at_place q None (Some x) honest ask is = ap (λ o. larger None (cond (is_newer x.version o) (Some x) None)) is
+at_place q (Some v) (Some x) honest ask is =
     ap (λ o. larger (Some v) (cond (is_newer x.version o) (Some x) None)) is ∙
     elim (is_gt (version_cmp x.version v.version)) as (λ b. is_gt (version_cmp x.version v.version) ≡ b → larger (Some v) (cond b (Some x) None) ≡ larger (Some v) (Some x)) [
       | true ↦ λ g. refl
@@ -95,8 +95,8 @@ whole_answer a b honest =
     λ x v ha hb same. ap entry_of (honest (edit_of (q, x)) (edit_of (q, v)) (IsAmong-append_right (edit_of (q, x)) (edits_of a) (edits_of b) (edits_of-found b q x hb)) (IsAmong-append_left (edit_of (q, v)) (edits_of a) (edits_of b) (edits_of-found a q v ha)) same)
     in
     get-join a (cut b (digest_of a) None) q ∙ ap (larger (finmap.get a q)) (get-cut b (digest_of a) None q) ∙
-    at_path q (finmap.get a q) (finmap.get b q) one (digest_of a) (get-digest_of a q) ∙ sym (get-join a b q))
+    at_place q (finmap.get a q) (finmap.get b q) one (digest_of a) (get-digest_of a q) ∙ sym (get-join a b q))
 
--- what is held at some paths, at a path
-pub get-only_at : (paths : List PathParts) (s : EntryMap) (q : PathParts) → finmap.get (only_at paths s) q ≡ passed (λ e. is_asked e.path (Some paths)) q (finmap.get s q)
-get-only_at paths s q = get-sum_of _ q ∙ greatest_at-filter (λ e. is_asked e.path (Some paths)) q s
+-- what is held at some places, at a place
+pub get-only_at : (places : List PlaceParts) (s : EntryMap) (q : PlaceParts) → finmap.get (only_at places s) q ≡ passed (λ e. is_asked e.place (Some places)) q (finmap.get s q)
+get-only_at places s q = get-sum_of _ q ∙ greatest_at-filter (λ e. is_asked e.place (Some places)) q s

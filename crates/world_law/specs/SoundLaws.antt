@@ -12,12 +12,12 @@ use Rattle.edit_sums.specs.Entries.{Entry}
 use Rattle.edit_sums.specs.declared.entries.Edit.{Edit}
 use Rattle.join_law.specs.VersionOrder.{version_cmp}
 use Rattle.edit_sums.specs.Entries.{IsBelow, larger}
-use Rattle.load_path.specs.Paths.{PathParts}
+use Rattle.load_places.specs.Places.{PlaceParts}
 use Rattle.edit_sums.specs.Sums.{EntryMap, entry_of, edit_of, IsStoreBelow, greatest_at, sum_of, edits_of, join}
-use Rattle.world_law.specs.Cuts.{VersionMap, digest_of, cut, is_asked, is_newer, is_wanted, at_paths}
+use Rattle.world_law.specs.Cuts.{VersionMap, digest_of, cut, is_asked, is_newer, is_wanted, at_places}
 use Rattle.edit_sums.specs.EntryLaws.{below_refl, below_trans, larger-left, larger-mono, larger-absorb, larger_comm, larger_assoc}
 use Rattle.edit_sums.specs.GreatestLaws.{passed, get-sum_of, get-join, get_from_edits_of, greatest_at-found, greatest_at-append, greatest_at-edits_of, IsAmong_from_filter}
-use Rattle.world_law.specs.CutLaws.{get-cut, get-digest_of, get_from_cut, greatest_at-at_paths, not_greater}
+use Rattle.world_law.specs.CutLaws.{get-cut, get-digest_of, get_from_cut, greatest_at-at_places, not_greater}
 use Rattle.edit_sums.specs.SumLaws.{same_store, sum_of-append, sum_of-edits_of, join-left}
 use Rattle.world_law.specs.declared.events.Event.{Event}
 use Rattle.world_law.specs.declared.events.Event.TheVariants.{Put, Ask, Cut, Give}
@@ -82,14 +82,14 @@ puts_first n (Put i f) events e a =
       | false ↦ λ h. absurd h
     ] a
 puts_first n (Ask i) events e a = absurd a
-puts_first n (Cut j b paths) events e a = absurd a
+puts_first n (Cut j b places) events e a = absurd a
 puts_first n (Give p k) events e a = absurd a
 
 pub puts_rest : (n : ℕ) (event : Event) (events : List Event) (e : Edit) → IsAmong e (puts_of n events) → IsAmong e (puts_of n (event ∷ events))
 puts_rest n (Put i f) events e a =
     elim (nat_lt i n) as (λ b. IsAmong e (cond b (f ∷ puts_of n events) (puts_of n events))) [ true ↦ inr a | false ↦ a ]
 puts_rest n (Ask i) events e a = a
-puts_rest n (Cut j b paths) events e a = a
+puts_rest n (Cut j b places) events e a = a
 puts_rest n (Give p k) events e a = a
 
 module _ (count : ℕ) (IsPut : Edit → Type 0) where
@@ -100,7 +100,7 @@ module _ (count : ℕ) (IsPut : Edit → Type 0) where
 
   -- each version of an ask is that of an entry that was put, and that is at most what the asker has now
   abbrev pub IsAskBelow : Asked → Node → Type 0
-  IsAskBelow a n = (q : PathParts) (v : Version) → finmap.get a.versions q ≡ Some v → (x : Entry) × (x.version ≡ v) × IsPut (edit_of (q, x)) × IsBelow (Some x) (finmap.get n.store q)
+  IsAskBelow a n = (q : PlaceParts) (v : Version) → finmap.get a.versions q ≡ Some v → (x : Entry) × (x.version ≡ v) × IsPut (edit_of (q, x)) × IsBelow (Some x) (finmap.get n.store q)
 
   -- what a piece stands for was put
   pub record IsPieceSound (p : Piece) : Type 0 where
@@ -109,7 +109,7 @@ module _ (count : ℕ) (IsPut : Edit → Type 0) where
 
   -- with the piece the asker has all that the piece was cut from
   abbrev pub IsCovered : Piece → Node → Type 0
-  IsCovered p n = (q : PathParts) → IsBelow (greatest_at q p.had) (larger (finmap.get p.entries q) (finmap.get n.store q))
+  IsCovered p n = (q : PlaceParts) → IsBelow (greatest_at q p.had) (larger (finmap.get p.entries q) (finmap.get n.store q))
 
   pub record IsSound (w : EventWorld) : Type 0 where
     pub length_is : length w.nodes ≡ count
@@ -199,7 +199,7 @@ module _ (count : ℕ) (IsPut : Edit → Type 0) where
 
   module _ (honest : (e f : Edit) → IsPut e → IsPut f → e.version ≡ f.version → e ≡ f) where
     -- what is cut for an ask and what the asker has are all that the cutting node has
-    covered_at : (x : Entry) (q : PathParts) (a : Asked) (asker : Node) (c : Bool) (o : Option Version) →
+    covered_at : (x : Entry) (q : PlaceParts) (a : Asked) (asker : Node) (c : Bool) (o : Option Version) →
         IsPut (edit_of (q, x)) → IsAskBelow a asker → finmap.get a.versions q ≡ o →
         IsBelow (cond c (Some x) None) (larger (cond (c && is_newer x.version o) (Some x) None) (finmap.get asker.store q))
     covered_at x q a asker false o put below is = tt
@@ -216,52 +216,52 @@ module _ (count : ℕ) (IsPut : Edit → Type 0) where
               below_trans (Some x) (Some r.0) (finmap.get asker.store q) small r.3
         ] refl
 
-    passed_at : (q : PathParts) (ask : VersionMap) (paths : Option (List PathParts)) (x : Entry) → passed (is_wanted ask paths) q (Some x) ≡ cond (is_asked q paths && is_newer x.version (finmap.get ask q)) (Some x) None
-    passed_at q ask paths x = refl
+    passed_at : (q : PlaceParts) (ask : VersionMap) (places : Option (List PlaceParts)) (x : Entry) → passed (is_wanted ask places) q (Some x) ≡ cond (is_asked q places && is_newer x.version (finmap.get ask q)) (Some x) None
+    passed_at q ask places x = refl
 
     -- a node cuts for an ask
-    cut_covers : (n asker : Node) (a : Asked) (paths : Option (List PathParts)) → IsNodeSound n → IsAskBelow a asker →
-        IsCovered (record { entries = cut n.store a.versions paths; asker = a.node; had = at_paths paths n.took }) asker
-    cut_covers n asker a paths sound below q =
+    cut_covers : (n asker : Node) (a : Asked) (places : Option (List PlaceParts)) → IsNodeSound n → IsAskBelow a asker →
+        IsCovered (record { entries = cut n.store a.versions places; asker = a.node; had = at_places places n.took }) asker
+    cut_covers n asker a places sound below q =
         let at : finmap.get n.store q ≡ greatest_at q n.took = ap (λ (s : EntryMap). finmap.get s q) sound.is_sum ∙ get-sum_of n.took q in
-        let had : greatest_at q (at_paths paths n.took) ≡ cond (is_asked q paths) (finmap.get n.store q) None = greatest_at-at_paths paths q n.took ∙ ap (λ (y : Option Entry). cond (is_asked q paths) y None) (sym at) in
-        let there : IsBelow (cond (is_asked q paths) (finmap.get n.store q) None) (larger (passed (is_wanted a.versions paths) q (finmap.get n.store q)) (finmap.get asker.store q)) =
-        elim (finmap.get n.store q) as (λ y. finmap.get n.store q ≡ y → IsBelow (cond (is_asked q paths) y None) (larger (passed (is_wanted a.versions paths) q y) (finmap.get asker.store q))) [
-          | None ↦ λ e. nothing_below (is_asked q paths) _
-          | Some x ↦ λ e. covered_at x q a asker (is_asked q paths) (finmap.get a.versions q) (sound.puts _ (greatest_at-found q n.took x (sym at ∙ e))) below refl
+        let had : greatest_at q (at_places places n.took) ≡ cond (is_asked q places) (finmap.get n.store q) None = greatest_at-at_places places q n.took ∙ ap (λ (y : Option Entry). cond (is_asked q places) y None) (sym at) in
+        let there : IsBelow (cond (is_asked q places) (finmap.get n.store q) None) (larger (passed (is_wanted a.versions places) q (finmap.get n.store q)) (finmap.get asker.store q)) =
+        elim (finmap.get n.store q) as (λ y. finmap.get n.store q ≡ y → IsBelow (cond (is_asked q places) y None) (larger (passed (is_wanted a.versions places) q y) (finmap.get asker.store q))) [
+          | None ↦ λ e. nothing_below (is_asked q places) _
+          | Some x ↦ λ e. covered_at x q a asker (is_asked q places) (finmap.get a.versions q) (sound.puts _ (greatest_at-found q n.took x (sym at ∙ e))) below refl
         ] refl
         in
-        subst (λ (y : Option Entry). IsBelow y (larger (finmap.get (cut n.store a.versions paths) q) (finmap.get asker.store q))) (sym had)
-        (subst (λ (y : Option Entry). IsBelow (cond (is_asked q paths) (finmap.get n.store q) None) (larger y (finmap.get asker.store q))) (sym (get-cut n.store a.versions paths q)) there)
+        subst (λ (y : Option Entry). IsBelow y (larger (finmap.get (cut n.store a.versions places) q) (finmap.get asker.store q))) (sym had)
+        (subst (λ (y : Option Entry). IsBelow (cond (is_asked q places) (finmap.get n.store q) None) (larger y (finmap.get asker.store q))) (sym (get-cut n.store a.versions places q)) there)
 
-    cut_puts : (n : Node) (a : Asked) (paths : Option (List PathParts)) → IsNodeSound n → IsPieceSound (record { entries = cut n.store a.versions paths; asker = a.node; had = at_paths paths n.took })
-    cut_puts n a paths sound = record {
+    cut_puts : (n : Node) (a : Asked) (places : Option (List PlaceParts)) → IsNodeSound n → IsPieceSound (record { entries = cut n.store a.versions places; asker = a.node; had = at_places places n.took })
+    cut_puts n a places sound = record {
       entries_put = λ e h.
-          let there : finmap.get n.store e.path ≡ Some (entry_of e) = get_from_cut n.store a.versions paths e.path (entry_of e) (get_from_edits_of e (cut n.store a.versions paths) h) in
-          let at : finmap.get n.store e.path ≡ greatest_at e.path n.took = ap (λ (s : EntryMap). finmap.get s e.path) sound.is_sum ∙ get-sum_of n.took e.path in
-          sound.puts e (greatest_at-found e.path n.took (entry_of e) (sym at ∙ there));
-      had_put = λ e h. sound.puts e (IsAmong_from_filter (λ f. is_asked f.path paths) e n.took h);
+          let there : finmap.get n.store e.place ≡ Some (entry_of e) = get_from_cut n.store a.versions places e.place (entry_of e) (get_from_edits_of e (cut n.store a.versions places) h) in
+          let at : finmap.get n.store e.place ≡ greatest_at e.place n.took = ap (λ (s : EntryMap). finmap.get s e.place) sound.is_sum ∙ get-sum_of n.took e.place in
+          sound.puts e (greatest_at-found e.place n.took (entry_of e) (sym at ∙ there));
+      had_put = λ e h. sound.puts e (IsAmong_from_filter (λ f. is_asked f.place places) e n.took h);
     }
 
-    cut_keeps : (w : EventWorld) (j a : ℕ) (paths : Option (List PathParts)) → IsSound w → IsSound (cut_for w paths (slice_get w.nodes j) (slice_get w.asks a))
-    cut_keeps w j a paths sound =
-        elim (slice_get w.nodes j) as (λ o. slice_get w.nodes j ≡ o → IsSound (cut_for w paths o (slice_get w.asks a))) [
+    cut_keeps : (w : EventWorld) (j a : ℕ) (places : Option (List PlaceParts)) → IsSound w → IsSound (cut_for w places (slice_get w.nodes j) (slice_get w.asks a))
+    cut_keeps w j a places sound =
+        elim (slice_get w.nodes j) as (λ o. slice_get w.nodes j ≡ o → IsSound (cut_for w places o (slice_get w.asks a))) [
           | None ↦ λ _. sound
-          | Some n ↦ λ hn. elim (slice_get w.asks a) as (λ o. slice_get w.asks a ≡ o → IsSound (cut_for w paths (Some n) o)) [
+          | Some n ↦ λ hn. elim (slice_get w.asks a) as (λ o. slice_get w.asks a ≡ o → IsSound (cut_for w places (Some n) o)) [
             | None ↦ λ _. sound
             | Some ask ↦ λ ha. record {
               length_is = sound.length_is;
               nodes = sound.nodes;
               asks = sound.asks;
-              pieces = λ i p hp. elim (slice_get-push_cases w.pieces (record { entries = cut n.store ask.versions paths; asker = ask.node; had = at_paths paths n.took }) p i hp) [
+              pieces = λ i p hp. elim (slice_get-push_cases w.pieces (record { entries = cut n.store ask.versions places; asker = ask.node; had = at_places places n.took }) p i hp) [
                 | inl was ↦ sound.pieces i p was
-                | inr new ↦ subst (λ (b : Piece). IsPieceSound b) new (cut_puts n ask paths (sound.nodes j n hn))
+                | inr new ↦ subst (λ (b : Piece). IsPieceSound b) new (cut_puts n ask places (sound.nodes j n hn))
               ];
-              covers = λ i p m hp hm. elim (slice_get-push_cases w.pieces (record { entries = cut n.store ask.versions paths; asker = ask.node; had = at_paths paths n.took }) p i hp) [
+              covers = λ i p m hp hm. elim (slice_get-push_cases w.pieces (record { entries = cut n.store ask.versions places; asker = ask.node; had = at_places places n.took }) p i hp) [
                 | inl was ↦ sound.covers i p m was hm
                 | inr new ↦
                     let asker_is : slice_get w.nodes ask.node ≡ Some m = ap (λ (b : Piece). slice_get w.nodes b.asker) new ∙ hm in
-                    subst (λ (b : Piece). IsCovered b m) new (cut_covers n m ask paths (sound.nodes j n hn) (sound.asks a ask m ha asker_is))
+                    subst (λ (b : Piece). IsCovered b m) new (cut_covers n m ask places (sound.nodes j n hn) (sound.asks a ask m ha asker_is))
               ];
             }
           ] refl
@@ -314,7 +314,7 @@ module _ (count : ℕ) (IsPut : Edit → Type 0) where
     pub happens_keeps : (w : EventWorld) (event : Event) → IsSound w → ((e : Edit) → IsAmong e (puts_of count (event ∷ [])) → IsPut e) → IsSound (happens w event)
     happens_keeps w (Put i e) sound puts = put_keeps w i e sound (λ real. puts e (subst (λ (b : Bool). IsAmong e (cond b (e ∷ []) [])) (sym real) (inl refl)))
     happens_keeps w (Ask i) sound puts = ask_keeps w i sound
-    happens_keeps w (Cut j a paths) sound puts = cut_keeps w j a paths sound
+    happens_keeps w (Cut j a places) sound puts = cut_keeps w j a places sound
     happens_keeps w (Give p k) sound puts = give_keeps w p k sound
 
     pub after_keeps : (events : List Event) (w : EventWorld) → IsSound w → ((e : Edit) → IsAmong e (puts_of count events) → IsPut e) → IsSound (after events w)

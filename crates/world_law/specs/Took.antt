@@ -6,7 +6,7 @@ use Rattle.list_laws.specs.Members.{IsAmong}
 use Rattle.edit_sums.specs.Entries.{Entry}
 use Rattle.edit_sums.specs.declared.entries.Edit.{Edit}
 use Rattle.edit_sums.specs.Entries.{IsBelow}
-use Rattle.load_path.specs.Paths.{PathParts}
+use Rattle.load_places.specs.Places.{PlaceParts}
 use Rattle.edit_sums.specs.Sums.{EntryMap, IsHonest, edits_of, edit_of, entry_of}
 use Rattle.world_law.specs.Cuts.{is_asked}
 use Rattle.world_law.specs.declared.events.Event.{Event}
@@ -18,10 +18,10 @@ abbrev pub world_of : ℕ → List Event → EventWorld
 world_of n [] = blank n
 world_of n (e ∷ es) = happens (world_of n es) e
 
--- the p-th piece of a history was cut by node j for the a-th ask at the paths, after an earlier history
-pub record WasCut (n : ℕ) (history : List Event) (p : ℕ) (earlier : List Event) (j a : ℕ) (paths : Option (List PathParts)) : Type 0 where
+-- the p-th piece of a history was cut by node j for the a-th ask at the places, after an earlier history
+pub record WasCut (n : ℕ) (history : List Event) (p : ℕ) (earlier : List Event) (j a : ℕ) (places : Option (List PlaceParts)) : Type 0 where
   pub later : List Event
-  pub is : history ≡ later ++ Cut j a paths ∷ earlier
+  pub is : history ≡ later ++ Cut j a places ∷ earlier
   pub number : length (world_of n earlier).pieces ≡ p
   pub by_node : IsSome (slice_get (world_of n earlier).nodes j)
   pub for_ask : IsSome (slice_get (world_of n earlier).asks a)
@@ -36,16 +36,16 @@ pub data Took (n : ℕ) : List Event → ℕ → Edit → Type 0 where
   put : {history : List Event} {k : ℕ} {e : Edit} → k < n → Took n (Put k e ∷ history) k e
   -- e is an entry of a piece that was given to it
   entry : {history : List Event} {p k : ℕ} {e : Edit} (piece : Piece) → k < n → slice_get (world_of n history).pieces p ≡ Some piece → IsAmong e (edits_of piece.entries) → Took n (Give p k ∷ history) k e
-  -- the piece had been cut for its own ask, and the cutting node had taken e by then, at one of the paths
-  whole : {history : List Event} {p k : ℕ} {e : Edit} (earlier : List Event) (j a : ℕ) (paths : Option (List PathParts)) → k < n → WasCut n history p earlier j a paths → IsAskOf (world_of n earlier) a k →
-      is_asked e.path paths ≡ true → Took n earlier j e → Took n (Give p k ∷ history) k e
+  -- the piece had been cut for its own ask, and the cutting node had taken e by then, at one of the places
+  whole : {history : List Event} {p k : ℕ} {e : Edit} (earlier : List Event) (j a : ℕ) (places : Option (List PlaceParts)) → k < n → WasCut n history p earlier j a places → IsAskOf (world_of n earlier) a k →
+      is_asked e.place places ≡ true → Took n earlier j e → Took n (Give p k ∷ history) k e
   -- it had taken e before
   stays : {history : List Event} {k : ℕ} {e : Edit} (event : Event) → Took n history k e → Took n (event ∷ history) k e
 
--- the greatest at each path of the edits of which T holds, and nothing else
+-- the greatest at each place of the edits of which T holds, and nothing else
 pub record IsSumOf (T : Edit → Type 0) (s : EntryMap) : Type 0 where
-  pub above : (e : Edit) → T e → IsBelow (Some (entry_of e)) (finmap.get s e.path)
-  pub found : (q : PathParts) (x : Entry) → finmap.get s q ≡ Some x → T (edit_of (q, x))
+  pub above : (e : Edit) → T e → IsBelow (Some (entry_of e)) (finmap.get s e.place)
+  pub found : (q : PlaceParts) (x : Entry) → finmap.get s q ≡ Some x → T (edit_of (q, x))
 
 -- each node's store is the sum of what it took
 abbrev pub HoldsTheSum : ℕ → List Event → Type 0

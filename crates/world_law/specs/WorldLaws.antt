@@ -5,7 +5,7 @@ use Rattle.std.proofs.lemmas.Bool.{cond-true}
 use Rattle.std.proofs.lemmas.Bool.Decides.{nat_tests}
 use Rattle.std.specs.FinMap as finmap
 use Rattle.list_laws.specs.Members.{IsAmong, IsAmong-append_cases, IsAmong-append_left}
-use Rattle.load_path.specs.Paths.{PathParts}
+use Rattle.load_places.specs.Places.{PlaceParts}
 use Rattle.edit_sums.specs.declared.entries.Edit.{Edit}
 use Rattle.edit_sums.specs.Sums.{EntryMap, IsHonest, entry_of, sum_of, edits_of, join}
 use Rattle.edit_sums.specs.GreatestLaws.{get_from_edits_of}
@@ -13,7 +13,7 @@ use Rattle.edit_sums.specs.SumLaws.{sum_of-IsSum}
 use Rattle.world_law.specs.CutLaws.{whole_answer}
 use Rattle.world_law.specs.declared.events.Event.{Event}
 use Rattle.world_law.specs.declared.events.Event.TheVariants.{Put, Ask, Cut, Give}
-use Rattle.world_law.specs.Cuts.{digest_of, cut, at_paths}
+use Rattle.world_law.specs.Cuts.{digest_of, cut, at_places}
 use Rattle.world_law.specs.Worlds.{Node, Asked, Piece, EventWorld, taken, changed_at, asked_by, cut_for, edits_with, given_to, happens, puts_of, took, took_by, AreWithin, with_new_node}
 use Rattle.world_law.specs.Took.{world_of}
 use Rattle.world_law.specs.SoundLaws.{IsSound, blank_sound, happens_keeps, puts_first, puts_rest}
@@ -38,9 +38,9 @@ node_count n (Ask i ∷ es) = by (slice_get (world_of n es).nodes i) (node_count
     by : (o : Option Node) → length (world_of n es).nodes ≡ n → length (asked_by (world_of n es) i o).nodes ≡ n
     by None h = h
     by (Some node) h = h
-node_count n (Cut j a paths ∷ es) = by (slice_get (world_of n es).nodes j) (slice_get (world_of n es).asks a) (node_count n es)
+node_count n (Cut j a places ∷ es) = by (slice_get (world_of n es).nodes j) (slice_get (world_of n es).asks a) (node_count n es)
   where
-    by : (o : Option Node) (q : Option Asked) → length (world_of n es).nodes ≡ n → length (cut_for (world_of n es) paths o q).nodes ≡ n
+    by : (o : Option Node) (q : Option Asked) → length (world_of n es).nodes ≡ n → length (cut_for (world_of n es) places o q).nodes ≡ n
     by None q h = h
     by (Some node) None h = h
     by (Some node) (Some ask) h = h
@@ -91,13 +91,13 @@ one_node_more n (Ask i ∷ es) h =
     by : (o : Option Node) → asked_by (with_new_node (world_of n es)) i o ≡ with_new_node (asked_by (world_of n es) i o)
     by None = refl
     by (Some node) = refl
-one_node_more n (Cut j a paths ∷ es) h =
+one_node_more n (Cut j a places ∷ es) h =
     let w = world_of n es in
-    ap (λ (v : EventWorld). happens v (Cut j a paths)) (one_node_more n es h.1)
-    ∙ ap (λ (o : Option Node). cut_for (with_new_node w) paths o (slice_get w.asks a)) (within_push w.nodes _ j (omega (arith, node_count n es, h.0)))
+    ap (λ (v : EventWorld). happens v (Cut j a places)) (one_node_more n es h.1)
+    ∙ ap (λ (o : Option Node). cut_for (with_new_node w) places o (slice_get w.asks a)) (within_push w.nodes _ j (omega (arith, node_count n es, h.0)))
     ∙ by (slice_get w.nodes j) (slice_get w.asks a)
   where
-    by : (o : Option Node) (q : Option Asked) → cut_for (with_new_node (world_of n es)) paths o q ≡ with_new_node (cut_for (world_of n es) paths o q)
+    by : (o : Option Node) (q : Option Asked) → cut_for (with_new_node (world_of n es)) places o q ≡ with_new_node (cut_for (world_of n es) places o q)
     by None q = refl
     by (Some node) None = refl
     by (Some node) (Some ask) = refl
@@ -113,7 +113,7 @@ pub within_more : (n : ℕ) (history : List Event) → AreWithin n history → A
 within_more n [] h = tt
 within_more n (Put i e ∷ es) h = (let lt = h.0 in omega arith, within_more n es h.1)
 within_more n (Ask i ∷ es) h = (let lt = h.0 in omega arith, within_more n es h.1)
-within_more n (Cut j a paths ∷ es) h = (let lt = h.0 in omega arith, within_more n es h.1)
+within_more n (Cut j a places ∷ es) h = (let lt = h.0 in omega arith, within_more n es h.1)
 within_more n (Give p k ∷ es) h = (let lt = h.0 in omega arith, within_more n es h.1)
 
 lt_true : (i n : ℕ) → i < n → nat_lt i n ≡ true
@@ -126,7 +126,7 @@ puts_of-one_more n (Put i e ∷ es) h =
     let lt = h.0 in
     cond-true _ _ _ (lt_true i (suc n) (omega arith)) ∙ ap (λ (fs : List Edit). e ∷ fs) (puts_of-one_more n es h.1) ∙ sym (cond-true _ _ _ (lt_true i n lt))
 puts_of-one_more n (Ask i ∷ es) h = puts_of-one_more n es h.1
-puts_of-one_more n (Cut j a paths ∷ es) h = puts_of-one_more n es h.1
+puts_of-one_more n (Cut j a places ∷ es) h = puts_of-one_more n es h.1
 puts_of-one_more n (Give p k ∷ es) h = puts_of-one_more n es h.1
 
 -- the edits that are put, with one that a node puts
@@ -162,10 +162,10 @@ module _ (w : EventWorld) where
       by None = refl
       by (Some node) = refl
 
-  pub took-Cut : (j a : ℕ) (paths : Option (List PathParts)) (k : ℕ) → took (happens w (Cut j a paths)) k ≡ took w k
-  took-Cut j a paths k = by (slice_get w.nodes j) (slice_get w.asks a)
+  pub took-Cut : (j a : ℕ) (places : Option (List PlaceParts)) (k : ℕ) → took (happens w (Cut j a places)) k ≡ took w k
+  took-Cut j a places k = by (slice_get w.nodes j) (slice_get w.asks a)
     where
-      by : (o : Option Node) (q : Option Asked) → took (cut_for w paths o q) k ≡ took w k
+      by : (o : Option Node) (q : Option Asked) → took (cut_for w places o q) k ≡ took w k
       by None q = refl
       by (Some node) None = refl
       by (Some node) (Some ask) = refl
@@ -185,9 +185,9 @@ module _ (w : EventWorld) where
   pub asked_is : (i : ℕ) (node : Node) → slice_get w.nodes i ≡ Some node → happens w (Ask i) ≡ record w { asks = w.asks ++ record { node = i; versions = digest_of node.store } ∷ [] }
   asked_is i node is = ap (asked_by w i) is
 
-  pub cut_is : (j a : ℕ) (paths : Option (List PathParts)) (node : Node) (ask : Asked) → slice_get w.nodes j ≡ Some node → slice_get w.asks a ≡ Some ask
-      → happens w (Cut j a paths) ≡ record w { pieces = w.pieces ++ record { entries = cut node.store ask.versions paths; asker = ask.node; had = at_paths paths node.took } ∷ [] }
-  cut_is j a paths node ask at asked = ap (λ (o : Option Node). cut_for w paths o (slice_get w.asks a)) at ∙ ap (cut_for w paths (Some node)) asked
+  pub cut_is : (j a : ℕ) (places : Option (List PlaceParts)) (node : Node) (ask : Asked) → slice_get w.nodes j ≡ Some node → slice_get w.asks a ≡ Some ask
+      → happens w (Cut j a places) ≡ record w { pieces = w.pieces ++ record { entries = cut node.store ask.versions places; asker = ask.node; had = at_places places node.took } ∷ [] }
+  cut_is j a places node ask at asked = ap (λ (o : Option Node). cut_for w places o (slice_get w.asks a)) at ∙ ap (cut_for w places (Some node)) asked
 
 pub slice_get_last : {X : Type 0} (xs : List X) (x : X) → slice_get (xs ++ x ∷ []) (length xs) ≡ Some x
 slice_get_last [] x = refl
@@ -206,9 +206,9 @@ piece_stays w (Ask i) p piece h = by (slice_get w.nodes i)
     by : (o : Option Node) → slice_get (asked_by w i o).pieces p ≡ Some piece
     by None = h
     by (Some node) = h
-piece_stays w (Cut j a paths) p piece h = by (slice_get w.nodes j) (slice_get w.asks a)
+piece_stays w (Cut j a places) p piece h = by (slice_get w.nodes j) (slice_get w.asks a)
   where
-    by : (o : Option Node) (q : Option Asked) → slice_get (cut_for w paths o q).pieces p ≡ Some piece
+    by : (o : Option Node) (q : Option Asked) → slice_get (cut_for w places o q).pieces p ≡ Some piece
     by None q = h
     by (Some node) None = h
     by (Some node) (Some ask) = push_keeps w.pieces _ p piece h
@@ -229,7 +229,7 @@ taken_stays (suc i) (suc k) s xs (n ∷ ns) e h = taken_stays i k s xs ns e h
 pub took_stays : (w : EventWorld) (event : Event) (k : ℕ) (e : Edit) → IsAmong e (took w k) → IsAmong e (took (happens w event) k)
 took_stays w (Put i f) k e h = taken_stays i k (sum_of (f ∷ [])) (f ∷ []) w.nodes e h
 took_stays w (Ask i) k e h = subst (λ (es : List Edit). IsAmong e es) (sym (took-Ask w i k)) h
-took_stays w (Cut j a paths) k e h = subst (λ (es : List Edit). IsAmong e es) (sym (took-Cut w j a paths k)) h
+took_stays w (Cut j a places) k e h = subst (λ (es : List Edit). IsAmong e es) (sym (took-Cut w j a places k)) h
 took_stays w (Give p i) k e h = by (slice_get w.pieces p)
   where
     by : (o : Option Piece) → IsAmong e (took (given_to w i o) k)
@@ -281,7 +281,7 @@ given_is_joined n history honest p k piece is lt =
 held_was_put : (n : ℕ) (history : List Event) → IsHonest (puts_of n history) → (k : ℕ) (node : Node) → slice_get (world_of n history).nodes k ≡ Some node → (e : Edit) → IsAmong e (edits_of node.store) → IsAmong e (puts_of n history)
 held_was_put n history honest k node at e a =
     let sound = (world_sound n history history honest (λ f b. b)).nodes k node at in
-    sound.puts e ((sum_of-IsSum node.took).found e.path (entry_of e) (sym (ap (λ (s : EntryMap). finmap.get s e.path) sound.is_sum) ∙ get_from_edits_of e node.store a))
+    sound.puts e ((sum_of-IsSum node.took).found e.place (entry_of e) (sym (ap (λ (s : EntryMap). finmap.get s e.place) sound.is_sum) ∙ get_from_edits_of e node.store a))
 
 module _ (n : ℕ) (history : List Event) (honest : IsHonest (puts_of n history)) (j k : ℕ) (from : j < n) (to : k < n) where
   abbrev pub w : EventWorld
@@ -291,22 +291,22 @@ module _ (n : ℕ) (history : List Event) (honest : IsHonest (puts_of n history)
   a = length (world_of n history).asks
 
   -- what one node cuts for the ask that another has just made
-  pub answer_is : (paths : Option (List PathParts)) →
-      (piece : Piece) × (slice_get (world_of n (Cut j a paths ∷ Ask k ∷ history)).pieces (length w.pieces) ≡ Some piece) × (piece.entries ≡ cut (sum_of (took w j)) (digest_of (sum_of (took w k))) paths)
-  answer_is paths =
+  pub answer_is : (places : Option (List PlaceParts)) →
+      (piece : Piece) × (slice_get (world_of n (Cut j a places ∷ Ask k ∷ history)).pieces (length w.pieces) ≡ Some piece) × (piece.entries ≡ cut (sum_of (took w j)) (digest_of (sum_of (took w k))) places)
+  answer_is places =
       let there = node_at n history j from in
       let here = node_at n history k to in
       let ask : Asked = record { node = k; versions = digest_of here.0.store } in
       let asked : EventWorld = record w { asks = w.asks ++ ask ∷ [] } in
-      let piece : Piece = record { entries = cut there.0.store ask.versions paths; asker = k; had = at_paths paths there.0.took } in
-      let after_cut : happens (happens w (Ask k)) (Cut j a paths) ≡ record asked { pieces = w.pieces ++ piece ∷ [] } =
-      ap (λ (v : EventWorld). happens v (Cut j a paths)) (asked_is w k here.0 here.1) ∙ cut_is asked j a paths there.0 ask there.1 (slice_get_last w.asks ask) in (
+      let piece : Piece = record { entries = cut there.0.store ask.versions places; asker = k; had = at_places places there.0.took } in
+      let after_cut : happens (happens w (Ask k)) (Cut j a places) ≡ record asked { pieces = w.pieces ++ piece ∷ [] } =
+      ap (λ (v : EventWorld). happens v (Cut j a places)) (asked_is w k here.0 here.1) ∙ cut_is asked j a places there.0 ask there.1 (slice_get_last w.asks ask) in (
         piece,
         ap (λ (v : EventWorld). slice_get v.pieces (length w.pieces)) after_cut ∙ slice_get_last w.pieces piece,
-        λ i. cut (stores_are_sums n history honest j there.0 there.1 i) (digest_of (stores_are_sums n history honest k here.0 here.1 i)) paths,
+        λ i. cut (stores_are_sums n history honest j there.0 there.1 i) (digest_of (stores_are_sums n history honest k here.0 here.1 i)) places,
       )
 
-  -- a node that is given what another cut for its ask of now, at all paths, holds what both held
+  -- a node that is given what another cut for its ask of now, at all places, holds what both held
   pub merge_is_joined : sum_of (took (world_of n (Give (length w.pieces) k ∷ Cut j a None ∷ Ask k ∷ history)) k) ≡ join (sum_of (took w k)) (sum_of (took w j))
   merge_is_joined =
       let there = node_at n history j from in

@@ -4,9 +4,9 @@ use Rattle.std.specs.Prelude.{◌≡◌, ◌↔◌, ◌<◌, ℕ, zero, suc, if�
 use Rattle.std.specs.FinMap as finmap
 use Rattle.list_laws.specs.Members.{IsAmong}
 use Rattle.edit_sums.specs.declared.entries.Edit.{Edit}
-use Rattle.load_path.specs.Paths.{PathParts}
+use Rattle.load_places.specs.Places.{PlaceParts}
 use Rattle.edit_sums.specs.Sums.{EntryMap, IsAboveEdits, IsHonest, IsStoreBelow, sum_of, edits_of, join}
-use Rattle.world_law.specs.Cuts.{VersionMap, digest_of, cut, at_paths}
+use Rattle.world_law.specs.Cuts.{VersionMap, digest_of, cut, at_places}
 use Rattle.world_law.specs.declared.events.Event.{Event}
 use Rattle.world_law.specs.declared.events.Event.TheVariants.{Put, Ask, Cut, Give}
 
@@ -15,12 +15,12 @@ pub record Node : Type 0 where
   pub store : EntryMap
   pub took : List Edit
 
--- an ask: which node asked, and the version that it had at each path
+-- an ask: which node asked, and the version that it had at each place
 pub record Asked : Type 0 where
   pub node : ℕ
   pub versions : VersionMap
 
--- a piece: its entries, the node whose ask it was cut for, and all edits that the cutting node had taken then at the paths of the cut
+-- a piece: its entries, the node whose ask it was cut for, and all edits that the cutting node had taken then at the places of the cut
 pub record Piece : Type 0 where
   pub entries : EntryMap
   pub asker : ℕ
@@ -46,11 +46,11 @@ abbrev pub asked_by : EventWorld → ℕ → Option Node → EventWorld
 asked_by w i None = w
 asked_by w i (Some n) = record w { asks = w.asks ++ record { node = i; versions = digest_of n.store } ∷ [] }
 
-abbrev pub cut_for : EventWorld → Option (List PathParts) → Option Node → Option Asked → EventWorld
-cut_for w paths None ask = w
-cut_for w paths (Some n) None = w
-cut_for w paths (Some n) (Some ask) =
-    record w { pieces = w.pieces ++ record { entries = cut n.store ask.versions paths; asker = ask.node; had = at_paths paths n.took } ∷ [] }
+abbrev pub cut_for : EventWorld → Option (List PlaceParts) → Option Node → Option Asked → EventWorld
+cut_for w places None ask = w
+cut_for w places (Some n) None = w
+cut_for w places (Some n) (Some ask) =
+    record w { pieces = w.pieces ++ record { entries = cut n.store ask.versions places; asker = ask.node; had = at_places places n.took } ∷ [] }
 
 -- what a node takes with a piece: its entries, and all that it was cut from if the node itself had asked
 abbrev pub edits_with : Piece → ℕ → List Edit
@@ -64,7 +64,7 @@ given_to w k (Some p) = record w { nodes = changed_at k (taken p.entries (edits_
 abbrev pub happens : EventWorld → Event → EventWorld
 happens w (Put i e) = record w { nodes = changed_at i (taken (sum_of (e ∷ [])) (e ∷ [])) w.nodes }
 happens w (Ask i) = asked_by w i (slice_get w.nodes i)
-happens w (Cut j a paths) = cut_for w paths (slice_get w.nodes j) (slice_get w.asks a)
+happens w (Cut j a places) = cut_for w places (slice_get w.nodes j) (slice_get w.asks a)
 happens w (Give p k) = given_to w k (slice_get w.pieces p)
 
 -- the world after these events
@@ -81,7 +81,7 @@ abbrev pub puts_of : ℕ → List Event → List Edit
 puts_of n [] = []
 puts_of n (Put i e ∷ es) = if nat_lt i n then e ∷ puts_of n es else puts_of n es
 puts_of n (Ask i ∷ es) = puts_of n es
-puts_of n (Cut j a paths ∷ es) = puts_of n es
+puts_of n (Cut j a places ∷ es) = puts_of n es
 puts_of n (Give p k ∷ es) = puts_of n es
 
 -- each node's store is the sum of what it took
@@ -119,7 +119,7 @@ abbrev pub AreWithin : ℕ → List Event → Type 0
 AreWithin n [] = Unit {0}
 AreWithin n (Put i e ∷ es) = (i < n) × AreWithin n es
 AreWithin n (Ask i ∷ es) = (i < n) × AreWithin n es
-AreWithin n (Cut j a paths ∷ es) = (j < n) × AreWithin n es
+AreWithin n (Cut j a places ∷ es) = (j < n) × AreWithin n es
 AreWithin n (Give p k ∷ es) = (k < n) × AreWithin n es
 
 -- the world with one node more, with nothing in it

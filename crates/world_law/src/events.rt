@@ -2,35 +2,35 @@
 ghost use Rattle.std.specs.Prelude.{◌≡◌};
 
 use edit_sums::Edit;
-use load_path::Path;
+use load_places::Place;
 use std::marker::Model;
 
-/// Some paths, as a list.
+/// Some places, as a list.
 #[derive(Debug, Drop)]
-pub struct Paths {
-    items: Vec<Path>,
+pub struct Places {
+    items: Vec<Place>,
 }
 
-impl Model for Paths {
+impl Model for Places {
     ghost use Rattle.std.specs.Prelude.{List};
-    ghost use Rattle.load_path.specs.Paths.{PathParts};
+    ghost use Rattle.load_places.specs.Places.{PlaceParts};
 
-    ghost Value = { List PathParts };
+    ghost Value = { List PlaceParts };
 
     ghost view = { λ p. p.items.items };
 }
 
-impl Paths {
-    /// These paths. It takes no memory.
-    pub fn new(items: Vec<Path>) -> Paths
-        ensures paths { result ≡ items.items }
+impl Places {
+    /// These places. It takes no memory.
+    pub fn new(items: Vec<Place>) -> Places
+        ensures places { result ≡ items.items }
     {
-        Paths { items }
+        Places { items }
     }
 
-    /// The paths, without a copy.
-    pub fn as_slice(&self) -> &[Path]
-        ensures paths { result.now ≡ self.now }
+    /// The places, without a copy.
+    pub fn as_slice(&self) -> &[Place]
+        ensures places { result.now ≡ self.now }
     {
         &self.items
     }
@@ -46,16 +46,16 @@ pub enum Event {
         node: usize,
         edit: Edit,
     },
-    /// A node asks: it tells the version that it holds at each path.
+    /// A node asks: it tells the version that it holds at each place.
     Ask {
         node: usize,
     },
-    /// A node cuts a piece for an ask: what it holds, at these paths or at all, whose version is
-    /// greater than the ask's, or whose path the ask lacks.
+    /// A node cuts a piece for an ask: what it holds, at these places or at all, whose version is
+    /// greater than the ask's, or whose place the ask lacks.
     Cut {
         node: usize,
         ask: usize,
-        paths: Option<Paths>,
+        places: Option<Places>,
     },
     /// A node is given a piece.
     Give {

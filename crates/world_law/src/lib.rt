@@ -10,5 +10,5 @@
 mod events;
 mod laws;
 
-pub use events::{Event, Paths};
+pub use events::{Event, Places};
 pub use laws::{converges, took_as_told, whole_answers};

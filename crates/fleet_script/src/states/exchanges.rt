@@ -1,6 +1,6 @@
 //! Commands between nodes: what one node holds reaches another.
 ghost use Rattle.std.specs.Prelude.{◌≡◌, ◌<◌, vec_len, IfOk, OnOk, slice_index_or};
-ghost use Rattle.edit_sums.specs.Sums.{changed_paths};
+ghost use Rattle.edit_sums.specs.Sums.{changed_places};
 ghost use Rattle.replica_store.specs.Replicas.{Replicated};
 ghost use Rattle.world_law.specs.Cuts.{cut, digest_of};
 ghost use Rattle.script_commands.specs.declared.commands.Command.TheVariants.{Merge, Part, Send, Sweep};
@@ -88,7 +88,7 @@ impl Shell {
         requires from_within { from < vec_len self.old.nodes }
         requires to_within { to < vec_len self.old.nodes }
         ensures joined { OnOk result (IsJoinedAt (kept_in self.old) from to (kept_in self.new)) }
-        ensures changed { IfOk result (λ changed. (d : Replicated) → changed ≡ changed_paths
+        ensures changed { IfOk result (λ changed. (d : Replicated) → changed ≡ changed_places
             (slice_index_or self.old.nodes.items to d).store (slice_index_or self.new.nodes.items to d).store) }
         ensures crew { self.new.workers ≡ self.old.workers }
     {

@@ -16,8 +16,8 @@ returns-then-not-is_newer c =
 pub returns : goal.returns
 returns c =
     let newer = ap (is_newer c.in-Some.entry.now.version) (sym c.get-2.ensures.version) ∙ sym c.is_newer.ensures.newer ∙ c.if-not-is_newer.false in
-    let joined = join_newer _ _ c.args.path.now c.args.newer.now c.in-Some.entry.now (sym c.in-Some.ensures.held) newer in
-    let same : with_edit c.args.newer.now (edit_of (c.in_ok-try_clone.field-0, c.in_ok-version.field-0)) ≡ with_edit c.args.newer.now (edit_of (c.args.path.now, c.in-Some.entry.now)) =
+    let joined = join_newer _ _ c.args.place.now c.args.newer.now c.in-Some.entry.now (sym c.in-Some.ensures.held) newer in
+    let same : with_edit c.args.newer.now (edit_of (c.in_ok-try_clone.field-0, c.in_ok-version.field-0)) ≡ with_edit c.args.newer.now (edit_of (c.args.place.now, c.in-Some.entry.now)) =
     λ i. with_edit c.args.newer.now (edit_of (c.in_ok-try_clone.ensures.copy i, c.in_ok-version.ensures.copy i))
     in
     record { ok = subst (λ (m : EntryMap). OnOk c.join_edit.result (c.join_edit.new.self ≡ m)) (same ∙ joined) c.join_edit.ensures.ok }

@@ -4,11 +4,11 @@ use Rattle.world_law.specs.Cuts.{cut}
 use Rattle.delta_pieces.proofs.Gathers.{cut_nowhere, cut_at_more}
 use Rattle.delta_pieces.proofs.newer.newer_at.Goals as goal
 
-pub loop-path-init : goal.loop-path-init
-loop-path-init c = c.new-newer.ensures.empty ∙ sym (cut_nowhere c.args.store.now c.args.asked.now)
+pub loop-place-init : goal.loop-place-init
+loop-place-init c = c.new-newer.ensures.empty ∙ sym (cut_nowhere c.args.store.now c.args.asked.now)
 
-pub loop-path-preserved : goal.loop-path-preserved
-loop-path-preserved c =
+pub loop-place-preserved : goal.loop-place-preserved
+loop-place-preserved c =
     c.in_ok-join_newer.ensures.ok
-    ∙ ap (λ g. join g (cut c.args.store.now c.args.asked.now (Some (c.path-item.result ∷ [])))) c.loop-path.invariant
-    ∙ cut_at_more c.args.store.now c.args.asked.now c.args.paths.now c.loop-path.path-index c.path-item.result c.loop-path-test.true c.path-item.is
+    ∙ ap (λ g. join g (cut c.args.store.now c.args.asked.now (Some (c.place-item.result ∷ [])))) c.loop-place.invariant
+    ∙ cut_at_more c.args.store.now c.args.asked.now c.args.places.now c.loop-place.place-index c.place-item.result c.loop-place-test.true c.place-item.is

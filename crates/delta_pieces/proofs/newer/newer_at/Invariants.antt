@@ -2,5 +2,5 @@ use Rattle.std.proofs.Common.{◌≡◌, Some, take}
 use Rattle.world_law.specs.Cuts.{cut}
 use Rattle.delta_pieces.proofs.newer.newer_at.Given as goal
 
-abbrev pub invariant-loop-path : goal.invariant-loop-path
-invariant-loop-path l = l.newer ≡ cut l.store l.asked (Some (take l.path-index l.paths))
+abbrev pub invariant-loop-place : goal.invariant-loop-place
+invariant-loop-place l = l.newer ≡ cut l.store l.asked (Some (take l.place-index l.places))

@@ -1,7 +1,7 @@
 use Rattle.std.proofs.Common.{ap, sym, ◌∙◌}
 use Rattle.std.specs.Prelude.{filter}
 use Rattle.std.specs.FinMap.Entries.{find}
-use Rattle.load_path.specs.Paths.{PathParts, path_cmp}
+use Rattle.load_places.specs.Places.{PlaceParts, place_cmp}
 use Rattle.edit_sums.specs.Entries.{Entry}
 use Rattle.edit_sums.specs.Sums.{join}
 use Rattle.world_law.specs.Cuts.{is_newer}
@@ -11,7 +11,7 @@ use Rattle.delta_pieces.proofs.newer.newer_entries.Goals as goal
 
 pub loop-placed-init : goal.loop-placed-init
 loop-placed-init c =
-    let newer = λ (p : PathParts × Entry). is_newer p.1.version (find path_cmp p.0 c.args.versions.now) in
+    let newer = λ (p : PlaceParts × Entry). is_newer p.1.version (find place_cmp p.0 c.args.versions.now) in
     record {
       newer = joined_all c.new-newer.result (filter newer c.args.entries) c.new-newer.ensures.empty;
       sorted = c.requires.sorted;
@@ -21,33 +21,33 @@ loop-placed-init c =
 
 pub loop-placed-preserved : goal.loop-placed-preserved
 loop-placed-preserved c =
-    let newer = λ (p : PathParts × Entry). is_newer p.1.version (find path_cmp p.0 c.args.versions.now) in
+    let newer = λ (p : PlaceParts × Entry). is_newer p.1.version (find place_cmp p.0 c.args.versions.now) in
     let is = c.in-Some.ensures.first in
     let now = passed c.args.versions.now c.loop-placed.left.now _ c.in-Some.placed c.next_entry.new.self _ _ _ _ is c.loop-placed.invariant.sorted c.loop-placed.invariant.tells
-    c.from_path-left.ensures.held c.entry.ensures.entry c.version_at.ensures.version c.is_newer.ensures.newer in
+    c.from_place-left.ensures.held c.entry.ensures.entry c.version_at.ensures.version c.is_newer.ensures.newer in
     record {
       newer = failed_first c.loop-placed.newer c.in-Some.placed c.next_entry.new.self c.loop-placed.entries is newer _ c.loop-placed.invariant.newer (sym now.told ∙ c.if-is_newer.false);
       sorted = now.sorted;
-      left_sorted = c.from_path-left.ensures.sorted;
+      left_sorted = c.from_place-left.ensures.sorted;
       tells = now.tells;
     }
 
 pub loop-placed-preserved-in-Continue-1 : goal.loop-placed-preserved-in-Continue-1
 loop-placed-preserved-in-Continue-1 c =
-    let newer = λ (p : PathParts × Entry). is_newer p.1.version (find path_cmp p.0 c.args.versions.now) in
+    let newer = λ (p : PlaceParts × Entry). is_newer p.1.version (find place_cmp p.0 c.args.versions.now) in
     let is = c.in-Some.ensures.first in
     let now = passed c.args.versions.now c.loop-placed.left.now _ c.in-Some.placed c.next_entry.new.self _ _ _ _ is c.loop-placed.invariant.sorted c.loop-placed.invariant.tells
-    c.from_path-left.ensures.held c.entry.ensures.entry c.version_at.ensures.version c.is_newer.ensures.newer in
+    c.from_place-left.ensures.held c.entry.ensures.entry c.version_at.ensures.version c.is_newer.ensures.newer in
     record {
       newer =
           ap (λ s. join s (sum_at (filter newer c.next_entry.new.self))) c.in_ok-join_copy.ensures.ok
           ∙ passed_first c.loop-placed.newer c.in-Some.placed c.next_entry.new.self c.loop-placed.entries is newer _ c.loop-placed.invariant.newer (sym now.told ∙ c.if-is_newer.true);
       sorted = now.sorted;
-      left_sorted = c.from_path-left.ensures.sorted;
+      left_sorted = c.from_place-left.ensures.sorted;
       tells = now.tells;
     }
 
 pub returns : goal.returns
 returns c =
-    let newer = λ (p : PathParts × Entry). is_newer p.1.version (find path_cmp p.0 c.args.versions.now) in
+    let newer = λ (p : PlaceParts × Entry). is_newer p.1.version (find place_cmp p.0 c.args.versions.now) in
     record { newer = joined_none c.loop-placed.newer (filter newer c.loop-placed.entries) (ap (filter newer) c.in_default.ensures.first.0) ∙ c.loop-placed.invariant.newer }

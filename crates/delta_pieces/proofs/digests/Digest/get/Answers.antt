@@ -1,7 +1,7 @@
 use Rattle.std.proofs.Common.{Some, ap, sym, ◌∙◌}
 use Rattle.std.specs.FinMap as finmap
-use Rattle.load_path.specs.Paths.{path_cmp}
-use Rattle.load_path.specs.PathLaws.{path_cmp_total}
+use Rattle.load_places.specs.Places.{place_cmp}
+use Rattle.load_places.specs.PlaceLaws.{place_cmp_total}
 use Rattle.sorted_pairs.specs.PlaceLaws.{find_at, find_gap}
 use Rattle.delta_pieces.proofs.Views.{get-versions}
 use Rattle.delta_pieces.proofs.digests.Digest.get.Goals as goal
@@ -10,13 +10,13 @@ pub returns-in-Ok : goal.returns-in-Ok
 returns-in-Ok c = record {
   version =
       ap (λ p. Some p.1) c.index.ensures
-      ∙ sym (find_at path_cmp c.args.path.now _ _ c.index.result.now (rw c.deref.ensures.value at c.in-Ok.ensures.found))
-      ∙ sym (get-versions _ c.args.path.now c.self.invariant) ∙ ap (λ m. finmap.get m c.args.path.now) c.self.view_is;
+      ∙ sym (find_at place_cmp c.args.place.now _ _ c.index.result.now (rw c.deref.ensures.value at c.in-Ok.ensures.found))
+      ∙ sym (get-versions _ c.args.place.now c.self.invariant) ∙ ap (λ m. finmap.get m c.args.place.now) c.self.view_is;
 }
 
 pub returns-in-Err : goal.returns-in-Err
 returns-in-Err c = record {
   version =
-      sym (find_gap path_cmp c.args.path.now path_cmp_total _ _ c.self.invariant (rw c.deref.ensures.value at c.in-Err.ensures.absent))
-      ∙ sym (get-versions _ c.args.path.now c.self.invariant) ∙ ap (λ m. finmap.get m c.args.path.now) c.self.view_is;
+      sym (find_gap place_cmp c.args.place.now place_cmp_total _ _ c.self.invariant (rw c.deref.ensures.value at c.in-Err.ensures.absent))
+      ∙ sym (get-versions _ c.args.place.now c.self.invariant) ∙ ap (λ m. finmap.get m c.args.place.now) c.self.view_is;
 }

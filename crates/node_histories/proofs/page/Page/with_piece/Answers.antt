@@ -1,5 +1,5 @@
 use Rattle.std.proofs.Common.{◌≡◌, ◌∙◌, ap}
-use Rattle.edit_sums.specs.Sums.{EntryMap, join, changed_paths}
+use Rattle.edit_sums.specs.Sums.{EntryMap, join, changed_places}
 use Rattle.node_histories.specs.declared.events.HistoryEvent.TheVariants.{Absorbed}
 use Rattle.node_histories.specs.Histories.{replica_of, store_of}
 use Rattle.node_histories.proofs.Turned.{turned_piece}
@@ -22,5 +22,5 @@ returns-clause-changed g c =
     let h = c.args.self.now.seen.log in
     let was : r.store ≡ store_of h = ap (λ q. q.store) (c.in_ok-replica.ensures.copy ∙ c.deref.ensures ∙ c.args.self.now.kept) in
     let now : c.take.new.replica.store ≡ store_of c.in_ok-page.page.seen.log = ap (λ q. q.store) c.in_ok-page.ensures.replica in
-    let n : c.in-Ok.changed ≡ changed_paths r.store c.take.new.replica.store = c.in-Ok.ensures.changed in
-    n ∙ (λ i. changed_paths (was i) (now i))
+    let n : c.in-Ok.changed ≡ changed_places r.store c.take.new.replica.store = c.in-Ok.ensures.changed in
+    n ∙ (λ i. changed_places (was i) (now i))

@@ -11,7 +11,7 @@ pub invariant_of-self-2 : goal.invariant_of-self-2
 invariant_of-self-2 c =
     let q : PathParts = record { rank = c.into_parts-rank.result.0; folder = c.into_parts-rank.result.1; name = c.into_parts-rank.result.2 } in
     let len : c.self.inside.len ≡ finmap.len c.args.self.now = c.self.invariant.counted.counted ∙ ap (λ s. finmap.len s) c.self.view_is in
-    let counted : c.self.inside.len + c.from.result ≡ cond (finmap.contains_key c.args.self.now c.args.edit.path) (finmap.len c.args.self.now) (finmap.len c.args.self.now + 1) =
+    let counted : c.self.inside.len + c.from.result ≡ cond (finmap.contains_key c.args.self.now c.args.edit.place) (finmap.len c.args.self.now) (finmap.len c.args.self.now + 1) =
     (λ i. len i + c.from.ensures i)
     ∙ counted_with c.self.inside.ranks c.self.invariant.ranks c.args.self.now c.self.view_is q (entry_of c.args.edit) c.in_ok-added.added c.in_ok-added.ensures.added
     ∙ ap (λ (p : PathParts). cond (finmap.contains_key c.args.self.now p) (finmap.len c.args.self.now) (finmap.len c.args.self.now + 1)) c.into_parts-rank.ensures.parts in

@@ -27,7 +27,7 @@ pub returns-then-removed-clause-removed : goal.returns-then-removed-clause-remov
 returns-then-removed-clause-removed c =
     let q : PathParts = record { rank = c.parts-rank.result.0; folder = c.parts-rank.result.1.now; name = c.parts-rank.result.2.now } in
     let at : q ≡ c.args.path.now = λ i. record { rank = c.parts-rank.ensures.rank i; folder = c.parts-rank.ensures.folder i; name = c.parts-rank.ensures.name i } in
-    let edit : Edit = record { path = c.args.path.now; version = c.args.version; content = c.gone-content.result } in
+    let edit : Edit = record { place = c.args.path.now; version = c.args.version; content = c.gone-content.result } in
     OnTrue_from c.make-removed.result _
     (λ _. joined_edit c.self.inside.ranks c.make-removed.new.map c.args.self.now edit q at c.self.view_is c.self.invariant.ranks c.make-removed.ensures.valid c.if-removed.ensures.joined
     ∙ ap (λ (content : Content). with_edit c.args.self.now (record edit { content = content })) c.gone-content.ensures.made)
@@ -36,7 +36,7 @@ pub invariant_of-self : goal.invariant_of-self
 invariant_of-self c =
     let q : PathParts = record { rank = c.parts-rank.result.0; folder = c.parts-rank.result.1.now; name = c.parts-rank.result.2.now } in
     let at : q ≡ c.args.path.now = λ i. record { rank = c.parts-rank.ensures.rank i; folder = c.parts-rank.ensures.folder i; name = c.parts-rank.ensures.name i } in
-    let edit : Edit = record { path = c.args.path.now; version = c.args.version; content = c.gone-content.result } in
+    let edit : Edit = record { place = c.args.path.now; version = c.args.version; content = c.gone-content.result } in
     let visible = removal_visible c.self.inside.ranks c.self.invariant.ranks c.args.self.now c.self.view_is q c.args.path.now at c.gone-content.result c.gone-content.ensures.made in
     let held : finmap.contains_key c.args.self.now c.args.path.now ≡ true = visible_held (finmap.get c.args.self.now c.args.path.now) (sym visible ∙ sym c.make-removed.ensures.made ∙ c.if-removed.true) in
     let counted : c.self.inside.len ≡ cond (finmap.contains_key c.args.self.now c.args.path.now) (finmap.len c.args.self.now) (finmap.len c.args.self.now + 1) =

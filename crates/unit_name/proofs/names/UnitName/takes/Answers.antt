@@ -1,4 +1,4 @@
-use Rattle.std.proofs.Common.{◌≡◌, ◌-◌, ◌∙◌, ◌&&◌, ap, sym, subst, leb, length, arith}
+use Rattle.std.proofs.Common.{◌-◌, ◌∙◌, ◌&&◌, ap, sym, subst, leb, length, arith}
 use Rattle.unit_name.specs.Names.{IsName}
 use Rattle.unit_name.specs.NameLaws.{name_short}
 use Rattle.unit_name.proofs.Steps.{takes_is}

@@ -1,13 +1,13 @@
 use Rattle.std.proofs.Common.{◌≡◌, ◌≢◌, IsTrue, length}
 use Rattle.std.specs.declared.cmp.Ordering.TheVariants.{Less}
 use Rattle.std.specs.FinMap.Entries.{find, is_sorted}
-use Rattle.load_path.specs.Paths.{PathParts, path_cmp}
-use Rattle.delta_pieces.proofs.newer.from_path.Given as goal
+use Rattle.load_places.specs.Places.{PlaceParts, place_cmp}
+use Rattle.delta_pieces.proofs.newer.from_place.Given as goal
 
 abbrev pub invariant-loop-next : goal.invariant-loop-next
 invariant-loop-next l = record {
-  sorted : IsTrue (is_sorted path_cmp l.left);
-  held : (q : PathParts) → path_cmp q l.placed.0 ≢ Less → find path_cmp q l.left ≡ find path_cmp q l.versions;
+  sorted : IsTrue (is_sorted place_cmp l.left);
+  held : (q : PlaceParts) → place_cmp q l.placed.0 ≢ Less → find place_cmp q l.left ≡ find place_cmp q l.versions;
 }
 
 abbrev pub decreases-loop-next : goal.decreases-loop-next
