@@ -2,6 +2,7 @@ pub mod Agreements
 pub mod Cuts
 pub mod Filters
 pub mod FirstSaid
+pub mod FirstLaws
 pub mod Insertions
 pub mod Lines
 pub mod Members
