@@ -1,4 +1,4 @@
--- What steps of the code add to marks, lists and rows. Only private clauses cite these.
+-- What steps of the code add to marks, lists and rows. Only private clauses cite these, and that of `lesser`.
 use Rattle.std.specs.Prelude.{◌≡◌, ◌+◌, ◌⊎◌, ℕ, Bool, List, length, Option, Some, None, min}
 use Rattle.std.specs.Option.{MatchOption}
 use Rattle.std.specs.Ordering.{nat_cmp}

@@ -1,6 +1,5 @@
 //! What is reached from sources.
-ghost use Rattle.std.specs.Prelude.{◌≡◌, ◌<◌, ◌↔◌, ℕ, length, IfOk};
-ghost use Rattle.std.specs.List.{All};
+ghost use Rattle.std.specs.Prelude.{◌≡◌, ◌<◌, ◌↔◌, ℕ, length, All, IfOk};
 ghost use Rattle.std.specs.Ordering.{nat_cmp};
 ghost use Rattle.name_closure.specs.Chains.{IsReached, IsClosure};
 ghost use Rattle.name_closure.specs.ListedLaws.{Listed, Named};

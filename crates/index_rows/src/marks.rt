@@ -1,12 +1,11 @@
 //! Sets of nodes by marks.
-ghost use Rattle.std.specs.Prelude.{◌≡◌, ◌<◌, ◌≤◌, ◌↔◌, ℕ, length, replicate, false, true, MatchOption, IfOk, OnOk};
-ghost use Rattle.std.specs.List.{All};
+ghost use Rattle.std.specs.Prelude.{◌≡◌, ◌<◌, ◌≤◌, ◌↔◌, ℕ, length, replicate, false, true, All, MatchOption, IfOk, OnOk};
 ghost use Rattle.std.specs.List.Sorted.{IsStrictlySortedBy};
 ghost use Rattle.std.specs.Ordering.{nat_cmp};
 ghost use Rattle.list_laws.specs.Members.{IsAmong};
 ghost use Rattle.index_rows.specs.Least.{IsLeast};
 ghost use Rattle.index_rows.specs.Rows.{Marked};
-ghost use Rattle.index_rows.specs.Spreads.{IsSpread};
+ghost use Rattle.index_rows.specs.Spreads.{IsSpread, lesser_of};
 
 use std::alloc::{AllocError, Global};
 
@@ -89,6 +88,17 @@ pub fn least_marked(nodes: &[usize], marks: &[bool]) -> Option<usize>
         Some(least)
     } else {
         None
+    }
+}
+
+/// The lesser of two numbers, of which each may be missing.
+pub fn lesser(first: Option<usize>, second: Option<usize>) -> Option<usize>
+    ensures { result ≡ lesser_of first second }
+{
+    match (first, second) {
+        (Some(one), Some(other)) => Some(one.min(other)),
+        (one, None) => one,
+        (None, other) => other,
     }
 }
 

@@ -1,13 +1,11 @@
 //! Steps between nodes by rows.
-ghost use Rattle.std.specs.Prelude.{◌≡◌, ◌<◌, ◌↔◌, ◌⊎◌, ◌∷◌, [], ℕ, length, IfOk, OnOk};
-ghost use Rattle.std.specs.List.{All};
+ghost use Rattle.std.specs.Prelude.{◌≡◌, ◌<◌, ◌≤◌, ◌↔◌, ◌⊎◌, ◌∷◌, [], ℕ, length, All, IfOk, OnOk};
 ghost use Rattle.std.specs.List.Sorted.{IsStrictlySortedBy};
 ghost use Rattle.std.specs.Ordering.{nat_cmp};
 ghost use Rattle.list_laws.specs.Members.{IsAmong};
 ghost use Rattle.index_rows.specs.Rows.{AllBelow, AreRowsOf, AreTurned, row as row_of};
 ghost use Rattle.index_rows.specs.Spreads.{IsNoted};
 
-use crate::shortest::put_in_order;
 use std::alloc::{AllocError, Global};
 
 /// The row of a node.
@@ -63,6 +61,16 @@ pub fn turned(alloc: Global, rows: &[Vec<usize>]) -> Result<Vec<Vec<usize>>, All
         note(&mut others, row(rows, node), node)?;
     }
     Ok(others)
+}
+
+// Puts nodes in order, each once. O(k log k) for k nodes, and linear where they are in order.
+pub(crate) fn put_in_order(nodes: &mut Vec<usize>)
+    ensures rising { IsStrictlySortedBy nat_cmp nodes.new.items }
+    ensures members { (v : ℕ) → IsAmong v nodes.new.items ↔ IsAmong v nodes.old.items }
+    ensures bound { length nodes.new.items ≤ length nodes.old.items }
+{
+    nodes.sort_unstable();
+    nodes.dedup();
 }
 
 /// Rows with the steps of both, each in order. O(n) and the steps, beside the logarithm of a row's length.

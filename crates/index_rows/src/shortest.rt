@@ -1,27 +1,16 @@
 //! Least distances from sources.
-ghost use Rattle.std.specs.Prelude.{◌≡◌, ◌<◌, ◌≤◌, ◌↔◌, ◌++◌, [], ℕ, length, map, replicate, true, IfOk, OnOk};
-ghost use Rattle.std.specs.List.{All, flat_map};
-ghost use Rattle.std.specs.List.Sorted.{IsStrictlySortedBy};
+ghost use Rattle.std.specs.Prelude.{◌≡◌, ◌<◌, ◌++◌, [], length, map, replicate, true, All, IfOk, OnOk};
+ghost use Rattle.std.specs.List.{flat_map};
 ghost use Rattle.std.specs.Ordering.{nat_cmp};
-ghost use Rattle.list_laws.specs.Members.{IsAmong};
 ghost use Rattle.name_closure.specs.Chains.{IsDistances};
 ghost use Rattle.name_closure.specs.ListedLaws.{Listed, Named};
 ghost use Rattle.index_rows.specs.Spreads.{IsSpread};
 ghost use Rattle.index_rows.specs.Steps.{AreStepsOf, steps_from};
 
 use crate::marks::{all_marks, no_marks, spread};
+use crate::rows::put_in_order;
 use crate::steps::Steps;
 use std::alloc::{AllocError, Global};
-
-// Puts nodes in order, each once. O(k log k) for k nodes, and linear where they are in order.
-pub(crate) fn put_in_order(nodes: &mut Vec<usize>)
-    ensures rising { IsStrictlySortedBy nat_cmp nodes.new.items }
-    ensures members { (v : ℕ) → IsAmong v nodes.new.items ↔ IsAmong v nodes.old.items }
-    ensures bound { length nodes.new.items ≤ length nodes.old.items }
-{
-    nodes.sort_unstable();
-    nodes.dedup();
-}
 
 // Marks what the nodes lead to, and gives what wasn't marked before. It is given marks that are all set.
 fn next_level(

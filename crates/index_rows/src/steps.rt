@@ -1,14 +1,13 @@
 //! Steps of one or more kinds.
-ghost use Rattle.std.specs.Prelude.{◌≡◌, ◌<◌, ◌++◌, ◌∷◌, [], ℕ, length, filter, IfOk, OnOk, MatchOption};
-ghost use Rattle.std.specs.List.{All};
+ghost use Rattle.std.specs.Prelude.{◌≡◌, ◌<◌, ◌++◌, ◌∷◌, [], ℕ, length, filter, All, IfOk, OnOk, MatchOption};
 ghost use Rattle.std.specs.Ordering.{nat_cmp};
 ghost use Rattle.list_laws.specs.Members.{IsAmong};
 ghost use Rattle.index_rows.specs.Least.{IsLeast};
 ghost use Rattle.index_rows.specs.Rows.{Marked};
-ghost use Rattle.index_rows.specs.Spreads.{IsSpread, lesser_of};
+ghost use Rattle.index_rows.specs.Spreads.{IsSpread};
 ghost use Rattle.index_rows.specs.Steps.{AreStepsOf, is_marked, steps_from, steps_inside};
 
-use crate::marks::least_marked;
+use crate::marks::{least_marked, lesser};
 use crate::rows::row;
 use std::alloc::{AllocError, Global};
 use std::marker::Model;
@@ -92,17 +91,6 @@ impl<'a> Steps<'a> {
             spread_inside(seen, noted, inside, row(rows, node))?;
         }
         Ok(())
-    }
-}
-
-// The lesser of two numbers, of which each may be missing.
-fn lesser(first: Option<usize>, second: Option<usize>) -> Option<usize>
-    ensures { result ≡ lesser_of first second }
-{
-    match (first, second) {
-        (Some(one), Some(other)) => Some(one.min(other)),
-        (one, None) => one,
-        (None, other) => other,
     }
 }
 

@@ -1,6 +1,5 @@
 //! What each node waits for, as counts.
-ghost use Rattle.std.specs.Prelude.{◌≡◌, ◌<◌, ◌≤◌, ℕ, slice_index, length, IfOk, OnOk};
-ghost use Rattle.std.specs.List.{All};
+ghost use Rattle.std.specs.Prelude.{◌≡◌, ◌<◌, ◌≤◌, ℕ, slice_index, length, All, IfOk, OnOk};
 ghost use Rattle.index_rows.specs.Rows.{AllBelow, times, row as row_of};
 ghost use Rattle.start_order.specs.Counts.{waiting as waiting_of, IsLowered};
 

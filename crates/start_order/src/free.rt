@@ -4,10 +4,9 @@ ghost use Rattle.list_laws.specs.Members.{IsAmong};
 ghost use Rattle.std.specs.List.Sorted.{IsStrictlySortedBy};
 ghost use Rattle.std.specs.Ordering.{nat_cmp};
 ghost use Rattle.index_rows.specs.Rows.{Marked};
-ghost use Rattle.index_rows.specs.Spreads.{lesser_of};
 ghost use Rattle.start_order.specs.Counts.{IsLeastIn};
 
-use index_rows::marked_nodes;
+use index_rows::{lesser, marked_nodes};
 use std::alloc::{AllocError, Global};
 use std::collections::{BTreeSet, VecDeque};
 use std::marker::Model;
@@ -60,17 +59,6 @@ impl Free {
         drop_front(&mut self.first, least);
         drop_first(&mut self.later, least);
         Some(least)
-    }
-}
-
-// The lesser of two numbers, of which each may be missing.
-fn lesser(one: Option<usize>, other: Option<usize>) -> Option<usize>
-    ensures { result ≡ lesser_of one other }
-{
-    match (one, other) {
-        (Some(one), Some(other)) => Some(one.min(other)),
-        (one, None) => one,
-        (None, other) => other,
     }
 }
 

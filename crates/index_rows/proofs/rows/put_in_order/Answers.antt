@@ -7,7 +7,7 @@ use Rattle.std.proofs.lemmas.List.Kept.{Contains-dedup_nat, Contains-from_dedup}
 use Rattle.std.proofs.lemmas.List.Sorted.{Contains-permutation, IsPermutation-sym}
 use Rattle.std.proofs.lemmas.Map.Keys.{IsStrictlyIncreasing-dedup, sorted_from_strictly_increasing}
 use Rattle.list_laws.specs.Members.{among_from_contains, contains_from_among}
-use Rattle.index_rows.proofs.shortest.put_in_order.Goals as goal
+use Rattle.index_rows.proofs.rows.put_in_order.Goals as goal
 
 pub returns-clause-rising : goal.returns-clause-rising
 returns-clause-rising c =
