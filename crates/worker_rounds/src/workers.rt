@@ -27,38 +27,8 @@ fn load_share<K: Key, L: Loads<K>, G: Gate>(
     load_each(alloc, loader, share.nodes)
 }
 
-// What is named in each part of what a round loaded and isn't the round's own. So many workers take parts of the same size, but
-// for the last.
-fn name_parts<R: Threads + Sync, K: Key + Send + Sync, L: Loads<K> + Sync>(
-    rt: &R,
-    alloc: Global,
-    loader: &L,
-    size: usize,
-    pairs: &[(K, L::Loaded)],
-) -> Result<Vec<Result<Vec<K>, AllocError>>, AllocError>
-where
-    L::Loaded: Sync,
-    requires some { 0 < size }
-    requires nodes { All (L.is_node loader.now) (keys_of pairs.now) }
-    requires loaded { AreLoaded (L.is_loaded loader.now) pairs.now }
-    ensures len { IfOk result (λ parts. length pairs.now ≤ length parts.items * size) }
-    ensures others { IfOk result (λ parts. (i : ℕ) (part : _) → i < length parts.items
-        → IfOk (slice_index_or parts.items i part) (λ names. AreOthers (keys_of pairs.now)
-        (flat_map (λ pair. L.named loader.now pair.1) (take size (drop (i * size) pairs.now))) names.items)) }
-    ensures nodes { IfOk result (λ parts. (i : ℕ) (part : _) → i < length parts.items
-        → IfOk (slice_index_or parts.items i part) (λ names. All (L.is_node loader.now) names.items)) }
-{
-    let name = |_start: usize, part: &[(K, L::Loaded)]| -> Result<Vec<K>, AllocError>
-        requires nodes { All (L.is_node loader.now) (keys_of part.now) }
-        requires loaded { AreLoaded (L.is_loaded loader.now) part.now }
-        ensures others { IfOk result (λ names. AreOthers (keys_of pairs.entry.now)
-            (flat_map (λ pair. L.named loader.entry.now pair.1) part.entry.now) names.items) }
-        ensures nodes { IfOk result (λ names. All (L.is_node loader.entry.now) names.items) }
-    { others_named(alloc, loader, pairs, part) };
-    thread::map_chunks(rt, alloc, pairs, size, &name)
-}
-
 // What is named in what a round loaded and isn't the round's own, by so many workers; what several of them name, more than once.
+// They take parts of the same size, but for the last.
 fn name_by_workers<R: Threads + Sync, K: Key + Send + Sync, L: Loads<K> + Sync>(
     rt: &R,
     alloc: Global,
@@ -76,7 +46,14 @@ where
     ensures nodes { IfOk result (λ names. All (L.is_node loader.now) names.items) }
 {
     let size = pairs.len().div_ceil(workers).max(1);
-    let named = name_parts(rt, alloc, loader, size, pairs)?;
+    let name = |_start: usize, part: &[(K, L::Loaded)]| -> Result<Vec<K>, AllocError>
+        requires nodes { All (L.is_node loader.now) (keys_of part.now) }
+        requires loaded { AreLoaded (L.is_loaded loader.now) part.now }
+        ensures others { IfOk result (λ names. AreOthers (keys_of pairs.entry.now)
+            (flat_map (λ pair. L.named loader.entry.now pair.1) part.entry.now) names.items) }
+        ensures nodes { IfOk result (λ names. All (L.is_node loader.entry.now) names.items) }
+    { others_named(alloc, loader, pairs, part) };
+    let named = thread::map_chunks(rt, alloc, pairs, size, &name)?;
     put_together(alloc, named)
 }
 
