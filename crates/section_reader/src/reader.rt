@@ -11,7 +11,7 @@ use crate::logical::join;
 use crate::parts::{LineForm, form, header_name, is_bracketed, pair_of, trim};
 use crate::places::Place;
 use crate::sections::Sections;
-use plain_values::Bytes;
+use plain_values::{Bytes, Items};
 use std::alloc::{AllocError, Global};
 
 /// Reads the bytes of a unit file. It refuses for want of memory alone.
@@ -55,7 +55,10 @@ impl Reader {
         ensures place { result.place ≡ Place.Outside }
     {
         Reader {
-            sections: Sections::new(alloc),
+            sections: Sections {
+                items: Items::new(alloc),
+                notes: Items::new(alloc),
+            },
             place: Place::Outside,
         }
     }

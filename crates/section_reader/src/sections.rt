@@ -1,9 +1,9 @@
 //! What a unit file says.
-ghost use Rattle.std.specs.Prelude.{◌≡◌, ◌++◌, ◌∷◌, [], IfOk, OnOk};
+ghost use Rattle.std.specs.Prelude.{◌≡◌, IfOk};
 
 use crate::assignments::{Assignment, Note};
 use plain_values::{Items, TryClone};
-use std::alloc::{AllocError, Global};
+use std::alloc::AllocError;
 
 /// What a unit file says: its assignments, and notes on lines that assign nothing, each in the order of the file.
 #[derive(Debug, PartialEq, Eq, Drop)]
@@ -15,17 +15,6 @@ pub struct Sections {
 }
 
 impl Sections {
-    /// What an empty file says. It takes no memory.
-    pub(crate) fn new(alloc: Global) -> Sections
-        ensures items { result.items ≡ [] }
-        ensures notes { result.notes ≡ [] }
-    {
-        Sections {
-            items: Items::new(alloc),
-            notes: Items::new(alloc),
-        }
-    }
-
     /// The same again. It fails for want of memory alone.
     pub fn try_clone(&self) -> Result<Sections, AllocError>
         ensures copy { IfOk result (λ copy. copy ≡ self.now) }
