@@ -52,62 +52,28 @@ fn add_links(
     ensures names { OnOk result (names.new ≡ with_linked names.old (linked_by unit.now links)) }
     ensures notes { OnOk result (notes.new ≡ notes.old ++ link_notes unit.now dep links) }
 {
-    let mut linked = LinkedUnits::new(alloc);
-    linked.add_all(alloc, unit, dep, links)?;
-    notes.append(linked.notes)?;
-    add_names(alloc, names, linked.names)
+    let mut linked = Items::new(alloc);
+    for link in links.into_vec() {
+        add_link(alloc, unit, dep, link, &mut linked, notes)?;
+    }
+    add_names(alloc, names, linked)
 }
 
-// The units that a unit means by the names of links, and notes on those by which it means none.
-#[derive(Drop)]
-struct LinkedUnits {
-    names: Items<UnitName>,
-    notes: Items<SettingNote>,
-}
-
-impl LinkedUnits {
-    fn new(alloc: Global) -> LinkedUnits
-        ensures names { result.names ≡ [] }
-        ensures notes { result.notes ≡ [] }
-    {
-        LinkedUnits {
-            names: Items::new(alloc),
-            notes: Items::new(alloc),
-        }
-    }
-
-    // Adds what the unit means by the names of links that add to a kind.
-    fn add_all(
-        &mut self,
-        alloc: Global,
-        unit: &UnitName,
-        dep: DepKind,
-        links: Items<UnitName>,
-    ) -> Result<(), AllocError>
-        ensures names { OnOk result (self.new.names ≡ self.old.names ++ linked_by unit.now links) }
-        ensures notes { OnOk result (self.new.notes ≡ self.old.notes ++ link_notes unit.now dep links) }
-    {
-        for link in links.into_vec() {
-            self.add(alloc, unit, dep, link)?;
-        }
-        Ok(())
-    }
-
-    // Adds what the unit means by a link's name.
-    fn add(
-        &mut self,
-        alloc: Global,
-        unit: &UnitName,
-        dep: DepKind,
-        link: UnitName,
-    ) -> Result<(), AllocError>
-        ensures names { OnOk result (self.new.names ≡ self.old.names ++ linked_by unit.now (link ∷ [])) }
-        ensures notes { OnOk result (self.new.notes ≡ self.old.notes ++ link_notes unit.now dep (link ∷ [])) }
-    {
-        match for_unit(unit, link)? {
-            Some(name) => self.names.push(name),
-            None => self.notes.push(bad_link(alloc, dep)?),
-        }
+// Adds what a unit means by the name of a link that adds to a kind: a unit, or else a note.
+fn add_link(
+    alloc: Global,
+    unit: &UnitName,
+    dep: DepKind,
+    link: UnitName,
+    names: &mut Items<UnitName>,
+    notes: &mut Items<SettingNote>,
+) -> Result<(), AllocError>
+    ensures names { OnOk result (names.new ≡ names.old ++ linked_by unit.now (link ∷ [])) }
+    ensures notes { OnOk result (notes.new ≡ notes.old ++ link_notes unit.now dep (link ∷ [])) }
+{
+    match for_unit(unit, link)? {
+        Some(name) => names.push(name),
+        None => notes.push(bad_link(alloc, dep)?),
     }
 }
 

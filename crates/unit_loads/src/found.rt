@@ -1,11 +1,12 @@
 //! What stands for a loaded unit beside its names.
-ghost use Rattle.std.specs.Prelude.{IfOk};
+ghost use Rattle.std.specs.Prelude.{◌≡◌, IfOk};
 ghost use Rattle.unit_loads.specs.Steps.{ComesTo, found_unit};
 ghost use Rattle.unit_loads.specs.Units.{HasSettings};
 
 use crate::files::{UnitText, paths_of};
 use crate::links::LinkNames;
 use crate::settled::Settled;
+use crate::units::{Status, Unit};
 use dropins::UnitFolders;
 use plain_values::Items;
 use replica_store::{Path, Placed, Store};
@@ -38,6 +39,23 @@ impl Found {
         let dropins = folders.drop_ins(alloc, store)?;
         let links = LinkNames::of(alloc, store, &folders)?;
         Self::of_files(alloc, store, name, fragment, &dropins, links)
+    }
+
+    /// The unit of these names whose fragment is at this path, with these drop-ins and this that they come to.
+    pub fn into_unit(self, name: UnitName, names: Vec<UnitName>, fragment: Path) -> Unit
+        ensures unit { result ≡ found_unit name names.items fragment self }
+    {
+        let Found { dropins, settled } = self;
+        Unit {
+            name,
+            names: Items::from_vec(names),
+            status: Status::Loaded(fragment),
+            dropins,
+            values: settled.values,
+            deps: settled.deps,
+            notes: settled.notes,
+            manual: settled.manual,
+        }
     }
 
     // Those of the unit with these drop-ins and links.

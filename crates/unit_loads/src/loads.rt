@@ -1,13 +1,13 @@
 //! A unit of a store.
 ghost use Rattle.std.specs.Prelude.{◌≡◌, IfOk};
 ghost use Rattle.fragment_choice.specs.Resolutions.{main, resolution};
-ghost use Rattle.unit_loads.specs.Units.{HasNothing, HasSettings, IsUnit, no_names};
+ghost use Rattle.unit_loads.specs.Units.{HasNothing, IsUnit, no_names};
 
 use crate::found::Found;
 use crate::units::{Status, Unit};
 use fragment_choice::{AliasIndex, Choice, Resolution};
 use plain_values::Items;
-use replica_store::{Path, Store};
+use replica_store::Store;
 use setting_rules::{DepKind, DependencyList};
 use std::alloc::{AllocError, Global};
 use unit_name::UnitName;
@@ -50,38 +50,15 @@ pub fn load_resolved(
     let Resolution { main, choice } = resolved;
     let names = index.names_of(alloc, &main)?;
     match choice {
-        Choice::Fragment(path) => loaded(alloc, index.store(), main, names, path),
+        Choice::Fragment(path) => {
+            let found = Found::of(alloc, index.store(), &main, &names, &path)?;
+            Ok(found.into_unit(main, names, path))
+        }
         Choice::NotFound => unloaded(alloc, main, names, Status::NotFound),
         Choice::Masked => unloaded(alloc, main, names, Status::Masked),
         Choice::Bad(cause) => unloaded(alloc, main, names, Status::Bad(cause)),
         Choice::Alias(_) => unreachable!(),
     }
-}
-
-// The unit of these names whose fragment is at this path.
-fn loaded(
-    alloc: Global,
-    store: &Store,
-    name: UnitName,
-    names: Vec<UnitName>,
-    fragment: Path,
-) -> Result<Unit, AllocError>
-    ensures name { IfOk result (λ unit. unit.name ≡ name) }
-    ensures names { IfOk result (λ unit. unit.names ≡ names.items) }
-    ensures status { IfOk result (λ unit. unit.status ≡ Status.Loaded fragment) }
-    ensures settings { IfOk result (HasSettings store.now fragment) }
-{
-    let Found { dropins, settled } = Found::of(alloc, store, &name, &names, &fragment)?;
-    Ok(Unit {
-        name,
-        names: Items::from_vec(names),
-        status: Status::Loaded(fragment),
-        dropins,
-        values: settled.values,
-        deps: settled.deps,
-        notes: settled.notes,
-        manual: settled.manual,
-    })
 }
 
 // The unit of these names without a fragment.
