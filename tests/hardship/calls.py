@@ -1,7 +1,7 @@
 """Calls of the libraries that are refused memory: the lines of worked_calls."""
 from cases import Case
 from lines import answers_behind, is_silent, name_of
-from programs import first_line, refused_in_turn
+from programs import first_line, judge_in_turn
 
 PROGRAM = "worked_calls"
 
@@ -100,8 +100,7 @@ def judge(tally, place, run, line, answer):
 
 def once(bench, tally, line, answer):
     """One request is refused."""
-    for number, run in refused_in_turn(bench, PROGRAM, line + b"\n"):
-        judge(tally, f"request {number}", run, line, answer)
+    judge_in_turn(judge, bench, tally, PROGRAM, line + b"\n", line, answer)
     if line.startswith(b"again ") and (tally.again == 0) != line.startswith(HELD):
         tally.wrong(f"at {tally.again} requests", "the call was made again")
 

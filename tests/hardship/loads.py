@@ -1,7 +1,7 @@
 """Loads and graphs of stores that are refused memory: the lines of worked_answers."""
 from cases import Case
 from lines import answers_below, is_silent, name_of
-from programs import first_line, refused_in_turn
+from programs import first_line, judge_in_turn
 
 PROGRAM = "worked_answers"
 REFUSED = b"out of memory"
@@ -67,8 +67,7 @@ def judge(tally, place, run, line, answers):
 
 def once(bench, tally, line, answers):
     """One request is refused."""
-    for number, run in refused_in_turn(bench, PROGRAM, line + b"\n"):
-        judge(tally, f"request {number}", run, line, answers)
+    judge_in_turn(judge, bench, tally, PROGRAM, line + b"\n", line, answers)
 
 
 def cases():

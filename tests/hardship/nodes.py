@@ -3,7 +3,7 @@ from cases import Case
 from lines import answers_below, is_silent, name_of
 from node_model import Wrong
 from node_steps import walk
-from programs import first_line, refused_in_turn
+from programs import first_line, judge_in_turn
 
 PROGRAM = "worked_nodes"
 X, Y, Z = (f"/etc/systemd/system/{name}" for name in "xyz")
@@ -149,8 +149,7 @@ def judge_steps(tally, place, line, said, refusals):
 
 def once(bench, tally, line, answers):
     """One request is refused."""
-    for number, run in refused_in_turn(bench, PROGRAM, (line + "\n").encode()):
-        judge(tally, f"request {number}", run, line, answers)
+    judge_in_turn(judge, bench, tally, PROGRAM, (line + "\n").encode(), line, answers)
 
 
 def refused_at(bench, line, numbers):

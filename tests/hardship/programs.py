@@ -105,6 +105,12 @@ def refused_in_turn(bench, name, text):
         number += stride
 
 
+def judge_in_turn(judge, bench, tally, name, text, *words):
+    """Judges each run of a program of which one request is refused, by these words."""
+    for number, run in refused_in_turn(bench, name, text):
+        judge(tally, f"request {number}", run, *words)
+
+
 def first_line(text):
     """The first line of bytes, cut to be shown."""
     return text.split(b"\n", 1)[0][:100].decode("latin-1")

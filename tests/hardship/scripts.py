@@ -2,7 +2,7 @@
 import os
 
 from cases import Case
-from programs import HERE, refused_in_turn
+from programs import HERE, judge_in_turn
 
 PROGRAM = "fleet_shell"
 WORDS = b"fleet: out of memory\n"
@@ -41,8 +41,7 @@ def is_starved(run, answers):
 
 def once(bench, tally, script, answers):
     """One request is refused, and those behind it are not."""
-    for number, run in refused_in_turn(bench, PROGRAM, script):
-        judge(tally, f"request {number}", run, answers)
+    judge_in_turn(judge, bench, tally, PROGRAM, script, answers)
 
 
 def from_then_on(bench, tally, script, answers):
