@@ -1,11 +1,12 @@
 //! Sets of nodes by marks.
-ghost use Rattle.std.specs.Prelude.{◌≡◌, ◌<◌, ◌≤◌, ◌↔◌, ℕ, length, replicate, false, true, All, MatchOption, IfOk, OnOk};
+ghost use Rattle.std.specs.Prelude.{◌≡◌, ◌<◌, ◌≤◌, ◌↔◌, ◌∷◌, [], ℕ, length, filter, replicate, false, true, All, MatchOption, IfOk, OnOk};
 ghost use Rattle.std.specs.List.Sorted.{IsStrictlySortedBy};
 ghost use Rattle.std.specs.Ordering.{nat_cmp};
 ghost use Rattle.list_laws.specs.Members.{IsAmong};
 ghost use Rattle.index_rows.specs.Least.{IsLeast};
 ghost use Rattle.index_rows.specs.Rows.{Marked};
 ghost use Rattle.index_rows.specs.Spreads.{IsSpread, lesser_of};
+ghost use Rattle.index_rows.specs.Steps.{is_marked};
 
 use std::alloc::{AllocError, Global};
 
@@ -112,10 +113,39 @@ pub(crate) fn spread(
     ensures { OnOk result (IsSpread seen.old.items seen.new.items noted.old.items noted.new.items nodes.now) }
 {
     for node in nodes {
-        if !seen[*node] {
-            seen[*node] = true;
-            noted.push(*node)?;
+        mark(seen, noted, *node)?;
+    }
+    Ok(())
+}
+
+// Marks the marked ones of the nodes as seen, and notes those that weren't.
+pub(crate) fn spread_inside(
+    seen: &mut Vec<bool>,
+    noted: &mut Vec<usize>,
+    inside: &[bool],
+    nodes: &[usize],
+) -> Result<(), AllocError>
+    requires nodes { All (λ v. v < length seen.old.items) nodes.now }
+    requires inside { length inside.now ≡ length seen.old.items }
+    ensures { OnOk result (IsSpread seen.old.items seen.new.items noted.old.items noted.new.items
+        (filter (is_marked inside.now) nodes.now)) }
+{
+    for node in nodes {
+        if inside[*node] {
+            mark(seen, noted, *node)?;
         }
+    }
+    Ok(())
+}
+
+// Marks a node, and notes it where it wasn't marked.
+fn mark(seen: &mut Vec<bool>, noted: &mut Vec<usize>, node: usize) -> Result<(), AllocError>
+    requires { node < length seen.old.items }
+    ensures { OnOk result (IsSpread seen.old.items seen.new.items noted.old.items noted.new.items (node ∷ [])) }
+{
+    if !seen[node] {
+        seen[node] = true;
+        noted.push(node)?;
     }
     Ok(())
 }

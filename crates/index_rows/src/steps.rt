@@ -1,13 +1,13 @@
 //! Steps of one or more kinds.
-ghost use Rattle.std.specs.Prelude.{◌≡◌, ◌<◌, ◌++◌, ◌∷◌, [], ℕ, length, filter, All, IfOk, OnOk, MatchOption};
+ghost use Rattle.std.specs.Prelude.{◌≡◌, ◌<◌, ◌++◌, ◌∷◌, [], ℕ, length, IfOk, OnOk, MatchOption};
 ghost use Rattle.std.specs.Ordering.{nat_cmp};
 ghost use Rattle.list_laws.specs.Members.{IsAmong};
 ghost use Rattle.index_rows.specs.Least.{IsLeast};
 ghost use Rattle.index_rows.specs.Rows.{Marked};
 ghost use Rattle.index_rows.specs.Spreads.{IsSpread};
-ghost use Rattle.index_rows.specs.Steps.{AreStepsOf, is_marked, steps_from, steps_inside};
+ghost use Rattle.index_rows.specs.Steps.{AreStepsOf, steps_from, steps_inside};
 
-use crate::marks::{least_marked, lesser};
+use crate::marks::{least_marked, lesser, spread_inside};
 use crate::rows::row;
 use std::alloc::{AllocError, Global};
 use std::marker::Model;
@@ -92,36 +92,4 @@ impl<'a> Steps<'a> {
         }
         Ok(())
     }
-}
-
-// Marks the marked ones of the nodes as seen, and notes those that weren't.
-fn spread_inside(
-    seen: &mut Vec<bool>,
-    noted: &mut Vec<usize>,
-    inside: &[bool],
-    nodes: &[usize],
-) -> Result<(), AllocError>
-    requires nodes { All (λ v. v < length seen.old.items) nodes.now }
-    requires inside { length inside.now ≡ length seen.old.items }
-    ensures { OnOk result (IsSpread seen.old.items seen.new.items noted.old.items noted.new.items
-        (filter (is_marked inside.now) nodes.now)) }
-{
-    for node in nodes {
-        if inside[*node] {
-            mark(seen, noted, *node)?;
-        }
-    }
-    Ok(())
-}
-
-// Marks a node, and notes it where it wasn't marked.
-fn mark(seen: &mut Vec<bool>, noted: &mut Vec<usize>, node: usize) -> Result<(), AllocError>
-    requires { node < length seen.old.items }
-    ensures { OnOk result (IsSpread seen.old.items seen.new.items noted.old.items noted.new.items (node ∷ [])) }
-{
-    if !seen[node] {
-        seen[node] = true;
-        noted.push(node)?;
-    }
-    Ok(())
 }

@@ -4,8 +4,8 @@ use Rattle.std.specs.declared.alloc.Global.{Global}
 use Rattle.std.proofs.lemmas.List.{take_more}
 use Rattle.index_rows.proofs.Insides.{spread_marked, spread_unmarked}
 use Rattle.index_rows.proofs.Spreading.{IsSpread-at}
-use Rattle.index_rows.proofs.steps.spread_inside.Goals as goal
-use Rattle.index_rows.proofs.steps.spread_inside.Goals.{then-inside-node+in_ok-mark, else-inside-node}
+use Rattle.index_rows.proofs.marks.spread_inside.Goals as goal
+use Rattle.index_rows.proofs.marks.spread_inside.Goals.{then-inside-node+in_ok-mark, else-inside-node}
 
 abbrev items : {A : Type 0} → Vec A Global → List A
 items v = v.items

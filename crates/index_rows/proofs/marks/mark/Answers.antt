@@ -2,7 +2,7 @@ use Rattle.index_rows.specs.MarkLaws.{unmarked_read}
 use Rattle.std.proofs.Common.{ℕ, List, true, ◌∷◌, [], set, subst, sym}
 use Rattle.index_rows.specs.Spreads.{IsSpread}
 use Rattle.index_rows.proofs.Spreading.{IsSpread-none, IsSpread-more}
-use Rattle.index_rows.proofs.steps.mark.Goals as goal
+use Rattle.index_rows.proofs.marks.mark.Goals as goal
 
 pub returns-in_ok-push : goal.returns-in_ok-push
 returns-in_ok-push c =
