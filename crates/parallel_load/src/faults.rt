@@ -35,10 +35,7 @@ impl From<ClosureFault> for LoadFault {
     ghost from_gives = { λ fault refusal. refusal ≡ refusal_of fault };
 
     fn from(fault: ClosureFault) -> LoadFault {
-        match fault {
-            ClosureFault::TooMany => LoadFault::TooManyUnits,
-            ClosureFault::Memory => LoadFault::Memory,
-        }
+        LoadFault::from(worker_rounds::RoundFault::from(fault))
     }
 }
 

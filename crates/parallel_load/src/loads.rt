@@ -1,7 +1,5 @@
 //! Loads of a store.
 ghost use Rattle.std.specs.Prelude.{◌≡◌, ◌↔◌, ◌⊎◌, ◌<◌, Err, IfOk, IfErr};
-ghost use Rattle.worker_rounds.specs.Crews.{IsCrew};
-ghost use Rattle.parallel_load.specs.Found.{IsFound};
 ghost use Rattle.parallel_load.specs.Loads.{IsLoad};
 ghost use Rattle.parallel_load.specs.Refusals.{OnTooMany, OnWorkers};
 ghost use Rattle.parallel_load.specs.Universe.{IsTooLarge};
@@ -9,14 +7,12 @@ ghost use Rattle.parallel_load.specs.declared.faults.LoadFault.TheVariants.{Work
 
 use crate::faults::LoadFault;
 use crate::finishing::{settled, settled_by_workers};
-use crate::kept::Kept;
 use crate::loaded::Loaded;
 use crate::loader::UnitLoader;
 use crate::sources::sources;
 use name_closure::close_loaded;
 use replica_store::Store;
 use std::alloc::Global;
-use std::collections::BTreeMap;
 use std::thread::Threads;
 use unit_name::UnitName;
 use worker_rounds::{Gate, close_loaded_by_workers, is_crew};
@@ -35,7 +31,9 @@ pub fn load_here(alloc: Global, store: &Store, extra: &[UnitName]) -> Result<Loa
     ensures not_over { IfOk result (λ _. ¬ IsTooLarge store.now extra.now) }
     ensures no_workers { IfErr result (λ fault. OnWorkers fault ⊥) }
 {
-    let found = found_here(alloc, store, extra)?;
+    let sources = sources(alloc, store, extra)?;
+    let loader = UnitLoader::of(alloc, store)?;
+    let found = close_loaded(alloc, &loader, &sources, MOST_NAMES)?;
     Ok(settled(alloc, extra, found)?)
 }
 
@@ -61,41 +59,8 @@ pub fn load_fleet<R: Threads + Sync, G: Gate + Sync>(
     if !is_crew(workers) {
         return Err(LoadFault::Workers);
     }
-    let found = found_by_workers(rt, alloc, store, extra, workers, gate)?;
+    let sources = sources(alloc, store, extra)?;
+    let loader = UnitLoader::of(alloc, store)?;
+    let found = close_loaded_by_workers(rt, alloc, &loader, &sources, MOST_NAMES, workers, gate)?;
     Ok(settled_by_workers(rt, alloc, extra, found, workers)?)
-}
-
-// All names that must be loaded, each with what is loaded for it alone.
-fn found_here(
-    alloc: Global,
-    store: &Store,
-    extra: &[UnitName],
-) -> Result<BTreeMap<UnitName, Kept>, LoadFault>
-    ensures found { IfOk result (λ found. IsFound store.now extra.now found.entries) }
-    ensures over { IfErr result (λ fault. OnTooMany fault (IsTooLarge store.now extra.now)) }
-    ensures no_workers { IfErr result (λ fault. OnWorkers fault ⊥) }
-{
-    let sources = sources(alloc, store, extra)?;
-    let loader = UnitLoader::of(alloc, store)?;
-    Ok(close_loaded(alloc, &loader, sources.as_slice(), MOST_NAMES)?)
-}
-
-// The same by so many workers. It may wait for threads.
-fn found_by_workers<R: Threads + Sync, G: Gate + Sync>(
-    rt: &R,
-    alloc: Global,
-    store: &Store,
-    extra: &[UnitName],
-    workers: usize,
-    gate: &G,
-) -> Result<BTreeMap<UnitName, Kept>, LoadFault>
-    requires crew { IsCrew workers }
-    ensures found { IfOk result (λ found. IsFound store.now extra.now found.entries) }
-    ensures over { IfErr result (λ fault. OnTooMany fault (IsTooLarge store.now extra.now)) }
-    ensures no_workers { IfErr result (λ fault. OnWorkers fault ⊥) }
-{
-    let sources = sources(alloc, store, extra)?;
-    let loader = UnitLoader::of(alloc, store)?;
-    let names = sources.as_slice();
-    Ok(close_loaded_by_workers(rt, alloc, &loader, names, MOST_NAMES, workers, gate)?)
 }

@@ -25,23 +25,18 @@ pub(crate) fn sources(
     let mut names = Vec::new(alloc);
     add_names(&mut names, extra)?;
     for level in 0..LEVELS {
-        add_visible(alloc, &mut names, store, level)?;
+        add_visible(&mut names, store, level)?;
     }
     Ok(names)
 }
 
 // Adds the names at which something is visible at this level.
-fn add_visible(
-    alloc: Global,
-    names: &mut Vec<UnitName>,
-    store: &Store,
-    level: u8,
-) -> Result<(), AllocError>
+fn add_visible(names: &mut Vec<UnitName>, store: &Store, level: u8) -> Result<(), AllocError>
     ensures added { OnOk result (names.new.items ≡ names.old.items ++ visible_names store.now level) }
 {
     let mut entries = store.entries_in(level, b"");
     while let Some(placed) = entries.next_entry() {
-        if let Some(name) = visible_name(alloc, &placed)? {
+        if let Some(name) = visible_name(store.allocator(), &placed)? {
             names.push(name)?;
         }
     }
