@@ -8,3 +8,4 @@ pub mod Numbering
 pub mod NumberingLaws
 pub mod Steps
 pub mod StepLaws
+pub mod Words

@@ -1,6 +1,5 @@
 //! Least distances from sources.
-ghost use Rattle.std.specs.Prelude.{◌≡◌, ◌<◌, ◌++◌, [], length, map, replicate, true, All, IfOk, OnOk};
-ghost use Rattle.std.specs.List.{flat_map};
+ghost use Rattle.std.specs.Prelude.{◌≡◌, ◌<◌, ◌++◌, [], length, flat_map, map, replicate, true, All, IfOk, OnOk};
 ghost use Rattle.std.specs.Ordering.{nat_cmp};
 ghost use Rattle.name_closure.specs.Chains.{IsDistances};
 ghost use Rattle.name_closure.specs.ListedLaws.{Listed, Named};

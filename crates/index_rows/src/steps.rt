@@ -1,11 +1,10 @@
 //! Steps of one or more kinds.
 ghost use Rattle.std.specs.Prelude.{◌≡◌, ◌<◌, ◌++◌, ◌∷◌, [], ℕ, length, IfOk, OnOk, MatchOption};
-ghost use Rattle.std.specs.Ordering.{nat_cmp};
-ghost use Rattle.list_laws.specs.Members.{IsAmong};
 ghost use Rattle.index_rows.specs.Least.{IsLeast};
 ghost use Rattle.index_rows.specs.Rows.{Marked};
 ghost use Rattle.index_rows.specs.Spreads.{IsSpread};
 ghost use Rattle.index_rows.specs.Steps.{AreStepsOf, steps_from, steps_inside};
+ghost use Rattle.index_rows.specs.Words.{IsAmong, nat_cmp};
 
 use crate::marks::{least_marked, lesser, spread_inside};
 use crate::rows::row;
