@@ -7,33 +7,6 @@ use Rattle.std.proofs.Math.Seq.{drop-append-add}
 use Rattle.std.proofs.lemmas.List.Sums.{position_or_len_is}
 use Rattle.section_reader.specs.Parts.{is_white, trim_start, trim_end, trimmed, is_equals, key_in, value_in, pair_of}
 
--- whitespace at the front goes
-pub trim_start-white : (b : ℕ) (rest : List ℕ) → is_white b ≡ true → trim_start (b ∷ rest) ≡ trim_start rest
-trim_start-white b rest is = ap (λ n. drop n (b ∷ rest)) (cond-true _ (1 + prefix_len is_white rest) 0 is) ∙ drop-append-add (b ∷ []) rest (prefix_len is_white rest)
-
--- any other byte at the front stays
-pub trim_start-other : (b : ℕ) (rest : List ℕ) → is_white b ≡ false → trim_start (b ∷ rest) ≡ b ∷ rest
-trim_start-other b rest is = ap (λ n. drop n (b ∷ rest)) (cond-false _ (1 + prefix_len is_white rest) 0 is)
-
-turned : (before : List ℕ) (b : ℕ) → reverse (before ++ b ∷ []) ≡ b ∷ reverse before
-turned before b = reverse-append before (b ∷ [])
-
--- whitespace at the end goes
-pub trim_end-white : (before : List ℕ) (b : ℕ) → is_white b ≡ true → trim_end (before ++ b ∷ []) ≡ trim_end before
-trim_end-white before b is =
-    let more : suffix_len is_white (before ++ b ∷ []) ≡ 1 + suffix_len is_white before =
-    ap (prefix_len is_white) (turned before b) ∙ cond-true _ (1 + prefix_len is_white (reverse before)) 0 is in
-    let len = length-append before (b ∷ []) in
-    let left : length (before ++ b ∷ []) - suffix_len is_white (before ++ b ∷ []) ≡ length before - suffix_len is_white before = omega (arith, more, len) in
-    ap (λ n. take n (before ++ b ∷ [])) left ∙ take-append-le _ before (b ∷ []) (omega arith)
-
--- any other byte at the end stays
-pub trim_end-other : (before : List ℕ) (b : ℕ) → is_white b ≡ false → trim_end (before ++ b ∷ []) ≡ before ++ b ∷ []
-trim_end-other before b is =
-    let none : suffix_len is_white (before ++ b ∷ []) ≡ 0 =
-    ap (prefix_len is_white) (turned before b) ∙ cond-false _ (1 + prefix_len is_white (reverse before)) 0 is in
-    take_all _ (before ++ b ∷ []) (omega (arith, none))
-
 not_so : (b : Bool) → (b ≡ true → ⊥) → b ≡ false
 not_so true none = absurd (none refl)
 not_so false none = refl

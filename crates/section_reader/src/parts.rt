@@ -1,6 +1,6 @@
 //! What single lines are, and their parts.
-ghost use Rattle.std.specs.Prelude.{◌≡◌, ◌<◌, MatchOption, None, Some, length};
-ghost use Rattle.std.specs.List.{list_all};
+ghost use Rattle.std.specs.Prelude.{◌≡◌, ◌<◌, ◌≤◌, MatchOption, None, Some, length};
+ghost use Rattle.std.specs.List.{list_all, prefix_len, suffix_len};
 ghost use Rattle.bstr.specs.Find.{IsFirstByte};
 ghost use Rattle.section_reader.specs.Parts.{is_white, trim_start, trim_end, trimmed, is_blank, is_comment, is_bracketed, is_equals, form, header_name, pair_of};
 
@@ -65,27 +65,29 @@ pub(crate) fn trim(bytes: &[u8]) -> &[u8]
 fn trim_start(bytes: &[u8]) -> &[u8]
     ensures part { result.now ≡ trim_start bytes.now }
 {
-    let mut text = bytes;
-    while let Some((first, behind)) = text.split_first() {
-        if !is_white(*first) {
-            return text;
-        }
-        text = behind;
-    }
-    text
+    &bytes[white_at_front(bytes)..]
 }
 
 fn trim_end(bytes: &[u8]) -> &[u8]
     ensures part { result.now ≡ trim_end bytes.now }
 {
-    let mut text = bytes;
-    while let Some((last, before)) = text.split_last() {
-        if !is_white(*last) {
-            return text;
-        }
-        text = before;
-    }
-    text
+    &bytes[..bytes.len() - white_at_end(bytes)]
+}
+
+/// How many bytes of whitespace stand at the front.
+fn white_at_front(bytes: &[u8]) -> usize
+    ensures count { result ≡ prefix_len is_white bytes.now }
+    ensures within { result ≤ length bytes.now }
+{
+    bytes.iter().take_while(|b| is_white(**b)).count()
+}
+
+/// How many bytes of whitespace stand at the end.
+fn white_at_end(bytes: &[u8]) -> usize
+    ensures count { result ≡ suffix_len is_white bytes.now }
+    ensures within { result ≤ length bytes.now }
+{
+    bytes.iter().rev().take_while(|b| is_white(**b)).count()
 }
 
 /// Whether a logical line is a header, good or bad.
