@@ -1,11 +1,9 @@
 -- The parts of a line, as searches find them.
-use Rattle.std.proofs.Common.{◌≡◌, ◌<◌, ◌-◌, ◌+◌, ◌&&◌, ltb, Some, None, ℕ, Bool, true, false, List, [], ◌∷◌, ◌++◌, length, take, drop, get_or, reverse, refl, ap, ◌∙◌, arith}
-use Rattle.std.specs.List.{prefix_len, suffix_len, position_or_len}
+use Rattle.std.proofs.Common.{◌≡◌, ◌<◌, ◌-◌, ◌+◌, ◌&&◌, ltb, Some, None, ℕ, Bool, true, false, List, length, take, drop, get_or, refl, ap, ◌∙◌, arith}
+use Rattle.std.specs.List.{position_or_len}
 use Rattle.std.proofs.lemmas.Bool.{cond-true, cond-false, and_from, lt-ltb, le-ltb}
-use Rattle.std.proofs.lemmas.List.{reverse-append, length-append, take-append-le, take_all}
-use Rattle.std.proofs.Math.Seq.{drop-append-add}
 use Rattle.std.proofs.lemmas.List.Sums.{position_or_len_is}
-use Rattle.section_reader.specs.Parts.{is_white, trim_start, trim_end, trimmed, is_equals, key_in, value_in, pair_of}
+use Rattle.section_reader.specs.Parts.{trimmed, is_equals, key_in, value_in, pair_of}
 
 not_so : (b : Bool) → (b ≡ true → ⊥) → b ≡ false
 not_so true none = absurd (none refl)

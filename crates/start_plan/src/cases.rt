@@ -9,13 +9,11 @@ ghost use Rattle.plan_choice.specs.NamedCases.{IsNamedCase};
 ghost use Rattle.plan_choice.specs.RowCases.{case_of as case_of_rows};
 ghost use Rattle.inverse_deps.specs.Numbers.{count_of, name_at};
 ghost use Rattle.unit_graph.specs.Graphs.{LeadsBy};
-ghost use Rattle.start_plan.specs.Marks.{AreMarksBy};
-ghost use Rattle.start_plan.specs.Requests.{AsksTemplate, IsOfGraph, case_of, is_loaded, is_manual};
+ghost use Rattle.start_plan.specs.Requests.{AsksTemplate, IsOfGraph, case_of};
 
-use crate::marks::{loaded_marks, manual_marks, named_marks};
+use crate::marks::{named_marks, status_marks};
 use crate::requests::Request;
 use index_rows::Steps;
-use parallel_load::Loaded;
 use plan_choice::PlanRows;
 use setting_rules::DepKind;
 use std::alloc::{AllocError, Global};
@@ -42,13 +40,6 @@ const TAKING: [DepKind; 4] = [
     DepKind::BoundBy,
     DepKind::ConsistsOf,
 ];
-
-// Marks at the units that are loaded, and at those that refuse that a person starts them.
-#[derive(Drop)]
-struct StatusMarks {
-    loaded: Vec<bool>,
-    manual: Vec<bool>,
-}
 
 // Steps of some kinds, and of the inverses of these.
 #[derive(Drop)]
@@ -98,16 +89,6 @@ pub(crate) fn case_of<'b>(
         stops_with: tying.steps,
         takes_along: tying.inverses,
     })
-}
-
-// The marks of the statuses of units.
-fn status_marks(alloc: Global, load: &Loaded) -> Result<StatusMarks, AllocError>
-    ensures loaded { IfOk result (λ marks. AreMarksBy load.now is_loaded marks.loaded.items) }
-    ensures manual { IfOk result (λ marks. AreMarksBy load.now is_manual marks.manual.items) }
-{
-    let loaded = loaded_marks(alloc, load)?;
-    let manual = manual_marks(alloc, load)?;
-    Ok(StatusMarks { loaded, manual })
 }
 
 // The steps of kinds, and those of their inverses.

@@ -1,6 +1,5 @@
 //! What is known of units, as marks.
-ghost use Rattle.std.specs.Prelude.{◌≡◌, ◌↔◌, ◌<◌, ℕ, Bool, IfOk, length};
-ghost use Rattle.std.specs.List.{slice_index_or};
+ghost use Rattle.std.specs.Prelude.{◌≡◌, ◌↔◌, ◌<◌, ℕ, IfOk, length};
 ghost use Rattle.list_laws.specs.Members.{IsAmong};
 ghost use Rattle.index_rows.specs.Rows.{Marked};
 ghost use Rattle.parallel_load.specs.Loads.{unit_part};
@@ -15,16 +14,27 @@ use std::alloc::{AllocError, Global};
 use unit_graph::Graph;
 use unit_name::UnitName;
 
-// Marks at the units that are loaded.
-pub(crate) fn loaded_marks(alloc: Global, loaded: &Loaded) -> Result<Vec<bool>, AllocError>
-    ensures marks { IfOk result (λ marks. AreMarksBy loaded.now is_loaded marks.items) }
+// Marks at the units that are loaded, and at those that refuse that a person starts them.
+#[derive(Drop)]
+pub(crate) struct StatusMarks {
+    pub(crate) loaded: Vec<bool>,
+    pub(crate) manual: Vec<bool>,
+}
+
+// The marks of the statuses of units. O(n).
+pub(crate) fn status_marks(alloc: Global, load: &Loaded) -> Result<StatusMarks, AllocError>
+    ensures loaded { IfOk result (λ marks. AreMarksBy load.now is_loaded marks.loaded.items) }
+    ensures manual { IfOk result (λ marks. AreMarksBy load.now is_manual marks.manual.items) }
 {
-    let names = loaded.names();
-    let mut marks = Vec::new(alloc);
+    let names = load.names();
+    let mut loaded = Vec::new(alloc);
+    let mut manual = Vec::new(alloc);
     for number in 0..names.len() {
-        marks.push(is_loaded(&names[number].1))?;
+        let one = &names[number].1;
+        loaded.push(is_loaded(one))?;
+        manual.push(is_manual(one))?;
     }
-    Ok(marks)
+    Ok(StatusMarks { loaded, manual })
 }
 
 // Whether a unit stands for a name, and it is loaded.
@@ -44,18 +54,6 @@ fn has_fragment(status: &Status) -> bool
         Status::Loaded(_) => true,
         Status::NotFound | Status::Masked | Status::Bad(_) => false,
     }
-}
-
-// Marks at the units that refuse that a person starts them.
-pub(crate) fn manual_marks(alloc: Global, loaded: &Loaded) -> Result<Vec<bool>, AllocError>
-    ensures marks { IfOk result (λ marks. AreMarksBy loaded.now is_manual marks.items) }
-{
-    let names = loaded.names();
-    let mut marks = Vec::new(alloc);
-    for number in 0..names.len() {
-        marks.push(is_manual(&names[number].1))?;
-    }
-    Ok(marks)
 }
 
 // Whether a unit stands for a name, and it refuses that a person starts it.

@@ -1,6 +1,5 @@
 //! Names for the numbers of a plan.
-ghost use Rattle.std.specs.Prelude.{◌≡◌, ◌<◌, ℕ, Some, IfOk, false, map};
-ghost use Rattle.std.specs.List.{All};
+ghost use Rattle.std.specs.Prelude.{◌≡◌, ◌<◌, ℕ, Some, All, IfOk, false, map};
 ghost use Rattle.parallel_load.specs.Loads.{unit_in};
 ghost use Rattle.plan_choice.specs.RowRefusals.{refusal_of};
 ghost use Rattle.inverse_deps.specs.Edges.{IsUnitIn};
