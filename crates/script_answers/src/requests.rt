@@ -16,7 +16,7 @@ pub(crate) fn read_request(alloc: Global, unit: &[u8], running: Words<'_>) -> Re
         (IsNameFault (request_of unit.now running.entry)) }
 {
     let target = read_name(alloc, unit)?;
-    let running = Items::from_vec(read_names(alloc, running)?);
+    let running = read_names(alloc, running)?;
     Ok(Request { target, running })
 }
 
@@ -31,14 +31,13 @@ pub(crate) fn read_name(alloc: Global, word: &[u8]) -> Result<UnitName, Fault>
 }
 
 // The unit names that words are.
-fn read_names(alloc: Global, mut words: Words<'_>) -> Result<Vec<UnitName>, Fault>
-    ensures read { MatchResult result (λ names. names_in words.entry ≡ Ok names.items)
+fn read_names(alloc: Global, mut words: Words<'_>) -> Result<Items<UnitName>, Fault>
+    ensures read { MatchResult result (λ names. names_in words.entry ≡ Ok names)
         (IsNameFault (names_in words.entry)) }
 {
-    let mut names = Vec::new(alloc);
+    let mut names = Items::new(alloc);
     while let Some(word) = words.take_first() {
-        let name = read_name(alloc, word)?;
-        names.push(name)?;
+        names.push(read_name(alloc, word)?)?;
     }
     Ok(names)
 }

@@ -1,5 +1,5 @@
 //! How a unit is written.
-ghost use Rattle.std.specs.Prelude.{◌≡◌, ◌++◌, IfOk, OnOk};
+ghost use Rattle.std.specs.Prelude.{◌≡◌, ◌++◌, ℕ, List, IfOk, OnOk};
 ghost use Rattle.std.specs.List.{flat_map};
 ghost use Rattle.script_answers.specs.UnitLines.{cause_text, dropin_line, head_text, kind_line, note_line, row_line, status_text, unit_text};
 
@@ -43,72 +43,65 @@ fn append_status(out: &mut Vec<u8>, status: &Status) -> Result<(), AllocError>
     }
 }
 
-// Appends a line for each drop-in.
-fn append_dropins(out: &mut Vec<u8>, dropins: &[Path]) -> Result<(), AllocError>
-    ensures appended { OnOk result (out.new.items ≡ out.old.items ++ flat_map dropin_line dropins.now) }
+// What is written of a unit in lines of a kind: a line of its own for each, or none.
+trait UnitLine {
+    // The line.
+    ghost line: { Self → List ℕ };
+
+    // Appends it.
+    fn append_line(&self, out: &mut Vec<u8>) -> Result<(), AllocError>
+        ensures appended { OnOk result (out.new.items ≡ out.old.items ++ line self.now) };
+}
+
+// Appends the lines of all, one behind another.
+fn append_lines<L: UnitLine>(out: &mut Vec<u8>, all: &[L]) -> Result<(), AllocError>
+    ensures appended { OnOk result (out.new.items ≡ out.old.items ++ flat_map L.line all.now) }
 {
-    for dropin in dropins {
-        append_dropin(out, dropin)?;
+    for one in all {
+        one.append_line(out)?;
     }
     Ok(())
 }
 
-// Appends the line of a drop-in.
-fn append_dropin(out: &mut Vec<u8>, dropin: &Path) -> Result<(), AllocError>
-    ensures appended { OnOk result (out.new.items ≡ out.old.items ++ dropin_line dropin.now) }
-{
-    out.extend_from_slice(b"dropin ")?;
-    dropin.append_to(out)?;
-    out.push(b'\n')?;
-    Ok(())
-}
+// The path of a drop-in.
+impl UnitLine for Path {
+    ghost line = { dropin_line };
 
-// Appends a line for each value.
-fn append_rows(out: &mut Vec<u8>, rows: &[Row]) -> Result<(), AllocError>
-    ensures appended { OnOk result (out.new.items ≡ out.old.items ++ flat_map row_line rows.now) }
-{
-    for row in rows {
-        append_row(out, row)?;
+    fn append_line(&self, out: &mut Vec<u8>) -> Result<(), AllocError> {
+        out.extend_from_slice(b"dropin ")?;
+        self.append_to(out)?;
+        out.extend_from_slice(b"\n")
     }
-    Ok(())
 }
 
-// Appends the line of a value.
-fn append_row(out: &mut Vec<u8>, row: &Row) -> Result<(), AllocError>
-    ensures appended { OnOk result (out.new.items ≡ out.old.items ++ row_line row.now) }
-{
-    out.extend_from_slice(row.section.as_slice())?;
-    out.push(b'.')?;
-    out.extend_from_slice(row.key.as_slice())?;
-    out.push(b'=')?;
-    out.extend_from_slice(row.value.as_slice())?;
-    out.push(b'\n')?;
-    Ok(())
-}
+// A value.
+impl UnitLine for Row {
+    ghost line = { row_line };
 
-// Appends a line for each kind by which a unit has edges.
-fn append_kinds(out: &mut Vec<u8>, lists: &[DependencyList]) -> Result<(), AllocError>
-    ensures appended { OnOk result (out.new.items ≡ out.old.items ++ flat_map kind_line lists.now) }
-{
-    for list in lists {
-        append_kind(out, list)?;
+    fn append_line(&self, out: &mut Vec<u8>) -> Result<(), AllocError> {
+        out.extend_from_slice(self.section.as_slice())?;
+        out.push(b'.')?;
+        out.extend_from_slice(self.key.as_slice())?;
+        out.push(b'=')?;
+        out.extend_from_slice(self.value.as_slice())?;
+        out.extend_from_slice(b"\n")
     }
-    Ok(())
 }
 
-// Appends the line of a kind, if there are names.
-fn append_kind(out: &mut Vec<u8>, list: &DependencyList) -> Result<(), AllocError>
-    ensures appended { OnOk result (out.new.items ≡ out.old.items ++ kind_line list.now) }
-{
-    let names = list.names.as_slice();
-    if names.is_empty() {
-        return Ok(());
+// A kind by which a unit has edges, if there are names.
+impl UnitLine for DependencyList {
+    ghost line = { kind_line };
+
+    fn append_line(&self, out: &mut Vec<u8>) -> Result<(), AllocError> {
+        let names = self.names.as_slice();
+        if names.is_empty() {
+            return Ok(());
+        }
+        out.extend_from_slice(self.kind.word().as_bytes())?;
+        out.push(b':')?;
+        append_names(out, names)?;
+        out.extend_from_slice(b"\n")
     }
-    out.extend_from_slice(list.kind.word().as_bytes())?;
-    out.push(b':')?;
-    append_names(out, names)?;
-    out.push(b'\n')?;
-    Ok(())
 }
 
 // Appends a line for each note. The scratch is room for numbers.
@@ -159,9 +152,9 @@ pub(crate) fn unit_text(alloc: Global, linked: &LinkedUnit) -> Result<Vec<u8>, A
     let unit = &linked.unit;
     let mut out = Vec::from_slice(alloc, b"unit ")?;
     append_head(&mut out, unit)?;
-    append_dropins(&mut out, unit.dropins.as_slice())?;
-    append_rows(&mut out, unit.values.as_slice())?;
-    append_kinds(&mut out, linked.edges.as_slice())?;
+    append_lines(&mut out, unit.dropins.as_slice())?;
+    append_lines(&mut out, unit.values.as_slice())?;
+    append_lines(&mut out, linked.edges.as_slice())?;
     let mut scratch = String::new(alloc);
     append_notes(&mut out, &mut scratch, unit.notes.as_slice())?;
     out.extend_from_slice(b"end\n")?;

@@ -4,7 +4,7 @@ use Rattle.script_commands.specs.Each.{values_then}
 use Rattle.script_answers.proofs.requests.read_names.Given as goal
 
 abbrev pub invariant-loop-word : goal.invariant-loop-word
-invariant-loop-word l = names_in l.fn.words ≡ values_then l.names.items (names_in l.words)
+invariant-loop-word l = names_in l.fn.words ≡ values_then l.names (names_in l.words)
 
 abbrev pub decreases-loop-word : goal.decreases-loop-word
 decreases-loop-word l = length l.words
