@@ -1,18 +1,19 @@
 //! Questions of stores and of nodes of worlds, in words.
-use crate::edits::{Asked, asked_of, edits_of};
-use crate::tellings::{append_names, append_unit, begin};
+use crate::edits::asked_of;
+use crate::graphs::append_far;
+use crate::tellings::append_unit;
 use delta_gossip::Event;
 use fleet_answers::{
-    Answer, AnswerFault, LinkedUnit, Question, answer_here, answer_in_world, answer_question,
+    Answer as Told, AnswerFault, LinkedUnit, Question, answer_here, answer_in_world,
+    answer_question,
 };
 use plain_values::Items;
 use replica_store::Edit;
 use setting_rules::DependencyList;
 use start_plan::{Plan, Request};
-use std::alloc::{AllocError, Global};
+use std::alloc::Global;
 use std::thread::Threads;
-use unit_name::UnitName;
-use worked_lines::{LineFault, Words, is};
+use worked_lines::{Answer, LineFault, Words, is};
 use worker_rounds::OpenGate;
 
 // The question that a list of words writes: `unit NAME`, `pulled NAME`, or `plan TARGET RUNNING..`.
@@ -38,80 +39,65 @@ fn question_of(words: &mut Words) -> Result<Question, LineFault> {
 }
 
 // Writes a list of edges, if there are some.
-fn append_edges(out: &mut Vec<u8>, list: &DependencyList) -> Result<(), AllocError> {
+fn append_edges(out: &mut Answer, list: &DependencyList) -> Result<(), LineFault> {
     if list.names.as_slice().is_empty() {
         return Ok(());
     }
-    out.extend_from_slice(b"; ")?;
-    out.extend_from_slice(list.kind.word().as_bytes())?;
-    append_names(out, list.names.as_slice())
+    out.write(b"; ")?;
+    out.write(list.kind.word().as_bytes())?;
+    out.names(list.names.as_slice())
 }
 
 // Writes a unit and its edges.
-fn append_linked(alloc: Global, out: &mut Vec<u8>, linked: &LinkedUnit) -> Result<(), AllocError> {
-    out.extend_from_slice(linked.unit.name.bytes())?;
-    out.push(b' ')?;
-    append_unit(alloc, out, &linked.unit)?;
+fn append_linked(out: &mut Answer, linked: &LinkedUnit) -> Result<(), LineFault> {
+    out.write(linked.unit.name.bytes())?;
+    out.write(b" ")?;
+    append_unit(out, &linked.unit)?;
     for list in linked.edges.as_slice() {
         append_edges(out, list)?;
     }
     Ok(())
 }
 
-// Writes which units are pulled, each behind its distance.
-fn append_pulled(
-    alloc: Global,
-    out: &mut Vec<u8>,
-    pairs: &[(u64, UnitName)],
-) -> Result<(), AllocError> {
-    out.extend_from_slice(b"pulls")?;
-    for (distance, name) in pairs {
-        out.extend_from_slice(format!(in alloc; " {distance} ")?.as_bytes())?;
-        out.extend_from_slice(name.bytes())?;
-    }
-    Ok(())
-}
-
 // Writes which units stop and which start.
-fn append_plan(out: &mut Vec<u8>, plan: &Plan) -> Result<(), AllocError> {
-    out.extend_from_slice(b"stops")?;
-    append_names(out, plan.stop.as_slice())?;
-    out.extend_from_slice(b", starts")?;
-    append_names(out, plan.start.as_slice())
+fn append_plan(out: &mut Answer, plan: &Plan) -> Result<(), LineFault> {
+    out.write(b"stops")?;
+    out.names(plan.stop.as_slice())?;
+    out.write(b", starts")?;
+    out.names(plan.start.as_slice())
 }
 
-// Writes an answer.
-fn append_answer(alloc: Global, out: &mut Vec<u8>, answer: &Answer) -> Result<(), AllocError> {
-    match answer {
-        Answer::Template => out.extend_from_slice(b"a template"),
-        Answer::TooManyUnits => out.extend_from_slice(b"too many units"),
-        Answer::Unit(linked) => append_linked(alloc, out, linked),
-        Answer::Pulled(pairs) => append_pulled(alloc, out, pairs.as_slice()),
-        Answer::Planned(plan) => append_plan(out, plan),
-        Answer::Refused(refusal) => {
-            out.extend_from_slice(format!(in alloc; "{refusal}")?.as_bytes())
+// Writes what a question was answered.
+fn append_told(out: &mut Answer, told: &Told) -> Result<(), LineFault> {
+    match told {
+        Told::Template => out.write(b"a template"),
+        Told::TooManyUnits => out.write(b"too many units"),
+        Told::Unit(linked) => append_linked(out, linked),
+        Told::Pulled(pairs) => {
+            out.write(b"pulls")?;
+            append_far(out, pairs.as_slice())
         }
+        Told::Planned(plan) => append_plan(out, plan),
+        Told::Refused(refusal) => out.print(refusal),
     }
 }
 
-// The text of an answer.
-fn text_of(alloc: Global, answer: &Answer) -> Result<Vec<u8>, LineFault> {
-    let mut out = Vec::new(alloc);
-    append_answer(alloc, &mut out, answer)?;
-    Ok(out)
-}
-
-// The text of why there is no answer, unless that is want of memory.
-fn fault_text(alloc: Global, fault: AnswerFault) -> Result<Vec<u8>, LineFault> {
-    match fault {
-        AnswerFault::Workers => Ok(Vec::from_slice(alloc, b"L1 Workers")?),
-        AnswerFault::Memory => Err(LineFault::Memory),
+// The text of what workers answered, if there was a node to ask; or of why there is no answer, unless that is want of
+// memory.
+fn text_of(alloc: Global, told: Result<Option<Told>, AnswerFault>) -> Result<Vec<u8>, LineFault> {
+    let mut out = Answer::new(alloc);
+    match told {
+        Ok(Some(told)) => append_told(&mut out, &told)?,
+        Ok(None) => out.write(b"none")?,
+        Err(AnswerFault::Workers) => out.write(b"L1 Workers")?,
+        Err(AnswerFault::Memory) => return Err(LineFault::Memory),
     }
+    Ok(out.bytes)
 }
 
 // Writes a text, or that it is the one before.
-fn append_beside(out: &mut Vec<u8>, text: &[u8], before: &[u8]) -> Result<(), AllocError> {
-    out.extend_from_slice(if text == before { b"the same" } else { text })
+fn append_beside(out: &mut Answer, text: &[u8], before: &[u8]) -> Result<(), LineFault> {
+    out.either(text == before, b"the same", text)
 }
 
 // A question, and by how many workers it is answered, each time.
@@ -125,58 +111,28 @@ struct Asking {
 fn asking_of(words: &mut Words) -> Result<Asking, LineFault> {
     let question = question_of(words)?;
     let counts = words.numbers()?;
-    words.end()?;
     Ok(Asking { question, counts })
-}
-
-// What a store answers, by one thread.
-fn told_here(alloc: Global, asked: &Asked, question: &Question) -> Result<Vec<u8>, LineFault> {
-    let answer = answer_here(alloc, &asked.store, &asked.names, question)?;
-    text_of(alloc, &answer)
-}
-
-// What a store answers, by so many workers.
-fn told_by<R: Threads + Sync>(
-    rt: &R,
-    alloc: Global,
-    asked: &Asked,
-    question: &Question,
-    workers: usize,
-) -> Result<Vec<u8>, LineFault> {
-    let (store, names) = (&asked.store, &asked.names);
-    match answer_question(rt, alloc, store, names, question, workers, &OpenGate) {
-        Ok(answer) => text_of(alloc, &answer),
-        Err(fault) => fault_text(alloc, fault),
-    }
-}
-
-// Answers a question from a store by one thread, and then by each number of workers.
-fn tell_all<R: Threads + Sync>(
-    rt: &R,
-    alloc: Global,
-    asked: &Asked,
-    asking: &Asking,
-) -> Result<Vec<u8>, LineFault> {
-    let here = told_here(alloc, asked, &asking.question)?;
-    let mut out = Vec::new(alloc);
-    begin(&mut out, &here)?;
-    for count in &asking.counts {
-        let told = told_by(rt, alloc, asked, &asking.question, *count)?;
-        begin(&mut out, format!(in alloc; "{count} workers: ")?.as_bytes())?;
-        append_beside(&mut out, &told, &here)?;
-    }
-    Ok(out)
 }
 
 /// Answers a question from a store by one thread, and then by each number of workers.
 pub fn ask<R: Threads + Sync>(
     rt: &R,
-    alloc: Global,
     words: &mut Words,
-) -> Result<Vec<u8>, LineFault> {
-    let asked = asked_of(alloc, words)?;
-    let asking = asking_of(words)?;
-    tell_all(rt, alloc, &asked, &asking)
+    out: &mut Answer,
+) -> Result<(), LineFault> {
+    let asked = asked_of(words)?;
+    let Asking { question, counts } = asking_of(words)?;
+    let (store, names) = (&asked.store, &asked.names);
+    let here = answer_here(words.alloc, store, names, &question)?;
+    let here = text_of(words.alloc, Ok(Some(here)))?;
+    out.write(&here)?;
+    for count in &counts {
+        let told = answer_question(rt, words.alloc, store, names, &question, *count, &OpenGate);
+        let text = text_of(words.alloc, told.map(Some))?;
+        out.line(format!(in out.alloc; "{count} workers: ")?.as_bytes())?;
+        append_beside(out, &text, &here)?;
+    }
+    Ok(())
 }
 
 // The first node puts edits, and then the second is given all that it lacks, in the exchange of a number.
@@ -209,7 +165,7 @@ fn told_at<R: Threads + Sync>(
     question: &Question,
     workers: usize,
 ) -> Result<Vec<u8>, LineFault> {
-    match answer_in_world(
+    let told = answer_in_world(
         rt,
         alloc,
         &[1, 2],
@@ -219,77 +175,55 @@ fn told_at<R: Threads + Sync>(
         question,
         workers,
         &OpenGate,
-    ) {
-        Ok(Some(answer)) => text_of(alloc, &answer),
-        Ok(None) => Ok(Vec::from_slice(alloc, b"none")?),
-        Err(fault) => fault_text(alloc, fault),
-    }
+    );
+    text_of(alloc, told)
 }
 
-// What the nodes answer by so many workers, and that there is no third.
+// Writes what the nodes answer by so many workers, and that there is no third.
 fn append_nodes<R: Threads + Sync>(
     rt: &R,
-    alloc: Global,
-    out: &mut Vec<u8>,
+    out: &mut Answer,
     events: &[Event],
     question: &Question,
     workers: usize,
 ) -> Result<(), LineFault> {
-    let first = told_at(rt, alloc, events, 0, question, workers)?;
-    begin(
-        out,
-        format!(in alloc; "{workers} workers, node 0: ")?.as_bytes(),
-    )?;
-    out.extend_from_slice(&first)?;
-    for node in 1..3 {
-        let told = told_at(rt, alloc, events, node, question, workers)?;
-        begin(
-            out,
-            format!(in alloc; "{workers} workers, node {node}: ")?.as_bytes(),
-        )?;
-        append_beside(out, &told, &first)?;
+    let mut first = Vec::new(out.alloc);
+    for node in 0..3 {
+        let text = told_at(rt, out.alloc, events, node, question, workers)?;
+        out.line(format!(in out.alloc; "{workers} workers, node {node}: ")?.as_bytes())?;
+        append_beside(out, &text, &first)?;
+        if node == 0 {
+            first = text;
+        }
     }
     Ok(())
 }
 
-// What the nodes answer by each number of workers.
+// Writes what the nodes answer by each number of workers.
 fn append_moment<R: Threads + Sync>(
     rt: &R,
-    alloc: Global,
-    out: &mut Vec<u8>,
+    out: &mut Answer,
     events: &[Event],
     asking: &Asking,
 ) -> Result<(), LineFault> {
     for count in &asking.counts {
-        append_nodes(rt, alloc, out, events, &asking.question, *count)?;
+        append_nodes(rt, out, events, &asking.question, *count)?;
     }
     Ok(())
-}
-
-// What the nodes answer once the second took all but the last edit, and then once it took all.
-fn tell_moments<R: Threads + Sync>(
-    rt: &R,
-    alloc: Global,
-    edits: &[Edit],
-    asking: &Asking,
-) -> Result<Vec<u8>, LineFault> {
-    let first = edits.len().checked_sub(1).ok_or(LineFault::Words)?;
-    let mut out = Vec::new(alloc);
-    let mut events = Vec::new(alloc);
-    add_events(&mut events, &edits[..first], 0)?;
-    append_moment(rt, alloc, &mut out, &events, asking)?;
-    add_events(&mut events, &edits[first..], 1)?;
-    append_moment(rt, alloc, &mut out, &events, asking)?;
-    Ok(out)
 }
 
 /// Answers a question at two nodes of a world that took the same edits, of all but the last edit and then of all.
 pub fn world<R: Threads + Sync>(
     rt: &R,
-    alloc: Global,
     words: &mut Words,
-) -> Result<Vec<u8>, LineFault> {
-    let edits = edits_of(alloc, words)?;
+    out: &mut Answer,
+) -> Result<(), LineFault> {
+    let edits = words.edits()?;
     let asking = asking_of(words)?;
-    tell_moments(rt, alloc, &edits, &asking)
+    let before_last = edits.len().checked_sub(1).ok_or(LineFault::Words)?;
+    let mut events = Vec::new(words.alloc);
+    add_events(&mut events, &edits[..before_last], 0)?;
+    append_moment(rt, out, &events, &asking)?;
+    add_events(&mut events, &edits[before_last..], 1)?;
+    append_moment(rt, out, &events, &asking)
 }

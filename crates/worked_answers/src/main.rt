@@ -41,12 +41,12 @@ mod tellings;
 
 use std::alloc::AllocError;
 use std::process::ExitCode;
-use worked_lines::{LineFault, answer_lines, cut_at, work_input};
+use worked_lines::{Answer, LineFault, Words, answer_lines, cut_at, work_input};
 
 fn main(rt: HostRuntime) -> ExitCode {
     work_input(&rt, |text: &[u8]| -> Result<Vec<u8>, AllocError> {
-        let answer = |line: &[u8]| -> Result<Vec<u8>, LineFault> {
-            answers::answer(&rt, rt.alloc(), line)
+        let answer = |words: &mut Words, out: &mut Answer| -> Result<(), LineFault> {
+            answers::answer(&rt, words, out)
         };
         let Some((lines, dialogues)) = cut_at(text, b'\x0c') else {
             return answer_lines(rt.alloc(), text, b"\n  ", answer);

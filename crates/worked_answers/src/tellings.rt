@@ -1,43 +1,29 @@
 //! How loads and units are written.
 use load_path::Path;
 use parallel_load::{Loaded, NameLoad, Status, Unit};
-use std::alloc::{AllocError, Global};
 use unit_name::UnitName;
-
-/// Begins a line below a call.
-pub fn begin(out: &mut Vec<u8>, word: &[u8]) -> Result<(), AllocError> {
-    out.extend_from_slice(b"\n  ")?;
-    out.extend_from_slice(word)
-}
+use worked_lines::{Answer, LineFault};
 
 // Writes a word behind a space.
-fn append_word(out: &mut Vec<u8>, word: &[u8]) -> Result<(), AllocError> {
-    out.push(b' ')?;
-    out.extend_from_slice(word)
-}
-
-/// Writes names, each behind a space.
-pub fn append_names(out: &mut Vec<u8>, names: &[UnitName]) -> Result<(), AllocError> {
-    for name in names {
-        append_word(out, name.bytes())?;
-    }
-    Ok(())
+fn append_word(out: &mut Answer, word: &[u8]) -> Result<(), LineFault> {
+    out.write(b" ")?;
+    out.write(word)
 }
 
 // Writes the names of a load, each with the main name of which it is an alias.
-fn append_loads(out: &mut Vec<u8>, names: &[(UnitName, NameLoad)]) -> Result<(), AllocError> {
+fn append_loads(out: &mut Answer, names: &[(UnitName, NameLoad)]) -> Result<(), LineFault> {
     for (name, load) in names {
         append_word(out, name.bytes())?;
         if let NameLoad::Alias(main) = load {
-            out.push(b'>')?;
-            out.extend_from_slice(main.bytes())?;
+            out.write(b">")?;
+            out.write(main.bytes())?;
         }
     }
     Ok(())
 }
 
 // Writes the names of units.
-fn append_units(out: &mut Vec<u8>, units: &[&Unit]) -> Result<(), AllocError> {
+fn append_units(out: &mut Answer, units: &[&Unit]) -> Result<(), LineFault> {
     for unit in units {
         append_word(out, unit.name.bytes())?;
     }
@@ -45,67 +31,62 @@ fn append_units(out: &mut Vec<u8>, units: &[&Unit]) -> Result<(), AllocError> {
 }
 
 /// Writes what was asked for, all names with what they stand for, and the units.
-pub fn append_load(out: &mut Vec<u8>, load: &Loaded) -> Result<(), AllocError> {
-    begin(out, b"asked")?;
-    append_names(out, load.extra())?;
-    begin(out, b"names")?;
+pub fn append_load(out: &mut Answer, load: &Loaded) -> Result<(), LineFault> {
+    out.line(b"asked")?;
+    out.names(load.extra())?;
+    out.line(b"names")?;
     append_loads(out, load.names())?;
-    begin(out, b"units")?;
+    out.line(b"units")?;
     append_units(out, &load.units()?)
 }
 
 // Writes paths, each behind a space.
-fn append_paths(out: &mut Vec<u8>, paths: &[Path]) -> Result<(), AllocError> {
+fn append_paths(out: &mut Answer, paths: &[Path]) -> Result<(), LineFault> {
     for path in paths {
-        out.push(b' ')?;
-        path.append_to(out)?;
+        out.write(b" ")?;
+        path.append_to(&mut out.bytes)?;
     }
     Ok(())
 }
 
 /// Writes what stands for a unit.
-pub fn append_status(alloc: Global, out: &mut Vec<u8>, status: &Status) -> Result<(), AllocError> {
+pub fn append_status(out: &mut Answer, status: &Status) -> Result<(), LineFault> {
     match status {
         Status::Loaded(path) => {
-            out.extend_from_slice(b"loaded from ")?;
-            path.append_to(out)
+            out.write(b"loaded from ")?;
+            Ok(path.append_to(&mut out.bytes)?)
         }
-        Status::NotFound => out.extend_from_slice(b"not found"),
-        Status::Masked => out.extend_from_slice(b"masked"),
+        Status::NotFound => out.write(b"not found"),
+        Status::Masked => out.write(b"masked"),
         Status::Bad(cause) => {
-            out.extend_from_slice(format!(in alloc; "bad {cause}")?.as_bytes())
+            out.write(b"bad ")?;
+            out.print(cause)
         }
     }
 }
 
 /// Writes what stands for a unit, its names, the main name first, and its drop-ins.
-pub fn append_unit(alloc: Global, out: &mut Vec<u8>, unit: &Unit) -> Result<(), AllocError> {
-    append_status(alloc, out, &unit.status)?;
-    out.extend_from_slice(b", names")?;
-    append_names(out, unit.names.as_slice())?;
-    if unit.dropins.as_slice().is_empty() {
-        return Ok(());
+pub fn append_unit(out: &mut Answer, unit: &Unit) -> Result<(), LineFault> {
+    append_status(out, &unit.status)?;
+    out.write(b", names")?;
+    out.names(unit.names.as_slice())?;
+    if !unit.dropins.as_slice().is_empty() {
+        out.write(b", drop-ins")?;
     }
-    out.extend_from_slice(b", drop-ins")?;
     append_paths(out, unit.dropins.as_slice())
 }
 
 /// Writes the main name of a name of a load, and the unit whose main name it is.
-pub fn append_looked_up(
-    alloc: Global,
-    out: &mut Vec<u8>,
-    load: &Loaded,
-    name: &UnitName,
-) -> Result<(), AllocError> {
-    begin(out, name.bytes())?;
-    out.extend_from_slice(b": main ")?;
+pub fn append_looked_up(out: &mut Answer, load: &Loaded, name: &UnitName) -> Result<(), LineFault> {
+    out.line(name.bytes())?;
+    out.write(b": main ")?;
     match load.main(name) {
-        Some(main) => out.extend_from_slice(main.bytes())?,
-        None => out.extend_from_slice(b"none")?,
+        Some(main) => out.write(main.bytes())?,
+        None => out.write(b"none")?,
     }
-    out.extend_from_slice(b", unit ")?;
+    out.write(b", unit ")?;
     match load.unit(name) {
-        Some(unit) => append_unit(alloc, out, unit),
-        None => out.extend_from_slice(b"none"),
+        Some(unit) => append_unit(out, unit),
+        None => out.write(b"none"),
     }
 }

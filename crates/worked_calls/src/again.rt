@@ -2,18 +2,16 @@
 //!
 //! The answer is that of the call where nothing is refused. Where something was, what stood between the two calls comes
 //! behind it, after the words `; refused at`.
-use crate::answer_text::Answer;
-use crate::edits::{append_store, placed_of, store};
+use crate::edits::append_store;
 use crate::join_maps::{append_map, map};
 use crate::joins::versioned;
-use crate::pieces::{append_parts, append_piece, holder, piece};
-use crate::replicas::{append_edited, replica};
-use crate::worlds::{append_both, append_replicas, replicas};
-use delta_gossip::{exchange, sweep};
+use crate::pieces::{holder, piece, split};
+use crate::replicas::{put, removed, replica};
+use crate::worlds::{append_both, swept};
+use delta_gossip::exchange;
 use delta_pieces::{TakeFault, take};
 use join_law::{Join, Rest};
-use replica_store::EditFault;
-use worked_lines::{LineFault, Words, byte_of, is};
+use worked_lines::{Answer, LineFault, Words, byte_of, match_word};
 
 /// Writes what a call that may be made again answers.
 pub fn answer(words: &mut Words, out: &mut Answer) -> Result<(), LineFault> {
@@ -28,30 +26,18 @@ pub fn answer(words: &mut Words, out: &mut Answer) -> Result<(), LineFault> {
 
 // The answer, and what stood between two calls, if there were two.
 fn told(words: &mut Words, out: &mut Answer, between: &mut Answer) -> Result<(), LineFault> {
-    let call = words.word()?;
-    if is(call, b"join") {
-        joined(words, out, between)
-    } else if is(call, b"at") {
-        joined_at(words, out, between)
-    } else if is(call, b"absorb") {
-        absorbed(words, out, between)
-    } else if is(call, b"merge") {
-        merged(words, out, between)
-    } else if is(call, b"put") {
-        put(words, out, between)
-    } else if is(call, b"remove") {
-        removed(words, out, between)
-    } else if is(call, b"take") {
-        taken(words, out, between)
-    } else if is(call, b"split") {
-        split(words, out, between)
-    } else if is(call, b"exchange") {
-        exchanged(words, out, between)
-    } else if is(call, b"sweep") {
-        swept(words, out, between)
-    } else {
-        Err(LineFault::Words)
-    }
+    match_word!(words.word()?;
+        b"join" => joined(words, out, between),
+        b"at" => joined_at(words, out, between),
+        b"absorb" => absorbed(words, out, between),
+        b"merge" => merged(words, out, between),
+        b"put" => put(1, words, out, between),
+        b"remove" => removed(1, words, out, between),
+        b"take" => taken(words, out, between),
+        b"split" => split(words, out, between),
+        b"exchange" => exchanged(words, out, between),
+        b"sweep" => swept(words, out, between),
+    )
 }
 
 // A map that another is joined to; where that is refused, the rest of it.
@@ -79,8 +65,8 @@ fn joined_at(words: &mut Words, out: &mut Answer, between: &mut Answer) -> Resul
 
 // A store that takes another; where that is refused, the rest of it.
 fn absorbed(words: &mut Words, out: &mut Answer, between: &mut Answer) -> Result<(), LineFault> {
-    let mut first = store(words)?;
-    if let Err(Rest { rest }) = first.absorb(store(words)?) {
+    let mut first = words.store()?;
+    if let Err(Rest { rest }) = first.absorb(words.store()?) {
         append_store(between, &first)?;
         first.absorb(rest)?;
     }
@@ -89,37 +75,13 @@ fn absorbed(words: &mut Words, out: &mut Answer, between: &mut Answer) -> Result
 
 // A store that another is merged into, twice where the first time is refused.
 fn merged(words: &mut Words, out: &mut Answer, between: &mut Answer) -> Result<(), LineFault> {
-    let mut first = store(words)?;
-    let second = store(words)?;
+    let mut first = words.store()?;
+    let second = words.store()?;
     if first.merge(&second).is_err() {
         append_store(between, &first)?;
         first.merge(&second)?;
     }
     append_store(out, &first)
-}
-
-// A replica that puts a content at a path, twice where the first time is refused memory.
-fn put(words: &mut Words, out: &mut Answer, between: &mut Answer) -> Result<(), LineFault> {
-    let (path, content) = placed_of(words.alloc, words.word()?)?;
-    let mut replica = replica(1, words)?;
-    let mut version = replica.put(path.try_clone()?, content.try_clone()?);
-    if let Err(EditFault::Memory) = version {
-        append_store(between, replica.store())?;
-        version = replica.put(path, content);
-    }
-    append_edited(out, version, &replica)
-}
-
-// A replica that removes what is visible at a path, twice where the first time is refused memory.
-fn removed(words: &mut Words, out: &mut Answer, between: &mut Answer) -> Result<(), LineFault> {
-    let path = words.path()?;
-    let mut replica = replica(1, words)?;
-    let mut version = replica.remove(path.try_clone()?);
-    if let Err(EditFault::Memory) = version {
-        append_store(between, replica.store())?;
-        version = replica.remove(path);
-    }
-    append_edited(out, version, &replica)
 }
 
 // A replica that takes a piece; where that is refused, the rest of it.
@@ -132,18 +94,6 @@ fn taken(words: &mut Words, out: &mut Answer, between: &mut Answer) -> Result<()
     append_store(out, replica.store())
 }
 
-// The two parts of a piece; where they are refused, those of the piece that comes back.
-fn split(words: &mut Words, out: &mut Answer, between: &mut Answer) -> Result<(), LineFault> {
-    let at = words.number()? as usize;
-    let rest = match piece(words)?.split(at) {
-        Ok((first, second)) => return append_parts(out, &first, &second),
-        Err(Rest { rest }) => rest,
-    };
-    append_piece(between, &rest)?;
-    let (first, second) = rest.split(at)?;
-    append_parts(out, &first, &second)
-}
-
 // Two replicas after an exchange, which is made twice where the first is refused.
 fn exchanged(words: &mut Words, out: &mut Answer, between: &mut Answer) -> Result<(), LineFault> {
     let mut a = replica(1, words)?;
@@ -153,14 +103,4 @@ fn exchanged(words: &mut Words, out: &mut Answer, between: &mut Answer) -> Resul
         exchange(&mut a, &mut b)?;
     }
     append_both(out, &a, &b)
-}
-
-// As many replicas as the first word says, after a sweep, which is made twice where the first is refused.
-fn swept(words: &mut Words, out: &mut Answer, between: &mut Answer) -> Result<(), LineFault> {
-    let mut replicas = replicas(words)?;
-    if sweep(&mut replicas).is_err() {
-        append_replicas(between, &replicas)?;
-        sweep(&mut replicas)?;
-    }
-    append_replicas(out, &replicas)
 }

@@ -1,40 +1,27 @@
 //! Calls on what stands for a unit: the store in words, `+`, and the unit's name, or the names of several.
-use crate::answer_text::Answer;
-use crate::edits::store;
-use crate::name_lists::{append_names, names};
+use crate::edits::append_names;
 use fragment_choice::{AliasIndex, Choice, Resolution, choose, names_of, resolve};
 use replica_store::Store;
-use std::alloc::Global;
 use unit_name::UnitName;
-use worked_lines::{LineFault, Words, is};
+use worked_lines::{Answer, LineFault, Words, match_word};
 
 /// Writes what a call on the choice of a unit answers.
 pub fn answer(words: &mut Words, out: &mut Answer) -> Result<(), LineFault> {
     let call = words.word()?;
-    let store = store(words)?;
-    if is(call, b"index") {
-        return append_indexed(words.alloc, out, &store, &names(words)?);
-    }
-    told(call, words.alloc, &store, &words.name()?, out)
+    let store = words.store()?;
+    match_word!(call;
+        b"index" => append_indexed(out, &store, &words.spelled_names()?),
+        _ => told(call, &store, &words.name()?, out),
+    )
 }
 
 // What a call answers of one name in a store.
-fn told(
-    call: &[u8],
-    alloc: Global,
-    store: &Store,
-    name: &UnitName,
-    out: &mut Answer,
-) -> Result<(), LineFault> {
-    if is(call, b"choose") {
-        append_choice(out, &choose(alloc, store, name)?)
-    } else if is(call, b"resolve") {
-        append_resolution(out, &resolve(alloc, store, name)?)
-    } else if is(call, b"names") {
-        append_names_of(alloc, out, store, name)
-    } else {
-        Err(LineFault::Words)
-    }
+fn told(call: &[u8], store: &Store, name: &UnitName, out: &mut Answer) -> Result<(), LineFault> {
+    match_word!(call;
+        b"choose" => append_choice(out, &choose(out.alloc, store, name)?),
+        b"resolve" => append_resolution(out, &resolve(out.alloc, store, name)?),
+        b"names" => append_names_of(out, store, name),
+    )
 }
 
 // Writes a choice.
@@ -56,31 +43,21 @@ fn append_resolution(out: &mut Answer, end: &Resolution) -> Result<(), LineFault
 }
 
 // Writes the names of the unit, if this is its main name.
-fn append_names_of(
-    alloc: Global,
-    out: &mut Answer,
-    store: &Store,
-    name: &UnitName,
-) -> Result<(), LineFault> {
-    if resolve(alloc, store, name)?.main.bytes() == name.bytes() {
-        append_names(out, &names_of(alloc, store, name)?)
+fn append_names_of(out: &mut Answer, store: &Store, name: &UnitName) -> Result<(), LineFault> {
+    if resolve(out.alloc, store, name)?.main.bytes() == name.bytes() {
+        append_names(out, &names_of(out.alloc, store, name)?)
     } else {
         out.write(b"no main name")
     }
 }
 
 // Writes the names of those units of a list that stand there by their main name, by one index.
-fn append_indexed(
-    alloc: Global,
-    out: &mut Answer,
-    store: &Store,
-    units: &[UnitName],
-) -> Result<(), LineFault> {
-    let index = AliasIndex::of(alloc, store)?;
+fn append_indexed(out: &mut Answer, store: &Store, units: &[UnitName]) -> Result<(), LineFault> {
+    let index = AliasIndex::of(out.alloc, store)?;
     for unit in units {
-        if index.resolve(alloc, unit)?.main.bytes() == unit.bytes() {
+        if index.resolve(out.alloc, unit)?.main.bytes() == unit.bytes() {
             out.part(b" +")?;
-            append_names(out, &index.names_of(alloc, unit)?)?;
+            append_names(out, &index.names_of(out.alloc, unit)?)?;
         }
     }
     Ok(())

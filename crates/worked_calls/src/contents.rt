@@ -1,30 +1,22 @@
 //! Calls on contents, and on edits that are copied.
-use crate::answer_text::Answer;
-use crate::edits::{append_content, append_edit, edit_of};
+use crate::edits::{append_content, append_edit};
 use replica_store::{Content, ContentFault};
-use worked_lines::{LineFault, Words, is};
+use worked_lines::{Answer, LineFault, Words, edit_of, match_word};
 
 /// Writes what a call on contents answers.
 pub fn answer(words: &mut Words, out: &mut Answer) -> Result<(), LineFault> {
-    let call = words.word()?;
-    if is(call, b"file") {
-        made(out, Content::file(words.text()?))
-    } else if is(call, b"link") {
-        made(out, Content::link(words.text()?))
-    } else if is(call, b"filled_file") {
-        counted(out, Content::file(filled(words)?))
-    } else if is(call, b"filled_link") {
-        counted(out, Content::link(filled(words)?))
-    } else if is(call, b"copy") {
-        append_edit(out, &edit_of(words.alloc, words.word()?)?.try_clone()?)
-    } else {
-        Err(LineFault::Words)
-    }
+    match_word!(words.word()?;
+        b"file" => made(out, Content::file(words.text()?)),
+        b"link" => made(out, Content::link(words.text()?)),
+        b"filled_file" => counted(out, Content::file(filled(words)?)),
+        b"filled_link" => counted(out, Content::link(filled(words)?)),
+        b"copy" => append_edit(out, &edit_of(words.alloc, words.word()?)?.try_clone()?),
+    )
 }
 
 // As many bytes as the next word says, each of them `a`.
 fn filled(words: &mut Words) -> Result<Vec<u8>, LineFault> {
-    let count = words.number()? as usize;
+    let count = words.place()?;
     Ok(vec![in words.alloc; b'a'; count]?)
 }
 

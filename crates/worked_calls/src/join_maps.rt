@@ -3,10 +3,9 @@
 //!
 //! A map is written as its pairs, `KEY:VERSION=NUMBER`, parted by commas; `none` has no pair. In a map of maps of
 //! maps a key is three numbers, parted by slashes.
-use crate::answer_text::Answer;
 use crate::joins::{append_value, joined, versioned};
 use join_law::{Join, JoinMap, Versioned};
-use worked_lines::{LineFault, Words, byte_of, cut_at, is, parts_of};
+use worked_lines::{Answer, LineFault, Words, byte_of, cut_at, match_word, parts_of};
 
 /// A map from numbers to numbers with versions.
 pub type Numbers = JoinMap<u8, Versioned<u8>>;
@@ -16,13 +15,11 @@ type Tree = JoinMap<u8, JoinMap<u8, Numbers>>;
 /// Writes what a call on maps of joins answers.
 pub fn answer(words: &mut Words, out: &mut Answer) -> Result<(), LineFault> {
     let call = words.word()?;
-    if is(call, b"deep") {
-        joined_trees(words, out)
-    } else if is(call, b"last") {
-        last(words, out)
-    } else {
-        told(call, &map(words)?, words, out)
-    }
+    match_word!(call;
+        b"deep" => append_trees(out, &tree(words)?, &tree(words)?),
+        b"last" => last(words, out),
+        _ => told(call, &map(words)?, words, out),
+    )
 }
 
 // What a call answers of a map, and of another or of more words.
@@ -32,17 +29,12 @@ fn told(
     words: &mut Words,
     out: &mut Answer,
 ) -> Result<(), LineFault> {
-    if is(call, b"join") {
-        append_joined(out, first, &map(words)?)
-    } else if is(call, b"at") {
-        joined_at(first, words, out)
-    } else if is(call, b"keys") {
-        append_keys(out, first)
-    } else if is(call, b"get") {
-        found(first, words, out)
-    } else {
-        Err(LineFault::Words)
-    }
+    match_word!(call;
+        b"join" => append_joined(out, first, &map(words)?),
+        b"at" => joined_at(first, words, out),
+        b"keys" => append_keys(out, first),
+        b"get" => append_found(out, first, byte_of(words.word()?)?),
+    )
 }
 
 // Joins to a map the pair that a word writes.
@@ -123,9 +115,8 @@ fn append_keys(out: &mut Answer, map: &Numbers) -> Result<(), LineFault> {
     Ok(())
 }
 
-// The value at a key.
-fn found(map: &Numbers, words: &mut Words, out: &mut Answer) -> Result<(), LineFault> {
-    let key = byte_of(words.word()?)?;
+// Writes the value at a key.
+fn append_found(out: &mut Answer, map: &Numbers, key: u8) -> Result<(), LineFault> {
     match map.get(&key) {
         Some(value) => append_value(out, value),
         None => out.write(b"none"),
@@ -180,12 +171,6 @@ fn append_tree(out: &mut Answer, tree: &Tree) -> Result<(), LineFault> {
     out.or(b"none")?;
     out.write(b" ")?;
     out.print(&tree.len())
-}
-
-// The join of two maps of maps of maps.
-fn joined_trees(words: &mut Words, out: &mut Answer) -> Result<(), LineFault> {
-    let left = tree(words)?;
-    append_trees(out, &left, &tree(words)?)
 }
 
 // Writes the join of two maps of maps of maps, and whether it is the same both ways.

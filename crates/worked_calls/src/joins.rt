@@ -1,23 +1,17 @@
 //! Calls on the joins of contents with versions: numbers below 256 with versions, or nothing yet.
-use crate::answer_text::Answer;
-use crate::edits::{append_version, version_of};
+use crate::edits::append_version;
 use join_law::{Entry, Join, Versioned};
 use plain_values::TryClone;
 use std::cmp::Ordering;
-use worked_lines::{LineFault, Words, byte_of, cut_at, is};
+use worked_lines::{Answer, LineFault, Words, byte_of, cut_at, is, match_word, version_of};
 
 /// Writes what a call on joins answers.
 pub fn answer(words: &mut Words, out: &mut Answer) -> Result<(), LineFault> {
-    let call = words.word()?;
-    if is(call, b"join") {
-        append_compared(out, &versioned(words.word()?)?, &versioned(words.word()?)?)
-    } else if is(call, b"bottom") {
-        out.either(versioned(words.word()?)?.is_bottom(), b"yes", b"no")
-    } else if is(call, b"copy_key") {
-        out.print(&TryClone::try_clone(&byte_of(words.word()?)?)?)
-    } else {
-        Err(LineFault::Words)
-    }
+    match_word!(words.word()?;
+        b"join" => append_compared(out, &versioned(words.word()?)?, &versioned(words.word()?)?),
+        b"bottom" => out.either(versioned(words.word()?)?.is_bottom(), b"yes", b"no"),
+        b"copy_key" => out.print(&TryClone::try_clone(&byte_of(words.word()?)?)?),
+    )
 }
 
 /// A word as `never` or as a version and a number.

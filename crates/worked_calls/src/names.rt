@@ -1,31 +1,25 @@
 //! Calls on unit names, escapes and specifiers.
-use crate::answer_text::Answer;
-use crate::name_lists::names;
 use crate::orders::append_signs;
 use unit_name::{ExpandFault, NameFault, UnitName, escape, expand, unescape};
-use worked_lines::{LineFault, Words, is};
+use worked_lines::{Answer, LineFault, Words, match_word};
 
 /// Writes what a call on names answers.
 pub fn answer(words: &mut Words, out: &mut Answer) -> Result<(), LineFault> {
     let call = words.word()?;
-    if is(call, b"order") {
-        append_signs(out, &names(words)?)
-    } else if is(call, b"parse") || is(call, b"escape") || is(call, b"unescape") {
-        of_text(call, &words.text()?, out)
-    } else {
-        of_name(call, &words.name()?, words, out)
-    }
+    match_word!(call;
+        b"order" => append_signs(out, &words.spelled_names()?),
+        b"parse" | b"escape" | b"unescape" => of_text(call, &words.text()?, out),
+        _ => of_name(call, &words.name()?, words, out),
+    )
 }
 
 // What a call answers of a text.
 fn of_text(call: &[u8], text: &[u8], out: &mut Answer) -> Result<(), LineFault> {
-    if is(call, b"parse") {
-        parse(text, out)
-    } else if is(call, b"escape") {
-        out.spell(&escape(out.alloc, text)?)
-    } else {
-        out.spell_found(unescape(out.alloc, text)?)
-    }
+    match_word!(call;
+        b"parse" => parse(text, out),
+        b"escape" => out.spell(&escape(out.alloc, text)?),
+        _ => out.spell_found(unescape(out.alloc, text)?),
+    )
 }
 
 // What a call answers of a name.
@@ -35,19 +29,13 @@ fn of_name(
     words: &mut Words,
     out: &mut Answer,
 ) -> Result<(), LineFault> {
-    if is(call, b"parts") {
-        append_parts(out, name)
-    } else if is(call, b"template_of") {
-        out.spell_name(name.template_of()?)
-    } else if is(call, b"with_instance") {
-        with_instance(name, words, out)
-    } else if is(call, b"clone") {
-        append_clone(out, name)
-    } else if is(call, b"expand") {
-        expanded(name, words, out)
-    } else {
-        Err(LineFault::Words)
-    }
+    match_word!(call;
+        b"parts" => append_parts(out, name),
+        b"template_of" => out.spell_name(name.template_of()?),
+        b"with_instance" => append_instance(out, name, &words.text()?),
+        b"clone" => append_clone(out, name),
+        b"expand" => append_expanded(out, name, &words.text()?),
+    )
 }
 
 // The name that bytes are, or their fault.
@@ -68,9 +56,9 @@ fn append_parts(out: &mut Answer, name: &UnitName) -> Result<(), LineFault> {
     out.spell_marked(&[(b' ', name.prefix()), (b' ', name.instance())])
 }
 
-fn with_instance(name: &UnitName, words: &mut Words, out: &mut Answer) -> Result<(), LineFault> {
-    let instance = words.text()?;
-    out.spell_name(name.with_instance(&instance)?)
+// Writes a name with an instance, if there is one.
+fn append_instance(out: &mut Answer, name: &UnitName, instance: &[u8]) -> Result<(), LineFault> {
+    out.spell_name(name.with_instance(instance)?)
 }
 
 // Writes a clone of a name, and whether it is the same.
@@ -80,10 +68,9 @@ fn append_clone(out: &mut Answer, name: &UnitName) -> Result<(), LineFault> {
     out.either(copy == *name, b" same", b" other")
 }
 
-// A value with the specifiers of a name, or its fault.
-fn expanded(name: &UnitName, words: &mut Words, out: &mut Answer) -> Result<(), LineFault> {
-    let value = words.text()?;
-    match expand(words.alloc, &value, name) {
+// Writes a value with the specifiers of a name, or its fault.
+fn append_expanded(out: &mut Answer, name: &UnitName, value: &[u8]) -> Result<(), LineFault> {
+    match expand(out.alloc, value, name) {
         Ok(bytes) => out.spell(&bytes),
         Err(ExpandFault::Memory) => Err(LineFault::Memory),
         Err(fault) => out.print(&fault),

@@ -1,7 +1,6 @@
 //! How values are ordered.
-use crate::answer_text::Answer;
 use std::cmp::Ordering;
-use worked_lines::LineFault;
+use worked_lines::{Answer, LineFault};
 
 // How a value stands to another, by all tests that there are.
 fn sign<T: Ord>(low: &T, high: &T) -> u8 {

@@ -1,37 +1,29 @@
 //! Calls on paths of the load path, written in full, and on byte strings.
-use crate::answer_text::Answer;
 use crate::orders::append_signs;
 use load_path::{Path, PathFault};
 use plain_values::Bytes;
-use worked_lines::{LineFault, Words, is};
+use std::alloc::Global;
+use worked_lines::{Answer, LineFault, Words, each_of, match_word, text_of};
 
 /// Writes what a call on paths answers.
 pub fn answer(words: &mut Words, out: &mut Answer) -> Result<(), LineFault> {
     let call = words.word()?;
-    if is(call, b"parse") {
-        parse(words, out)
-    } else if is(call, b"order") {
-        append_signs(out, &full_paths(words)?)
-    } else if is(call, b"bytes") {
-        bytes(words, out)
-    } else if is(call, b"bytes_order") {
-        append_signs(out, &all_bytes(words)?)
-    } else {
-        of_path(call, &full_path(words)?, out)
-    }
+    match_word!(call;
+        b"parse" => parse(words, out),
+        b"order" => append_signs(out, &full_paths(words)?),
+        b"bytes" => bytes(words, out),
+        b"bytes_order" => append_signs(out, &all_bytes(words)?),
+        _ => of_path(call, &full_path_of(words.alloc, words.word()?)?, out),
+    )
 }
 
 // What a call answers of one path.
 fn of_path(call: &[u8], path: &Path, out: &mut Answer) -> Result<(), LineFault> {
-    if is(call, b"parts") {
-        append_parts(out, path)
-    } else if is(call, b"text") {
-        append_text(out, path)
-    } else if is(call, b"clone") {
-        append_clone(out, path)
-    } else {
-        Err(LineFault::Words)
-    }
+    match_word!(call;
+        b"parts" => append_parts(out, path),
+        b"text" => append_text(out, path),
+        b"clone" => append_clone(out, path),
+    )
 }
 
 // The path that a text writes, or its fault.
@@ -43,10 +35,14 @@ fn parse(words: &mut Words, out: &mut Answer) -> Result<(), LineFault> {
     }
 }
 
-// The path that the next word spells in full.
-fn full_path(words: &mut Words) -> Result<Path, LineFault> {
-    let text = words.text()?;
-    Ok(Path::parse(words.alloc, &text)?)
+// The path that a word spells in full.
+fn full_path_of(alloc: Global, word: &[u8]) -> Result<Path, LineFault> {
+    Ok(Path::parse(alloc, &text_of(alloc, word)?)?)
+}
+
+// The paths that a list of words spells in full.
+fn full_paths(words: &mut Words) -> Result<Vec<Path>, LineFault> {
+    each_of(words.alloc, &words.list()?, full_path_of)
 }
 
 // Writes a path's rank, directory, folder and name.
@@ -72,16 +68,14 @@ fn append_clone(out: &mut Answer, path: &Path) -> Result<(), LineFault> {
     out.either(copy == *path, b" same", b" other")
 }
 
-// The paths that the words left spell in full.
-fn full_paths(words: &mut Words) -> Result<Vec<Path>, LineFault> {
-    let mut paths = Vec::new(words.alloc);
-    for _ in 0..words.most() {
-        if words.is_over() {
-            break;
-        }
-        paths.push(full_path(words)?)?;
-    }
-    Ok(paths)
+// The bytes that a word spells.
+fn bytes_of(alloc: Global, word: &[u8]) -> Result<Bytes, LineFault> {
+    Ok(Bytes::from_vec(text_of(alloc, word)?)?)
+}
+
+// The byte strings that a list of words spells.
+fn all_bytes(words: &mut Words) -> Result<Vec<Bytes>, LineFault> {
+    each_of(words.alloc, &words.list()?, bytes_of)
 }
 
 // Bytes as a copy, as a vector that is taken over, and as a clone.
@@ -95,16 +89,4 @@ fn bytes(words: &mut Words, out: &mut Answer) -> Result<(), LineFault> {
 fn append_taken(out: &mut Answer, whole: &Bytes) -> Result<(), LineFault> {
     let copy = whole.try_clone()?;
     out.spell_marked(&[(b' ', whole.as_slice()), (b' ', copy.as_slice())])
-}
-
-// The byte strings that the words left spell.
-fn all_bytes(words: &mut Words) -> Result<Vec<Bytes>, LineFault> {
-    let mut all = Vec::new(words.alloc);
-    for _ in 0..words.most() {
-        if words.is_over() {
-            break;
-        }
-        all.push(Bytes::from_vec(words.text()?)?)?;
-    }
-    Ok(all)
 }

@@ -1,55 +1,38 @@
 //! Calls on digests and pieces.
-use crate::answer_text::Answer;
-use crate::edits::{append_store, append_version, edits, paths};
+use crate::edits::{append_store, append_version};
 use crate::stores::append_changed;
 use delta_pieces::{Digest, Piece, delta_at, delta_between, delta_for, digest, digest_at, take};
+use join_law::Rest;
 use replica_store::Replica;
-use worked_lines::{LineFault, Words, is};
+use worked_lines::{Answer, LineFault, Words, match_word};
 
 /// Writes what a call on pieces answers.
 pub fn answer(words: &mut Words, out: &mut Answer) -> Result<(), LineFault> {
-    let call = words.word()?;
-    if is(call, b"of") {
-        append_piece(out, &piece(words)?)
-    } else if is(call, b"copy") {
-        append_piece(out, &piece(words)?.try_clone()?)
-    } else if is(call, b"split") {
-        split(words, out)
-    } else if is(call, b"only") {
-        only(words, out)
-    } else if is(call, b"delta") {
-        delta(words, out)
-    } else if is(call, b"delta_at") {
-        delta_at_some(words, out)
-    } else if is(call, b"between") {
-        between(words, out)
-    } else if is(call, b"take") {
-        taken(words, out)
-    } else {
-        Err(LineFault::Words)
-    }
+    match_word!(words.word()?;
+        b"of" => append_piece(out, &piece(words)?),
+        b"copy" => append_piece(out, &piece(words)?.try_clone()?),
+        b"split" => split(words, out, &mut Answer::new(words.alloc)),
+        b"only" => only(words, out),
+        b"delta" => delta(words, out),
+        b"delta_at" => delta_at_some(words, out),
+        b"between" => between(words, out),
+        b"take" => taken(words, out),
+    )
 }
 
 /// Writes what a call on digests answers.
 pub fn answer_digest(words: &mut Words, out: &mut Answer) -> Result<(), LineFault> {
-    let call = words.word()?;
-    if is(call, b"of") {
-        append_digest(out, &asked(words)?)
-    } else if is(call, b"copy") {
-        append_digest(out, &asked(words)?.try_clone()?)
-    } else if is(call, b"at") {
-        versions_at(words, out)
-    } else if is(call, b"get") {
-        version_at(words, out)
-    } else {
-        Err(LineFault::Words)
-    }
+    match_word!(words.word()?;
+        b"of" => append_digest(out, &asked(words)?),
+        b"copy" => append_digest(out, &asked(words)?.try_clone()?),
+        b"at" => versions_at(words, out),
+        b"get" => version_at(words, out),
+    )
 }
 
 /// The piece of edits that words write, up to the word `+` or to the end.
 pub fn piece(words: &mut Words) -> Result<Piece, LineFault> {
-    let edits = edits(words)?;
-    Ok(Piece::from_edits(words.alloc, &edits)?)
+    Ok(Piece::from_edits(words.alloc, &words.edits()?)?)
 }
 
 /// A replica that took the piece of edits that words write.
@@ -61,12 +44,11 @@ pub fn holder(words: &mut Words) -> Result<Replica, LineFault> {
 
 // The digest of a replica that took the piece of edits that words write.
 fn asked(words: &mut Words) -> Result<Digest, LineFault> {
-    let replica = holder(words)?;
-    Ok(digest(words.alloc, &replica)?)
+    Ok(digest(words.alloc, &holder(words)?)?)
 }
 
-/// Writes how many paths a piece carries, and what it carries.
-pub fn append_piece(out: &mut Answer, piece: &Piece) -> Result<(), LineFault> {
+// Writes how many paths a piece carries, and what it carries.
+fn append_piece(out: &mut Answer, piece: &Piece) -> Result<(), LineFault> {
     if piece.is_empty() {
         return out.write(b"empty");
     }
@@ -75,23 +57,24 @@ pub fn append_piece(out: &mut Answer, piece: &Piece) -> Result<(), LineFault> {
     append_store(out, piece.store())
 }
 
-// The two parts of a piece.
-fn split(words: &mut Words, out: &mut Answer) -> Result<(), LineFault> {
-    let at = words.number()? as usize;
-    let (first, second) = piece(words)?.split(at)?;
-    append_parts(out, &first, &second)
-}
-
-/// Writes two pieces.
-pub fn append_parts(out: &mut Answer, first: &Piece, second: &Piece) -> Result<(), LineFault> {
-    append_piece(out, first)?;
+/// The two parts of a piece; where they are refused memory, those of the piece that comes back, which is written too.
+pub fn split(words: &mut Words, out: &mut Answer, between: &mut Answer) -> Result<(), LineFault> {
+    let at = words.place()?;
+    let (first, second) = match piece(words)?.split(at) {
+        Ok(parts) => parts,
+        Err(Rest { rest }) => {
+            append_piece(between, &rest)?;
+            rest.split(at)?
+        }
+    };
+    append_piece(out, &first)?;
     out.write(b" | ")?;
-    append_piece(out, second)
+    append_piece(out, &second)
 }
 
 // What a piece carries at some paths.
 fn only(words: &mut Words, out: &mut Answer) -> Result<(), LineFault> {
-    let paths = paths(words)?;
+    let paths = words.paths()?;
     let piece = piece(words)?;
     append_piece(out, &piece.only(&paths)?)
 }
@@ -112,7 +95,7 @@ fn between(words: &mut Words, out: &mut Answer) -> Result<(), LineFault> {
 
 // What is cut for a digest at some paths.
 fn delta_at_some(words: &mut Words, out: &mut Answer) -> Result<(), LineFault> {
-    let paths = paths(words)?;
+    let paths = words.paths()?;
     let held = holder(words)?;
     let asked = asked(words)?;
     append_piece(out, &delta_at(words.alloc, &held, &asked, &paths)?)
@@ -127,7 +110,7 @@ fn taken(words: &mut Words, out: &mut Answer) -> Result<(), LineFault> {
 
 // The digest of a replica at some paths.
 fn versions_at(words: &mut Words, out: &mut Answer) -> Result<(), LineFault> {
-    let paths = paths(words)?;
+    let paths = words.paths()?;
     let held = holder(words)?;
     append_digest(out, &digest_at(words.alloc, &held, &paths)?)
 }

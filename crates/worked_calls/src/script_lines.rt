@@ -1,37 +1,20 @@
 //! Calls on the lines of scripts and their words.
-use crate::answer_text::Answer;
 use script_words::{
     cut_line, cut_word, is_name, is_passed_over, parse_number, text_of_rest, unescape,
 };
-use worked_lines::{LineFault, Words, is};
+use worked_lines::{Answer, LineFault, Words, match_word};
 
 /// Writes what a call on lines answers.
 pub fn answer(words: &mut Words, out: &mut Answer) -> Result<(), LineFault> {
-    let call = words.word()?;
-    if is(call, b"text_behind") {
-        text_behind(words, out)
-    } else {
-        told(call, &words.text()?, out)
-    }
-}
-
-// What a call answers of a text.
-fn told(call: &[u8], text: &[u8], out: &mut Answer) -> Result<(), LineFault> {
-    if is(call, b"lines") {
-        lines(text, out)
-    } else if is(call, b"passed_over") {
-        out.either(is_passed_over(text), b"yes", b"no")
-    } else if is(call, b"words") {
-        parts(text, out)
-    } else if is(call, b"number") {
-        number(text, out)
-    } else if is(call, b"name") {
-        out.either(is_name(text), b"yes", b"no")
-    } else if is(call, b"text") {
-        out.spell_found(unescape(out.alloc, text)?)
-    } else {
-        Err(LineFault::Words)
-    }
+    match_word!(words.word()?;
+        b"lines" => lines(&words.text()?, out),
+        b"passed_over" => out.either(is_passed_over(&words.text()?), b"yes", b"no"),
+        b"words" => parts(&words.text()?, out),
+        b"number" => number(&words.text()?, out),
+        b"name" => out.either(is_name(&words.text()?), b"yes", b"no"),
+        b"text" => out.spell_found(unescape(words.alloc, &words.text()?)?),
+        b"text_behind" => text_behind(words, out),
+    )
 }
 
 // The lines of a script.

@@ -1,42 +1,39 @@
 //! Calls on the sections of unit files.
 //!
 //! An assignment is told as `LINE:SECTION.KEY=VALUE`, and a note as `LINE:` and its words.
-use crate::answer_text::Answer;
 use plain_values::TryClone;
 use section_reader::{Assignment, Sections, read};
 use std::alloc::{AllocError, Global};
 use std::fmt::Display;
-use worked_lines::{LineFault, Words, is};
+use worked_lines::{Answer, LineFault, Words, match_word, text_of};
 
 /// Writes what a call on sections answers.
 pub fn answer(words: &mut Words, out: &mut Answer) -> Result<(), LineFault> {
     let call = words.word()?;
-    if is(call, b"long") {
-        long(words, out)
-    } else if is(call, b"compare") {
-        compare(words, out)
-    } else {
-        told(call, &read_next(words)?, out)
-    }
+    match_word!(call;
+        b"long" => long(words, out),
+        b"compare" => compare(words, out),
+        _ => told(call, &read_next(words)?, out),
+    )
 }
 
 // What a call answers of one file.
 fn told(call: &[u8], sections: &Sections, out: &mut Answer) -> Result<(), LineFault> {
-    if is(call, b"read") {
-        append_sections(out, sections)
-    } else if is(call, b"codes") {
-        append_codes(out, sections)
-    } else if is(call, b"clone") {
-        append_clone(out, sections)
-    } else {
-        Err(LineFault::Words)
-    }
+    match_word!(call;
+        b"read" => append_sections(out, sections),
+        b"codes" => append_codes(out, sections),
+        b"clone" => append_clone(out, sections),
+    )
 }
 
-/// What the file says that the next word spells.
-pub fn read_next(words: &mut Words) -> Result<Sections, LineFault> {
-    let file = words.text()?;
-    Ok(read(words.alloc, &file)?)
+/// What the file says that a word spells.
+pub fn read_word(alloc: Global, word: &[u8]) -> Result<Sections, LineFault> {
+    Ok(read(alloc, &text_of(alloc, word)?)?)
+}
+
+// What the file says that the next word spells.
+fn read_next(words: &mut Words) -> Result<Sections, LineFault> {
+    read_word(words.alloc, words.word()?)
 }
 
 // Writes an assignment.
@@ -94,7 +91,7 @@ fn is_read(sections: &Sections, value: &[u8]) -> bool {
 
 // Whether a file with one value of so many bytes is read as that value alone.
 fn long(words: &mut Words, out: &mut Answer) -> Result<(), LineFault> {
-    let count = usize::try_from(words.number()?)?;
+    let count = words.place()?;
     let value = vec![in words.alloc; b'v'; count]?;
     let sections = read(words.alloc, &file_with(words.alloc, &value)?)?;
     out.either(is_read(&sections, &value), b"same", b"other")

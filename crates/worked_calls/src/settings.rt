@@ -2,9 +2,8 @@
 //!
 //! A value is told as `SECTION.KEY=VALUE`, a key with its values as `SECTION.KEY=` and these, a list of dependencies as its
 //! kind and `:` and the names, and a note as its code and `SECTION.KEY`.
-use crate::answer_text::Answer;
-use crate::name_lists::append_names;
-use crate::sections::read_next;
+use crate::edits::append_names;
+use crate::sections::read_word;
 use plain_values::{Bytes, Items};
 use section_reader::Assignment;
 use setting_rules::{
@@ -12,31 +11,26 @@ use setting_rules::{
     refuses_manual_start, values,
 };
 use unit_name::UnitName;
-use worked_lines::{LineFault, Words, is};
+use worked_lines::{Answer, LineFault, Words, match_word};
 
 /// Writes what a call on settings answers.
 pub fn answer(words: &mut Words, out: &mut Answer) -> Result<(), LineFault> {
     let call = words.word()?;
-    if is(call, b"kinds") {
-        append_kinds(out)
-    } else if is(call, b"key") {
-        told_key(words, out)
-    } else if is(call, b"for") {
-        told_name(words, out)
-    } else if is(call, b"apply") || is(call, b"manual") {
-        of_files(call, &settings(words)?, out)
-    } else {
-        told(call, words, out)
-    }
+    match_word!(call;
+        b"kinds" => append_kinds(out),
+        b"key" => append_kind_of(out, &words.text()?),
+        b"for" => told_name(words, out),
+        b"apply" | b"manual" => of_files(call, &settings(words)?, out),
+        _ => told(call, words, out),
+    )
 }
 
 // What a call answers of files alone.
 fn of_files(call: &[u8], settings: &Settings, out: &mut Answer) -> Result<(), LineFault> {
-    if is(call, b"apply") {
-        append_settings(out, settings)
-    } else {
-        out.either(refuses_manual_start(settings), b"refused", b"allowed")
-    }
+    match_word!(call;
+        b"apply" => append_settings(out, settings),
+        _ => out.either(refuses_manual_start(settings), b"refused", b"allowed"),
+    )
 }
 
 // What a call answers of a unit and its files.
@@ -52,28 +46,22 @@ fn of_unit(
     settings: &Settings,
     out: &mut Answer,
 ) -> Result<(), LineFault> {
-    if is(call, b"values") {
-        append_values(out, &values(out.alloc, settings, unit)?)
-    } else if is(call, b"dependencies") {
-        append_dependencies(out, &dependencies(out.alloc, settings, unit)?)
-    } else {
-        Err(LineFault::Words)
-    }
+    match_word!(call;
+        b"values" => append_values(out, &values(out.alloc, settings, unit)?),
+        b"dependencies" => append_dependencies(out, &dependencies(out.alloc, settings, unit)?),
+    )
 }
 
-// The assignments of the files that the words left spell.
+// The assignments of the files that a list of words spells.
 fn assignments(words: &mut Words) -> Result<Items<Assignment>, LineFault> {
     let mut all = Items::new(words.alloc);
-    for _ in 0..words.most() {
-        if words.is_over() {
-            break;
-        }
-        all.append(read_next(words)?.items)?;
+    for word in &words.list()? {
+        all.append(read_word(words.alloc, word)?.items)?;
     }
     Ok(all)
 }
 
-// What the files that the words left spell come to.
+// What the files that a list of words spells come to.
 fn settings(words: &mut Words) -> Result<Settings, LineFault> {
     let assignments = assignments(words)?;
     Ok(apply(words.alloc, assignments.as_slice())?)
@@ -154,9 +142,9 @@ fn append_kinds(out: &mut Answer) -> Result<(), LineFault> {
     Ok(())
 }
 
-// The kind that a key sets.
-fn told_key(words: &mut Words, out: &mut Answer) -> Result<(), LineFault> {
-    match DepKind::of_key(&words.text()?) {
+// Writes the kind that a key sets.
+fn append_kind_of(out: &mut Answer, key: &[u8]) -> Result<(), LineFault> {
+    match DepKind::of_key(key) {
         Some(kind) => out.write(kind.word().as_bytes()),
         None => out.write(b"none"),
     }

@@ -1,55 +1,40 @@
 //! Calls on stores.
-use crate::answer_text::Answer;
 use crate::edits::{
     append_content, append_entries, append_paths, append_placed, append_store, append_version,
-    edit_of, store,
 };
 use replica_store::{Content, Entry, Placed, Store};
-use worked_lines::{LineFault, Words, byte_of, is};
+use worked_lines::{Answer, LineFault, Words, byte_of, edit_of, is, match_word};
 
 /// Writes what a call on stores answers.
 pub fn answer(words: &mut Words, out: &mut Answer) -> Result<(), LineFault> {
     let call = words.word()?;
-    if is(call, b"join") {
-        joined(words, out)
-    } else if is(call, b"merge") {
-        merged(words, out)
-    } else if is(call, b"absorb") {
-        absorbed(words, out)
-    } else if is(call, b"get") || is(call, b"visible") {
-        at_path(call, words, out)
-    } else if is(call, b"entries_in") || is(call, b"folder") {
-        in_folder(call, words, out)
-    } else if is(call, b"visible_at") || is(call, b"placed_at") {
-        at_parts(call, words, out)
-    } else {
-        told(call, &store(words)?, words, out)
-    }
+    match_word!(call;
+        b"join" => joined(words, out),
+        b"merge" => merged(words, out),
+        b"absorb" => absorbed(words, out),
+        b"get" | b"visible" => at_path(call, words, out),
+        b"entries_in" | b"folder" => in_folder(call, words, out),
+        b"placed_at" | b"visible_at" => at_parts(call, words, out),
+        _ => told(call, &words.store()?, words, out),
+    )
 }
 
 // What a call answers of a whole store, or of two.
 fn told(call: &[u8], first: &Store, words: &mut Words, out: &mut Answer) -> Result<(), LineFault> {
-    if is(call, b"of") {
-        append_store(out, first)
-    } else if is(call, b"copy") {
-        append_store(out, &first.try_clone()?)
-    } else if is(call, b"same") {
-        out.either(first.same(&store(words)?), b"yes", b"no")
-    } else if is(call, b"high") {
-        out.print(&first.high())
-    } else if is(call, b"len") {
-        append_sizes(out, first)
-    } else if is(call, b"list") {
-        append_paths(out, &first.list()?)
-    } else {
-        Err(LineFault::Words)
-    }
+    match_word!(call;
+        b"of" => append_store(out, first),
+        b"copy" => append_store(out, &first.try_clone()?),
+        b"same" => out.either(first.same(&words.store()?), b"yes", b"no"),
+        b"high" => out.print(&first.high()),
+        b"len" => append_sizes(out, first),
+        b"list" => append_paths(out, &first.list()?),
+    )
 }
 
 // A store that one edit is joined to.
 fn joined(words: &mut Words, out: &mut Answer) -> Result<(), LineFault> {
     let edit = edit_of(words.alloc, words.word()?)?;
-    let mut store = store(words)?;
+    let mut store = words.store()?;
     store.join_edit(edit)?;
     append_store(out, &store)
 }
@@ -65,15 +50,15 @@ pub fn append_changed(out: &mut Answer, count: u64, store: &Store) -> Result<(),
 
 // A store that another is merged into.
 fn merged(words: &mut Words, out: &mut Answer) -> Result<(), LineFault> {
-    let mut first = store(words)?;
-    let count = first.merge(&store(words)?)?;
+    let mut first = words.store()?;
+    let count = first.merge(&words.store()?)?;
     append_changed(out, count, &first)
 }
 
 // A store that takes another.
 fn absorbed(words: &mut Words, out: &mut Answer) -> Result<(), LineFault> {
-    let mut first = store(words)?;
-    let count = first.absorb(store(words)?)?;
+    let mut first = words.store()?;
+    let count = first.absorb(words.store()?)?;
     append_changed(out, count, &first)
 }
 
@@ -104,7 +89,7 @@ fn append_entry(out: &mut Answer, entry: Option<&Entry>) -> Result<(), LineFault
 // What a store holds at a path, or what is visible there.
 fn at_path(call: &[u8], words: &mut Words, out: &mut Answer) -> Result<(), LineFault> {
     let path = words.path()?;
-    let store = store(words)?;
+    let store = words.store()?;
     if is(call, b"visible") {
         return append_visible(out, store.visible(&path));
     }
@@ -115,7 +100,7 @@ fn at_path(call: &[u8], words: &mut Words, out: &mut Answer) -> Result<(), LineF
 fn in_folder(call: &[u8], words: &mut Words, out: &mut Answer) -> Result<(), LineFault> {
     let rank = byte_of(words.word()?)?;
     let folder = words.text()?;
-    let store = store(words)?;
+    let store = words.store()?;
     if is(call, b"folder") {
         return append_paths(out, &store.folder(rank, &folder)?);
     }
@@ -127,7 +112,7 @@ fn at_parts(call: &[u8], words: &mut Words, out: &mut Answer) -> Result<(), Line
     let rank = byte_of(words.word()?)?;
     let folder = words.text()?;
     let name = words.text()?;
-    let store = store(words)?;
+    let store = words.store()?;
     if is(call, b"visible_at") {
         return append_visible(out, store.visible_at(rank, &folder, &name));
     }

@@ -2,26 +2,23 @@
 //!
 //! An event is a node's number and `!EDIT` for a put, `?` for an ask, `/ASK` for a cut, with `@PATH,PATH` behind it for
 //! a cut at some paths; and a piece's number and `>NODE` for a gift.
-use crate::answer_text::Answer;
-use crate::edits::{append_store, edit_of};
+use crate::edits::append_store;
 use crate::replicas::replica;
 use delta_gossip::{Event, Paths, World, exchange, run_world, sweep};
-use replica_store::{Path, Replica};
+use replica_store::Replica;
 use std::alloc::Global;
-use worked_lines::{LineFault, Words, cut_at, is, number_of, parts_of, path_of, writer_of};
+use worked_lines::{
+    Answer, LineFault, Words, cut_at, each_of, edit_of, match_word, parts_of, path_of, place_of,
+    writer_of,
+};
 
 /// Writes what a call on worlds answers.
 pub fn answer(words: &mut Words, out: &mut Answer) -> Result<(), LineFault> {
-    let call = words.word()?;
-    if is(call, b"exchange") {
-        exchanged(words, out)
-    } else if is(call, b"sweep") {
-        swept(words, out)
-    } else if is(call, b"run") {
-        run(words, out)
-    } else {
-        Err(LineFault::Words)
-    }
+    match_word!(words.word()?;
+        b"exchange" => exchanged(words, out),
+        b"sweep" => swept(words, out, &mut Answer::new(words.alloc)),
+        b"run" => run(words, out),
+    )
 }
 
 // Two replicas after an exchange.
@@ -38,19 +35,22 @@ fn append_exchange(out: &mut Answer, a: &mut Replica, b: &mut Replica) -> Result
     append_both(out, a, b)
 }
 
-/// As many replicas as the next word says.
-pub fn replicas(words: &mut Words) -> Result<Vec<Replica>, LineFault> {
+// As many replicas as the next word says.
+fn replicas(words: &mut Words) -> Result<Vec<Replica>, LineFault> {
     let mut replicas = Vec::new(words.alloc);
-    for writer in 0..writer_of(words.word()?)? {
+    for writer in 0..words.writer()? {
         replicas.push(replica(writer, words)?)?;
     }
     Ok(replicas)
 }
 
-// Replicas after a sweep.
-fn swept(words: &mut Words, out: &mut Answer) -> Result<(), LineFault> {
+/// Replicas after a sweep, which is made twice where the first is refused memory; what they hold between is written too.
+pub fn swept(words: &mut Words, out: &mut Answer, between: &mut Answer) -> Result<(), LineFault> {
     let mut replicas = replicas(words)?;
-    sweep(&mut replicas)?;
+    if sweep(&mut replicas).is_err() {
+        append_replicas(between, &replicas)?;
+        sweep(&mut replicas)?;
+    }
     append_replicas(out, &replicas)
 }
 
@@ -68,8 +68,8 @@ pub fn append_both(out: &mut Answer, a: &Replica, b: &Replica) -> Result<(), Lin
     append_replica(out, b)
 }
 
-/// Writes replicas.
-pub fn append_replicas(out: &mut Answer, replicas: &[Replica]) -> Result<(), LineFault> {
+// Writes replicas.
+fn append_replicas(out: &mut Answer, replicas: &[Replica]) -> Result<(), LineFault> {
     let mut is_first = true;
     for replica in replicas {
         out.either(is_first, b"", b" | ")?;
@@ -79,20 +79,12 @@ pub fn append_replicas(out: &mut Answer, replicas: &[Replica]) -> Result<(), Lin
     Ok(())
 }
 
-// The world of the writers of the first word after the events of the others.
+// The world of the writers of the next word, after the events of the words behind it.
 fn run(words: &mut Words, out: &mut Answer) -> Result<(), LineFault> {
-    let writers = writers(words)?;
-    let events = events(words)?;
+    let parts = parts_of(words.alloc, words.word()?)?;
+    let writers = each_of(words.alloc, &parts, |_, part| writer_of(part))?;
+    let events = each_of(words.alloc, &words.list()?, event)?;
     append_world(out, &run_world(words.alloc, &writers, &events)?)
-}
-
-// The writers that the next word writes.
-fn writers(words: &mut Words) -> Result<Vec<u32>, LineFault> {
-    let mut writers = Vec::new(words.alloc);
-    for part in &parts_of(words.alloc, words.word()?)? {
-        writers.push(writer_of(part)?)?;
-    }
-    Ok(writers)
 }
 
 // Writes how many asks there are, how many paths each piece carries, and what each replica holds.
@@ -107,62 +99,36 @@ fn append_world(out: &mut Answer, world: &World) -> Result<(), LineFault> {
     append_replicas(out, &world.replicas)
 }
 
-// The events that the words left write.
-fn events(words: &mut Words) -> Result<Vec<Event>, LineFault> {
-    let mut events = Vec::new(words.alloc);
-    for _ in 0..words.most() {
-        if words.is_over() {
-            break;
-        }
-        events.push(event(words.alloc, words.word()?)?)?;
-    }
-    Ok(events)
-}
-
 // The event that a word writes.
 fn event(alloc: Global, word: &[u8]) -> Result<Event, LineFault> {
     let digits = word.iter().position(|b| !b.is_ascii_digit());
     let place = digits.ok_or(LineFault::Words)?;
-    let number = number_of(&word[..place])? as usize;
+    let number = place_of(&word[..place])?;
     let rest = &word[place + 1..];
     match word[place] {
-        b'!' => put(alloc, number, rest),
+        b'!' => Ok(Event::Put {
+            node: number,
+            edit: edit_of(alloc, rest)?,
+        }),
         b'?' => Ok(Event::Ask { node: number }),
         b'/' => cut(alloc, number, rest),
-        b'>' => give(number, rest),
+        b'>' => Ok(Event::Give {
+            piece: number,
+            node: place_of(rest)?,
+        }),
         _ => Err(LineFault::Words),
     }
-}
-
-// A node puts the edit of a word.
-fn put(alloc: Global, node: usize, word: &[u8]) -> Result<Event, LineFault> {
-    let edit = edit_of(alloc, word)?;
-    Ok(Event::Put { node, edit })
-}
-
-// A piece is given to the node of a word.
-fn give(piece: usize, word: &[u8]) -> Result<Event, LineFault> {
-    let node = number_of(word)? as usize;
-    Ok(Event::Give { piece, node })
 }
 
 // A node cuts for the ask of a word, at the paths behind it or at all.
 fn cut(alloc: Global, node: usize, word: &[u8]) -> Result<Event, LineFault> {
     let Some((ask, names)) = cut_at(word, b'@') else {
-        let ask = number_of(word)? as usize;
+        let ask = place_of(word)?;
         let paths = None;
         return Ok(Event::Cut { node, ask, paths });
     };
-    let ask = number_of(ask)? as usize;
-    let paths = Some(Paths::new(named(alloc, names)?));
+    let ask = place_of(ask)?;
+    let names = parts_of(alloc, names)?;
+    let paths = Some(Paths::new(each_of(alloc, &names, path_of)?));
     Ok(Event::Cut { node, ask, paths })
-}
-
-// The paths that a word writes, parted by commas.
-fn named(alloc: Global, word: &[u8]) -> Result<Vec<Path>, LineFault> {
-    let mut paths = Vec::new(alloc);
-    for part in &parts_of(alloc, word)? {
-        paths.push(path_of(alloc, part)?)?;
-    }
-    Ok(paths)
 }

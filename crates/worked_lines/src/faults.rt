@@ -4,8 +4,6 @@ use edit_sums::ContentFault;
 use load_path::PathFault;
 use replica_store::Rest;
 use std::alloc::{AllocError, AllocFailed};
-use std::num::{ParseIntError, TryFromIntError};
-use std::str::Utf8Error;
 use unit_name::NameFault;
 
 /// Why a line has no answer.
@@ -38,24 +36,6 @@ impl<T: Drop> From<Rest<T>> for LineFault {
 impl From<TakeFault> for LineFault {
     fn from(_refused: TakeFault) -> LineFault {
         LineFault::Memory
-    }
-}
-
-impl From<Utf8Error> for LineFault {
-    fn from(_no_text: Utf8Error) -> LineFault {
-        LineFault::Words
-    }
-}
-
-impl From<ParseIntError> for LineFault {
-    fn from(_no_number: ParseIntError) -> LineFault {
-        LineFault::Words
-    }
-}
-
-impl From<TryFromIntError> for LineFault {
-    fn from(_too_large: TryFromIntError) -> LineFault {
-        LineFault::Words
     }
 }
 

@@ -1,4 +1,6 @@
 //! A gate at which two workers wait for one another, and one that counts how often it is asked.
+use crate::answers::Answer;
+use crate::faults::LineFault;
 use std::alloc::{AllocError, Global};
 use std::sync::atomic::{AtomicBool, AtomicUsize, Ordering};
 use std::thread;
@@ -73,11 +75,11 @@ impl CountingGate {
     }
 
     /// Writes each number that it was asked for, with how often, in their order.
-    pub fn append_to(&self, alloc: Global, out: &mut Vec<u8>) -> Result<(), AllocError> {
+    pub fn append_to(&self, out: &mut Answer) -> Result<(), LineFault> {
         for (number, count) in self.asked.iter().enumerate() {
             let often = count.load(Ordering::SeqCst);
             if often > 0 {
-                out.extend_from_slice(format!(in alloc; " {number}:{often}")?.as_bytes())?;
+                out.write(format!(in out.alloc; " {number}:{often}")?.as_bytes())?;
             }
         }
         Ok(())

@@ -4,17 +4,20 @@
 //! Promise: none; no clause can say it.
 #![tactic(auto)]
 
+mod answers;
+mod edits;
 mod faults;
 mod gates;
 mod lines;
 mod spelled;
 mod words;
 
+pub use answers::Answer;
+pub use edits::{edit_of, placed_of, version_of};
 pub use faults::LineFault;
 pub use gates::{CountingGate, Meeting};
 pub use lines::{answer_lines, work_input};
 pub use spelled::{
-    byte_of, cut_at, file_of, is, link_of, name_of, number_of, parts_of, path_of, text_of,
-    writer_of,
+    byte_of, cut_at, each_of, is, number_of, parts_of, path_of, place_of, text_of, writer_of,
 };
 pub use words::Words;

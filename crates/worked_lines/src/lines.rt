@@ -1,5 +1,7 @@
 //! Lines with their answers.
+use crate::answers::Answer;
 use crate::faults::LineFault;
+use crate::words::Words;
 use script_pipes::{Watched, read_all, write_all};
 use script_words::{cut_line, is_passed_over};
 use std::alloc::{AllocError, Global};
@@ -7,24 +9,33 @@ use std::io;
 use std::io::{Input, Print};
 use std::process::ExitCode;
 
-// Writes what a line answers; where it has no answer, why, behind the sign with which answers begin.
-fn append_answer(
-    out: &mut Vec<u8>,
-    sign: &[u8],
-    answered: &Result<Vec<u8>, LineFault>,
-) -> Result<(), AllocError> {
-    let why: &[u8] = match answered {
-        Ok(text) => return out.extend_from_slice(text),
-        Err(LineFault::Words) => b"no such call",
-        Err(LineFault::Memory) => b"memory",
-    };
-    out.extend_from_slice(sign)?;
-    out.extend_from_slice(why)
+// What a line answers, of which no word may be left.
+fn answer_line<F: Fn(&mut Words, &mut Answer) -> Result<(), LineFault>>(
+    alloc: Global,
+    line: &[u8],
+    answer: &F,
+) -> Result<Vec<u8>, LineFault>
+    requires { F.IsAlwaysCallable answer.now }
+{
+    let mut words = Words::new(alloc, line);
+    let mut out = Answer::new(alloc);
+    answer(&mut words, &mut out)?;
+    words.end()?;
+    Ok(out.bytes)
 }
 
-/// All lines of a text, each with its answer, which begins with a sign. Lines that are empty or begin with `#` are repeated
-/// as they are.
-pub fn answer_lines<F: Fn(&[u8]) -> Result<Vec<u8>, LineFault>>(
+// Writes what a line answers; where it has no answer, why.
+fn append_answer(out: &mut Vec<u8>, answer: &Result<Vec<u8>, LineFault>) -> Result<(), AllocError> {
+    out.extend_from_slice(match answer {
+        Ok(text) => text,
+        Err(LineFault::Words) => b"no such call",
+        Err(LineFault::Memory) => b"memory",
+    })
+}
+
+/// All lines of a text, each with a sign and its answer behind it. Lines that are empty or begin with `#` are repeated as
+/// they are.
+pub fn answer_lines<F: Fn(&mut Words, &mut Answer) -> Result<(), LineFault>>(
     alloc: Global,
     text: &[u8],
     sign: &[u8],
@@ -38,7 +49,8 @@ pub fn answer_lines<F: Fn(&[u8]) -> Result<Vec<u8>, LineFault>>(
         let (line, later) = cut_line(rest);
         out.extend_from_slice(line)?;
         if !is_passed_over(line) {
-            append_answer(&mut out, sign, &answer(line))?;
+            out.extend_from_slice(sign)?;
+            append_answer(&mut out, &answer_line(alloc, line, &answer))?;
         }
         out.push(b'\n')?;
         rest = later;

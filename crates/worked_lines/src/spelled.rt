@@ -11,6 +11,18 @@ pub fn is(word: &[u8], other: &[u8]) -> bool {
     word == other
 }
 
+/// What stands behind a word in a table of calls; `_` stands for all other words, and without it they are no calls.
+#[macro_export]
+macro_rules! match_word {
+    ($word:expr; $($($name:literal)|+ => $answer:expr,)+ _ => $other:expr,) => {{
+        let word = $word;
+        $(if $($crate::is(word, $name))||+ { $answer } else)+ { $other }
+    }};
+    ($word:expr; $($($name:literal)|+ => $answer:expr,)+) => {
+        $crate::match_word!($word; $($($name)|+ => $answer,)+ _ => Err($crate::LineFault::Words),)
+    };
+}
+
 /// What a word spells: a text as scripts spell one, `\n`, `\t`, `\\` and `\xHH` being read; `''` is the empty text.
 pub fn text_of(alloc: Global, word: &[u8]) -> Result<Vec<u8>, LineFault> {
     if is(word, b"''") {
@@ -21,18 +33,24 @@ pub fn text_of(alloc: Global, word: &[u8]) -> Result<Vec<u8>, LineFault> {
 
 /// The number that a word writes in decimal digits.
 pub fn number_of(word: &[u8]) -> Result<u64, LineFault> {
-    let text = str::from_utf8(word)?;
-    Ok(text.parse::<u64>()?)
+    let text = str::from_utf8(word).ok();
+    let number = text.and_then(|digits| digits.parse::<u64>().ok());
+    number.ok_or(LineFault::Words)
+}
+
+/// The number of what is in memory that a word writes.
+pub fn place_of(word: &[u8]) -> Result<usize, LineFault> {
+    Ok(number_of(word)? as usize)
 }
 
 /// The number below 256 that a word writes.
 pub fn byte_of(word: &[u8]) -> Result<u8, LineFault> {
-    Ok(u8::try_from(number_of(word)?)?)
+    u8::try_from(number_of(word)?).map_err(|_| LineFault::Words)
 }
 
 /// The number of a writer that a word writes.
 pub fn writer_of(word: &[u8]) -> Result<u32, LineFault> {
-    Ok(u32::try_from(number_of(word)?)?)
+    u32::try_from(number_of(word)?).map_err(|_| LineFault::Words)
 }
 
 /// The path that a word writes: whole, or with `E`, `R`, `L` or `U` for one of the four directories in their order.
@@ -52,6 +70,11 @@ pub fn path_of(alloc: Global, word: &[u8]) -> Result<Path, LineFault> {
 /// The unit's name that a word is.
 pub fn name_of(alloc: Global, word: &[u8]) -> Result<UnitName, LineFault> {
     Ok(UnitName::parse(alloc, word)?)
+}
+
+/// The unit's name that a word spells.
+pub fn spelled_name_of(alloc: Global, word: &[u8]) -> Result<UnitName, LineFault> {
+    name_of(alloc, &text_of(alloc, word)?)
 }
 
 /// The file whose text a word spells.
@@ -80,4 +103,19 @@ pub fn parts_of(alloc: Global, word: &[u8]) -> Result<Vec<&[u8]>, LineFault> {
         parts.push(part)?;
     }
     Ok(parts)
+}
+
+/// What each of these words writes.
+pub fn each_of<T: Drop, F: Fn(Global, &[u8]) -> Result<T, LineFault>>(
+    alloc: Global,
+    words: &[&[u8]],
+    one: F,
+) -> Result<Vec<T>, LineFault>
+    requires { F.IsAlwaysCallable one }
+{
+    let mut all = Vec::new(alloc);
+    for word in words {
+        all.push(one(alloc, word)?)?;
+    }
+    Ok(all)
 }

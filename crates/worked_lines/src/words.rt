@@ -1,8 +1,13 @@
 //! The words of a line.
+use crate::edits::listed_edit;
 use crate::faults::LineFault;
-use crate::spelled::{file_of, is, name_of, number_of, path_of, text_of, writer_of};
+use crate::spelled::{
+    each_of, file_of, is, name_of, number_of, path_of, place_of, spelled_name_of, text_of,
+    writer_of,
+};
 use edit_sums::Content;
 use load_path::Path;
+use replica_store::{Edit, Store};
 use script_words::cut_word;
 use std::alloc::Global;
 use unit_name::UnitName;
@@ -49,10 +54,21 @@ impl<'a> Words<'a> {
         if is(word, b"+") { None } else { Some(word) }
     }
 
+    /// All words of a list.
+    pub fn list(&mut self) -> Result<Vec<&'a [u8]>, LineFault> {
+        let mut list = Vec::new(self.alloc);
+        for _ in 0..self.most() {
+            let Some(word) = self.listed() else {
+                break;
+            };
+            list.push(word)?;
+        }
+        Ok(list)
+    }
+
     /// What the next word spells.
     pub fn text(&mut self) -> Result<Vec<u8>, LineFault> {
-        let word = self.word()?;
-        text_of(self.alloc, word)
+        text_of(self.alloc, self.word()?)
     }
 
     /// The next word as a number.
@@ -62,7 +78,7 @@ impl<'a> Words<'a> {
 
     /// The next word as a number of what is in memory.
     pub fn place(&mut self) -> Result<usize, LineFault> {
-        Ok(self.number()? as usize)
+        place_of(self.word()?)
     }
 
     /// The next word as a writer's number.
@@ -72,44 +88,51 @@ impl<'a> Words<'a> {
 
     /// The next word as a path.
     pub fn path(&mut self) -> Result<Path, LineFault> {
-        let word = self.word()?;
-        path_of(self.alloc, word)
+        path_of(self.alloc, self.word()?)
     }
 
     /// The next word as the content of a file.
     pub fn file(&mut self) -> Result<Content, LineFault> {
-        let word = self.word()?;
-        file_of(self.alloc, word)
+        file_of(self.alloc, self.word()?)
     }
 
     /// The next word as what spells a unit's name.
     pub fn name(&mut self) -> Result<UnitName, LineFault> {
-        let text = self.text()?;
-        name_of(self.alloc, &text)
+        spelled_name_of(self.alloc, self.word()?)
     }
 
     /// The names that a list of words writes.
     pub fn names(&mut self) -> Result<Vec<UnitName>, LineFault> {
-        let mut names = Vec::new(self.alloc);
-        for _ in 0..self.most() {
-            let Some(word) = self.listed() else {
-                break;
-            };
-            names.push(name_of(self.alloc, word)?)?;
-        }
-        Ok(names)
+        each_of(self.alloc, &self.list()?, name_of)
+    }
+
+    /// The names that a list of words spells.
+    pub fn spelled_names(&mut self) -> Result<Vec<UnitName>, LineFault> {
+        each_of(self.alloc, &self.list()?, spelled_name_of)
+    }
+
+    /// The paths that a list of words writes.
+    pub fn paths(&mut self) -> Result<Vec<Path>, LineFault> {
+        each_of(self.alloc, &self.list()?, path_of)
     }
 
     /// The numbers that a list of words writes.
     pub fn numbers(&mut self) -> Result<Vec<usize>, LineFault> {
-        let mut numbers = Vec::new(self.alloc);
-        for _ in 0..self.most() {
-            let Some(word) = self.listed() else {
-                break;
-            };
-            numbers.push(number_of(word)? as usize)?;
+        each_of(self.alloc, &self.list()?, |_, word| place_of(word))
+    }
+
+    /// The edits that a list of words writes.
+    pub fn edits(&mut self) -> Result<Vec<Edit>, LineFault> {
+        let mut edits = Vec::new(self.alloc);
+        for (place, word) in self.list()?.iter().enumerate() {
+            edits.push(listed_edit(self.alloc, word, place)?)?;
         }
-        Ok(numbers)
+        Ok(edits)
+    }
+
+    /// The store of the edits that a list of words writes.
+    pub fn store(&mut self) -> Result<Store, LineFault> {
+        Ok(Store::from_edits(self.alloc, &self.edits()?)?)
     }
 
     /// That no word is left.

@@ -3,27 +3,26 @@ use join_law::Version;
 use load_path::Path;
 use node_histories::NodeName;
 use replica_store::Store;
-use shared_node::{NodeFault, Seat, Told};
-use std::alloc::{AllocError, Global};
-use worked_lines::LineFault;
+use shared_node::{Seat, Told};
+use std::alloc::Global;
+use std::fmt::Display;
+use worked_lines::{Answer, LineFault};
 
-/// The seats that a node gave, by number, and the last token that it gave.
+/// The seats that a node gave, by number, the last token that it gave, and what was answered.
 #[derive(Drop)]
 pub struct Bench<N: NodeName> {
-    pub alloc: Global,
     pub seats: Vec<Option<Seat<N>>>,
     pub told: Option<Told<N>>,
-    pub out: Vec<u8>,
+    pub out: Answer,
 }
 
 impl<N: NodeName> Bench<N> {
     /// One without seats.
     pub fn new(alloc: Global) -> Self {
         Bench {
-            alloc,
             seats: Vec::new(alloc),
             told: None,
-            out: Vec::new(alloc),
+            out: Answer::new(alloc),
         }
     }
 
@@ -39,61 +38,51 @@ impl<N: NodeName> Bench<N> {
         }
     }
 
-    /// Writes the bytes of an answer.
-    pub fn tell_bytes(&mut self, answer: &[u8]) -> Result<(), LineFault> {
-        self.out.extend_from_slice(b"\n  ")?;
-        Ok(self.out.extend_from_slice(answer)?)
+    /// The seat at a place, if it isn't lent out.
+    pub fn seat(&mut self, place: usize) -> Option<&mut Seat<N>> {
+        self.seats.get_mut(place)?.as_mut()
     }
 
     /// Writes an answer.
     pub fn tell(&mut self, answer: &str) -> Result<(), LineFault> {
-        self.tell_bytes(answer.as_bytes())
+        self.out.line(answer.as_bytes())
     }
 
     /// Writes a name and a number.
     pub fn tell_number(&mut self, name: &str, number: u64) -> Result<(), LineFault> {
-        let text = format!(in self.alloc; "{name} {number}")?;
-        self.tell(text.as_str())
+        self.tell(format!(in self.out.alloc; "{name} {number}")?.as_str())
     }
 
-    /// Writes a fault.
-    pub fn tell_fault(&mut self, fault: &NodeFault<N>) -> Result<(), LineFault> {
-        let text = format!(in self.alloc; "{fault}")?;
-        self.tell(text.as_str())
-    }
-
-    /// Writes a version.
-    pub fn tell_version(&mut self, version: Version) -> Result<(), LineFault> {
-        let counter = version.counter;
-        let writer = version.writer;
-        let text = format!(in self.alloc; "ok {counter}.{writer}")?;
-        self.tell(text.as_str())
+    /// Writes what a value prints.
+    pub fn tell_value<T: Display>(&mut self, value: &T) -> Result<(), LineFault> {
+        self.tell("")?;
+        self.out.print(value)
     }
 }
 
-/// Writes the versions and names of what a store holds, behind a name and a number.
-pub fn store_text(alloc: Global, takes: u64, store: &Store) -> Result<Vec<u8>, LineFault> {
-    let mut text = Vec::new(alloc);
-    text.extend_from_slice(format!(in alloc; "takes {takes}")?.as_bytes())?;
+/// Writes a number of takes, and the versions and names of what a store holds.
+pub fn append_store(out: &mut Answer, takes: u64, store: &Store) -> Result<(), LineFault> {
+    out.write(format!(in out.alloc; "takes {takes}")?.as_bytes())?;
     for path in &store.list()? {
-        append_held(alloc, &mut text, store, path)?;
+        append_held(out, store, path)?;
     }
-    Ok(text)
+    Ok(())
 }
 
 // Writes what a store holds at a path.
-fn append_held(
-    alloc: Global,
-    text: &mut Vec<u8>,
-    store: &Store,
-    path: &Path,
-) -> Result<(), AllocError> {
+fn append_held(out: &mut Answer, store: &Store, path: &Path) -> Result<(), LineFault> {
     let Some(entry) = store.get(path) else {
         return Ok(());
     };
-    let counter = entry.version.counter;
-    let writer = entry.version.writer;
-    text.push(b' ')?;
-    text.extend_from_slice(path.name())?;
-    text.extend_from_slice(format!(in alloc; " {counter}.{writer}")?.as_bytes())
+    out.write(b" ")?;
+    out.write(path.name())?;
+    out.write(b" ")?;
+    append_version(out, entry.version)
+}
+
+/// Writes a version.
+pub fn append_version(out: &mut Answer, version: Version) -> Result<(), LineFault> {
+    out.print(&version.counter)?;
+    out.write(b".")?;
+    out.print(&version.writer)
 }

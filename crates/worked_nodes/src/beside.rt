@@ -122,7 +122,7 @@ pub fn beside<N: NodeName + Send + Sync, R: Threads + Wait + Clock + Sync>(
     };
     let (holder, writer, looker, is_fine) = work_beside(
         rt,
-        bench.alloc,
+        words.alloc,
         node,
         holder,
         writer,

@@ -1,14 +1,13 @@
 //! How a node is closed.
-use crate::bench::{Bench, store_text};
+use crate::bench::{Bench, append_store};
 use node_histories::NodeName;
 use shared_node::{CloseCause, CloseFault, Closed, Node, Seat};
-use std::alloc::Global;
 use std::sync::Wait;
 use worked_lines::LineFault;
 
 // The seats of a bench.
 fn seats_of<N: NodeName>(bench: &mut Bench<N>) -> Result<Vec<Seat<N>>, LineFault> {
-    let mut seats = Vec::new(bench.alloc);
+    let mut seats = Vec::new(bench.out.alloc);
     for slot in bench.seats.iter_mut() {
         if let Some(seat) = slot.take() {
             seats.push(seat)?;
@@ -19,16 +18,8 @@ fn seats_of<N: NodeName>(bench: &mut Bench<N>) -> Result<Vec<Seat<N>>, LineFault
 
 // Writes what is left of a node.
 fn tell_closed<N: NodeName>(bench: &mut Bench<N>, closed: &Closed) -> Result<(), LineFault> {
-    let text = store_text(bench.alloc, closed.takes, closed.replica.store())?;
-    bench.out.extend_from_slice(b"\n  closed ")?;
-    Ok(bench.out.extend_from_slice(&text)?)
-}
-
-// Writes why a node wasn't closed.
-fn tell_refused<N: NodeName>(bench: &mut Bench<N>, fault: &CloseFault<N>) -> Result<(), LineFault> {
-    let cause = fault.cause;
-    let text = format!(in bench.alloc; "{cause}")?;
-    bench.tell(text.as_str())
+    bench.tell("closed ")?;
+    append_store(&mut bench.out, closed.takes, closed.replica.store())
 }
 
 /// Ends a node that wasn't closed.
@@ -55,26 +46,13 @@ fn close_told<N: NodeName, R: Wait>(
         }
         Err(fault) => fault,
     };
-    match tell_refused(bench, &fault) {
+    match bench.tell_value(&fault.cause) {
         Ok(()) => Ok(Some(fault)),
         Err(untold) => {
             end_refused(rt, fault);
             Err(untold)
         }
     }
-}
-
-// Closes a node with these seats, for the last time that this is tried.
-fn close_at_last<N: NodeName, R: Wait>(
-    rt: &R,
-    node: Node<N>,
-    bench: &mut Bench<N>,
-    seats: Vec<Seat<N>>,
-) -> Result<(), LineFault> {
-    if let Some(fault) = close_told(rt, node, bench, seats)? {
-        end_refused(rt, fault);
-    }
-    Ok(())
 }
 
 // Closes a node with these seats; where memory is refused, again with what comes back.
@@ -87,10 +65,13 @@ fn close_with<N: NodeName, R: Wait>(
     let Some(CloseFault { node, seats, cause }) = close_told(rt, node, bench, seats)? else {
         return Ok(());
     };
-    if cause == CloseCause::Memory {
-        return close_at_last(rt, node, bench, seats);
+    if cause != CloseCause::Memory {
+        node.end(rt);
+        return Ok(());
     }
-    node.end(rt);
+    if let Some(fault) = close_told(rt, node, bench, seats)? {
+        end_refused(rt, fault);
+    }
     Ok(())
 }
 

@@ -39,12 +39,12 @@ mod threads;
 
 use std::alloc::AllocError;
 use std::process::ExitCode;
-use worked_lines::{LineFault, answer_lines, work_input};
+use worked_lines::{Answer, LineFault, Words, answer_lines, work_input};
 
 fn main(rt: HostRuntime) -> ExitCode {
     work_input(&rt, |text: &[u8]| -> Result<Vec<u8>, AllocError> {
-        let answer = |line: &[u8]| -> Result<Vec<u8>, LineFault> {
-            answers::answer(&rt, rt.alloc(), line)
+        let answer = |words: &mut Words, out: &mut Answer| -> Result<(), LineFault> {
+            answers::answer(&rt, words, out)
         };
         answer_lines(rt.alloc(), text, b"\n  ", answer)
     })

@@ -4,31 +4,21 @@ use crate::edits::one_piece;
 use crossbeam_channel::{Receiver, unbounded};
 use node_histories::NodeName;
 use shared_node::{Message, Node, Served, serve};
-use std::alloc::Global;
 use std::sync::Wait;
-use worked_lines::{CountingGate, LineFault, Words, is};
+use worked_lines::{CountingGate, LineFault, Words, match_word};
 
 // The message that a word and those behind it write.
 fn message_of(word: &[u8], words: &mut Words) -> Result<Message, LineFault> {
-    if is(word, b"edit") {
-        let path = words.path()?;
-        Ok(Message::Edit(path, words.file()?))
-    } else if is(word, b"absorb") {
-        Ok(Message::Absorb(one_piece(words)?))
-    } else if is(word, b"end") {
-        Ok(Message::End)
-    } else {
-        Err(LineFault::Words)
-    }
+    match_word!(word;
+        b"edit" => Ok(Message::Edit(words.path()?, words.file()?)),
+        b"absorb" => Ok(Message::Absorb(one_piece(words)?)),
+        b"end" => Ok(Message::End),
+    )
 }
 
 // An inbox with the messages that a list of words writes. Its sender is gone.
-fn inbox_of<R: Wait>(
-    rt: &R,
-    alloc: Global,
-    words: &mut Words,
-) -> Result<Receiver<Message>, LineFault> {
-    let (sender, inbox) = unbounded(alloc)?;
+fn inbox_of<R: Wait>(rt: &R, words: &mut Words) -> Result<Receiver<Message>, LineFault> {
+    let (sender, inbox) = unbounded(words.alloc)?;
     for _ in 0..words.most() {
         let Some(word) = words.listed() else {
             break;
@@ -51,7 +41,7 @@ fn tell_served<N: NodeName>(
     bench.tell_number("pending", served.pending as u64)?;
     bench.tell_number("refused", served.refused as u64)?;
     bench.tell("asked for")?;
-    Ok(gate.append_to(bench.alloc, &mut bench.out)?)
+    gate.append_to(&mut bench.out)
 }
 
 /// Serves an inbox from a seat, at a gate that turns each message away so often.
@@ -62,9 +52,9 @@ pub fn work_inbox<N: NodeName, R: Wait>(
     words: &mut Words,
 ) -> Result<(), LineFault> {
     let place = words.place()?;
-    let gate = CountingGate::new(bench.alloc, words.place()?)?;
-    let inbox = inbox_of(rt, bench.alloc, words)?;
-    let Some(Some(seat)) = bench.seats.get_mut(place) else {
+    let gate = CountingGate::new(words.alloc, words.place()?)?;
+    let inbox = inbox_of(rt, words)?;
+    let Some(seat) = bench.seat(place) else {
         return bench.tell("no seat");
     };
     let served = serve(rt, node, seat, &inbox, &gate);

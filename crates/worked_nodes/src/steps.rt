@@ -1,43 +1,32 @@
 //! What is done at a node.
-use crate::bench::{Bench, store_text};
+use crate::bench::{Bench, append_store, append_version};
 use crate::beside::beside;
 use crate::edits::one_piece;
 use crate::serving::work_inbox;
 use node_histories::NodeName;
 use shared_node::{Node, NodeFault, Seat, Told};
-use std::alloc::Global;
 use std::sync::Wait;
 use std::thread::Threads;
 use std::time::Clock;
-use worked_lines::{LineFault, Words, is};
+use worked_lines::{Answer, LineFault, Words, match_word};
 
-/// Does one step, and writes its answer. It answers false where the word is no step at an open node.
+/// Does the step that a word names, and writes its answer.
 pub fn step<N: NodeName + Send + Sync, R: Threads + Wait + Clock + Sync>(
     rt: &R,
     node: &Node<N>,
     bench: &mut Bench<N>,
     word: &[u8],
     words: &mut Words,
-) -> Result<bool, LineFault> {
-    let done = if is(word, b"seat") {
-        take_seat(rt, node, bench)
-    } else if is(word, b"edit") {
-        edit(rt, node, bench, words)
-    } else if is(word, b"absorb") {
-        absorb(rt, node, bench, words)
-    } else if is(word, b"learn") {
-        learn(bench, words)
-    } else if is(word, b"view") {
-        view(bench, words)
-    } else if is(word, b"serve") {
-        work_inbox(rt, node, bench, words)
-    } else if is(word, b"beside") {
-        beside(rt, node, bench, words)
-    } else {
-        return Ok(false)
-    };
-    done?;
-    Ok(true)
+) -> Result<(), LineFault> {
+    match_word!(word;
+        b"seat" => take_seat(rt, node, bench),
+        b"edit" => edit(rt, node, bench, words),
+        b"absorb" => absorb(rt, node, bench, words),
+        b"learn" => learn(bench, words),
+        b"view" => view(bench, words),
+        b"serve" => work_inbox(rt, node, bench, words),
+        b"beside" => beside(rt, node, bench, words),
+    )
 }
 
 // Takes a seat.
@@ -51,7 +40,7 @@ fn take_seat<N: NodeName, R: Wait>(
             bench.tell_number("seat", seat.number() as u64)?;
             Ok(bench.seats.push(Some(seat))?)
         }
-        Err(fault) => bench.tell_fault(&fault),
+        Err(fault) => bench.tell_value(&fault),
     }
 }
 
@@ -66,7 +55,7 @@ fn keep_told<N: NodeName, T: Drop>(
             Ok(Some(answer))
         }
         Err(fault) => {
-            bench.tell_fault(&fault)?;
+            bench.tell_value(&fault)?;
             Ok(None)
         }
     }
@@ -79,17 +68,16 @@ fn edit<N: NodeName, R: Wait>(
     bench: &mut Bench<N>,
     words: &mut Words,
 ) -> Result<(), LineFault> {
-    let place = words.place()?;
-    let path = words.path()?;
-    let content = words.file()?;
-    let Some(Some(seat)) = bench.seats.get_mut(place) else {
+    let (place, path, content) = (words.place()?, words.path()?, words.file()?);
+    let Some(seat) = bench.seat(place) else {
         return bench.tell("no seat");
     };
     let taken = node.edit(rt, seat, path, content);
-    match keep_told(bench, taken)? {
-        Some(version) => bench.tell_version(version),
-        None => Ok(()),
-    }
+    let Some(version) = keep_told(bench, taken)? else {
+        return Ok(());
+    };
+    bench.tell("ok ")?;
+    append_version(&mut bench.out, version)
 }
 
 // Absorbs a piece from a seat.
@@ -99,9 +87,8 @@ fn absorb<N: NodeName, R: Wait>(
     bench: &mut Bench<N>,
     words: &mut Words,
 ) -> Result<(), LineFault> {
-    let place = words.place()?;
-    let piece = one_piece(words)?;
-    let Some(Some(seat)) = bench.seats.get_mut(place) else {
+    let (place, piece) = (words.place()?, one_piece(words)?);
+    let Some(seat) = bench.seat(place) else {
         return bench.tell("no seat");
     };
     let taken = node.absorb(rt, seat, piece);
@@ -125,17 +112,14 @@ fn learn<N: NodeName>(bench: &mut Bench<N>, words: &mut Words) -> Result<(), Lin
     bench.tell_number("seen", seen)
 }
 
-// The seat of a view, and what was seen, if there was a place to view.
-fn seen<N: NodeName>(
-    alloc: Global,
-    seat: Seat<N>,
-) -> (Seat<N>, Option<Result<Vec<u8>, LineFault>>) {
+// The seat of a view, of which what is seen is written, if there is a place to view.
+fn append_view<N: NodeName>(out: &mut Answer, seat: Seat<N>) -> (Seat<N>, Result<(), LineFault>) {
     match seat.view() {
         Ok(view) => {
-            let text = store_text(alloc, view.takes(), view.store());
-            (view.leave(), Some(text))
+            let told = append_store(out, view.takes(), view.store());
+            (view.leave(), told)
         }
-        Err(fault) => (fault.seat, None),
+        Err(fault) => (fault.seat, out.write(b"A7 NoEntry")),
     }
 }
 
@@ -145,10 +129,8 @@ fn view<N: NodeName>(bench: &mut Bench<N>, words: &mut Words) -> Result<(), Line
     let Some(seat) = bench.lend(place) else {
         return bench.tell("no seat");
     };
-    let (seat, text) = seen(bench.alloc, seat);
+    bench.tell("")?;
+    let (seat, told) = append_view(&mut bench.out, seat);
     bench.put_back(place, seat);
-    match text {
-        Some(text) => bench.tell_bytes(&text?),
-        None => bench.tell("A7 NoEntry"),
-    }
+    told
 }

@@ -10,7 +10,7 @@ use std::alloc::{AllocError, Global};
 use std::sync::Wait;
 use std::thread;
 use std::thread::Threads;
-use worked_lines::{LineFault, Words};
+use worked_lines::{Answer, LineFault, Words};
 
 /// How many seats write and read, how many edits each writer makes, and how often each reader views.
 #[derive(Clone, Copy)]
@@ -52,22 +52,6 @@ fn file_of(alloc: Global, seat: usize, number: u64) -> Result<Content, LineFault
     Content::file(bytes).map_err(|_| LineFault::Memory)
 }
 
-// Makes the edit of this number from a seat.
-fn make_edit<N: NodeName, R: Wait>(
-    rt: &R,
-    alloc: Global,
-    node: &Node<N>,
-    seat: &mut Seat<N>,
-    number: u64,
-) -> Result<(), LineFault> {
-    let path = path_of(alloc, seat.number())?;
-    let content = file_of(alloc, seat.number(), number)?;
-    match node.edit(rt, seat, path, content) {
-        Ok(_) => Ok(()),
-        Err(_) => Err(LineFault::Memory),
-    }
-}
-
 /// Makes so many edits from a seat, of its own file.
 pub fn make_edits<N: NodeName, R: Wait>(
     rt: &R,
@@ -77,7 +61,11 @@ pub fn make_edits<N: NodeName, R: Wait>(
     edits: u64,
 ) -> Result<(), LineFault> {
     for number in 0..edits {
-        make_edit(rt, alloc, node, seat, number)?;
+        let path = path_of(alloc, seat.number())?;
+        let content = file_of(alloc, seat.number(), number)?;
+        if node.edit(rt, seat, path, content).is_err() {
+            return Err(LineFault::Memory);
+        }
     }
     Ok(())
 }
@@ -190,25 +178,24 @@ fn work_plan<N: NodeName + Send + Sync, R: Threads + Wait + Sync>(
     Ok(seats_of(alloc, done)?)
 }
 
-// How many takes a closed node had and how many paths it holds.
-fn closed_text(alloc: Global, closed: &Closed, are_fine: bool) -> Result<Vec<u8>, LineFault> {
+// Writes how many takes a closed node had and how many paths it holds.
+fn append_closed(out: &mut Answer, closed: &Closed, are_fine: bool) -> Result<(), LineFault> {
     let takes = closed.takes;
     let paths = closed.replica.store().len();
-    let word = if are_fine { "fine" } else { "not fine" };
-    let text = format!(in alloc; "\n  {word}\n  closed takes {takes} paths {paths}")?;
-    Ok(text.into_bytes())
+    out.line(if are_fine { b"fine" } else { b"not fine" })?;
+    out.line(format!(in out.alloc; "closed takes {takes} paths {paths}")?.as_bytes())
 }
 
-// Closes a node with its seats, and tells what is left of it.
+// Closes a node with its seats, and writes what is left of it.
 fn close_with<N: NodeName, R: Wait>(
     rt: &R,
-    alloc: Global,
     node: Node<N>,
     seats: Vec<Seat<N>>,
     are_fine: bool,
-) -> Result<Vec<u8>, LineFault> {
+    out: &mut Answer,
+) -> Result<(), LineFault> {
     match node.close(rt, seats) {
-        Ok(closed) => closed_text(alloc, &closed, are_fine),
+        Ok(closed) => append_closed(out, &closed, are_fine),
         Err(fault) => {
             end_refused(rt, fault);
             Err(LineFault::Memory)
@@ -219,17 +206,17 @@ fn close_with<N: NodeName, R: Wait>(
 /// Does what a plan says at the node of this blank, each seat in a thread of its own, and closes it.
 pub fn work_threads<N: NodeName + Send + Sync, R: Threads + Wait + Sync>(
     rt: &R,
-    alloc: Global,
     blank: Blank,
     plan: Plan,
-) -> Result<Vec<u8>, LineFault>
+    out: &mut Answer,
+) -> Result<(), LineFault>
     requires book { blank.book ≡ N.book }
     requires opening { blank.opening ≡ N.opening }
     requires seats { blank.seats ≡ N.seats }
 {
     let node = Node::<N>::open(blank);
-    match work_plan(rt, alloc, &node, plan) {
-        Ok((seats, are_fine)) => close_with(rt, alloc, node, seats, are_fine),
+    match work_plan(rt, out.alloc, &node, plan) {
+        Ok((seats, are_fine)) => close_with(rt, node, seats, are_fine, out),
         Err(fault) => {
             node.end(rt);
             Err(fault)

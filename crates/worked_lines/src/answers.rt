@@ -1,9 +1,9 @@
 //! The answer of a call.
+use crate::faults::LineFault;
 use load_path::Path;
 use std::alloc::Global;
 use std::fmt::Display;
 use unit_name::UnitName;
-use worked_lines::LineFault;
 
 /// The answer of a call, as far as it is written.
 #[derive(Drop)]
@@ -47,6 +47,21 @@ impl Answer {
     pub fn part(&mut self, between: &[u8]) -> Result<(), LineFault> {
         let is_empty = self.is_empty();
         self.either(is_empty, b"", between)
+    }
+
+    /// Writes bytes in a line of their own, below those that stand there.
+    pub fn line(&mut self, bytes: &[u8]) -> Result<(), LineFault> {
+        self.part(b"\n  ")?;
+        self.write(bytes)
+    }
+
+    /// Writes names, each behind a space.
+    pub fn names(&mut self, names: &[UnitName]) -> Result<(), LineFault> {
+        for name in names {
+            self.write(b" ")?;
+            self.write(name.bytes())?;
+        }
+        Ok(())
     }
 
     /// Writes a word, if nothing stands there.

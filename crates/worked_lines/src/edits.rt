@@ -1,0 +1,63 @@
+//! Edits in words.
+//!
+//! An edit is `COUNTER.WRITER:PATH` for a removal, with `=TEXT` behind it for a file and with `>TARGET` for a link. In a
+//! list of edits the version may be left out: each that has none is then later than those before it.
+use crate::faults::LineFault;
+use crate::spelled::{cut_at, file_of, link_of, number_of, path_of, writer_of};
+use edit_sums::Content;
+use load_path::Path;
+use replica_store::{Edit, Version};
+use std::alloc::Global;
+
+/// The version that a word writes.
+pub fn version_of(word: &[u8]) -> Result<Version, LineFault> {
+    let (counter, writer) = cut_at(word, b'.').ok_or(LineFault::Words)?;
+    let writer = writer_of(writer)?;
+    let counter = number_of(counter)?;
+    Ok(Version { counter, writer })
+}
+
+// What a word writes before its content, and the content.
+fn cut_content(alloc: Global, word: &[u8]) -> Result<(&[u8], Content), LineFault> {
+    if let Some((path, text)) = cut_at(word, b'=') {
+        return Ok((path, file_of(alloc, text)?));
+    }
+    if let Some((path, target)) = cut_at(word, b'>') {
+        return Ok((path, link_of(alloc, target)?));
+    }
+    Ok((word, Content::gone()))
+}
+
+/// The path and the content that a word writes.
+pub fn placed_of(alloc: Global, word: &[u8]) -> Result<(Path, Content), LineFault> {
+    let (path, content) = cut_content(alloc, word)?;
+    Ok((path_of(alloc, path)?, content))
+}
+
+// The edit of a version whose path and content a word writes.
+fn edit_at(alloc: Global, version: Version, word: &[u8]) -> Result<Edit, LineFault> {
+    let (path, content) = placed_of(alloc, word)?;
+    Ok(Edit {
+        path,
+        version,
+        content,
+    })
+}
+
+/// The edit that a word writes.
+pub fn edit_of(alloc: Global, word: &[u8]) -> Result<Edit, LineFault> {
+    let (version, placed) = cut_at(word, b':').ok_or(LineFault::Words)?;
+    edit_at(alloc, version_of(version)?, placed)
+}
+
+/// The edit that a word of a list writes, behind so many others; without a version it has the counter that its place
+/// gives, from 1, and the writer 1.
+pub fn listed_edit(alloc: Global, word: &[u8], before: usize) -> Result<Edit, LineFault> {
+    match word.first() {
+        Some(b'0'..=b'9') => edit_of(alloc, word),
+        _ => {
+            let counter = (before as u64).saturating_add(1);
+            edit_at(alloc, Version { counter, writer: 1 }, word)
+        }
+    }
+}
