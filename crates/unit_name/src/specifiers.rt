@@ -6,7 +6,7 @@ ghost use Rattle.unit_name.specs.Specifiers.{specifier, last_part, expand, IsExp
 use crate::UnitName;
 use crate::escapes::{push_unescaped, spells_bytes};
 use crate::parts::{after_last, stem_of};
-use std::alloc::{AllocError, AllocFailed, Global};
+use std::alloc::{AllocError, Global};
 use thiserror::Error;
 
 /// Why a value isn't expanded. `BadEscape` comes just where it can't be, and `Memory` only where it can.
@@ -16,28 +16,6 @@ pub enum ExpandFault {
     BadEscape,
     #[error("out of memory")]
     Memory,
-}
-
-impl From<AllocError> for ExpandFault {
-    ghost use Rattle.std.specs.Prelude.{◌≡◌};
-    ghost use Rattle.unit_name.specs.declared.specifiers.ExpandFault.TheVariants.{Memory};
-
-    ghost from_gives = { λ _ fault. fault ≡ Memory };
-
-    fn from(_fault: AllocError) -> ExpandFault {
-        ExpandFault::Memory
-    }
-}
-
-impl<T: Drop> From<AllocFailed<T>> for ExpandFault {
-    ghost use Rattle.std.specs.Prelude.{◌≡◌};
-    ghost use Rattle.unit_name.specs.declared.specifiers.ExpandFault.TheVariants.{Memory};
-
-    ghost from_gives = { λ _ fault. fault ≡ Memory };
-
-    fn from(_fault: AllocFailed<T>) -> ExpandFault {
-        ExpandFault::Memory
-    }
 }
 
 /// The value with each specifier replaced: `%n` by the name, `%N` by what stands before its last dot, `%p` by the prefix,
@@ -53,6 +31,17 @@ pub fn expand(alloc: Global, value: &[u8], name: &UnitName) -> Result<Vec<u8>, E
     if !can_expand(value, name) {
         return Err(ExpandFault::BadEscape);
     }
+    match expanded(alloc, value, name) {
+        Ok(bytes) => Ok(bytes),
+        Err(AllocError) => Err(ExpandFault::Memory),
+    }
+}
+
+// The same where each specifier stands for bytes: it fails for want of memory alone.
+fn expanded(alloc: Global, value: &[u8], name: &UnitName) -> Result<Vec<u8>, AllocError>
+    requires possible { IsSome (expand value.now name.now) }
+    ensures expanded { IfOk result (λ bytes. expand value.now name.now ≡ Some bytes.items) }
+{
     let mut expanded = Vec::with_capacity(alloc, value.len())?;
     let mut rest = value;
     while let Some((byte, after)) = rest.split_first() {

@@ -1,7 +1,7 @@
 use Rattle.std.proofs.Common.{◌≡◌, ◌++◌, List, ℕ, length}
 use Rattle.std.specs.Option.{option_map}
 use Rattle.unit_name.specs.Specifiers.{expand}
-use Rattle.unit_name.proofs.specifiers.expand.Given as goal
+use Rattle.unit_name.proofs.specifiers.expanded.Given as goal
 
 -- what is there, before what the rest stands for, is what the whole value stands for
 abbrev pub invariant-loop-byte : goal.invariant-loop-byte

@@ -4,13 +4,13 @@ use Rattle.std.proofs.lemmas.List.{nil_from_length}
 use Rattle.unit_name.specs.Specifiers.{expand, specifier, put_before}
 use Rattle.unit_name.specs.SpecifierLaws.{expand-nil}
 use Rattle.unit_name.proofs.Steps.{pushed_before, some_first, pair_expands, byte_expands, last_expands}
-use Rattle.unit_name.proofs.specifiers.expand.Goals as goal
-use Rattle.unit_name.proofs.specifiers.expand.Goals.{in_default-split_first-via-in-Some-split_first+else-byte-eq37, in_default-split_first-via-in_default-split_first}
+use Rattle.unit_name.proofs.specifiers.expanded.Goals as goal
+use Rattle.unit_name.proofs.specifiers.expanded.Goals.{in_default-split_first-via-in-Some-split_first+else-byte-eq37, in_default-split_first-via-in_default-split_first}
 
 pub push_specifier-requires : goal.push_specifier-requires
 push_specifier-requires c =
     let pair = pair_expands c.loop-byte.rest.now c.in-Some.after.now c.in-Some-split_first.beyond.now c.in-Some.byte.now c.in-Some-split_first.letter.now c.args.name.now c.in-Some.ensures.cases.0 c.in-Some-split_first.ensures.cases.0 c.if-byte-eq37.true in
-    record { some = some_first (specifier c.in-Some-split_first.letter.now c.args.name.now) (expand c.in-Some-split_first.beyond.now c.args.name.now) (expand c.args.value.now c.args.name.now) c.loop-byte.expanded.items (sym (ap (option_map (λ (v : List ℕ). c.loop-byte.expanded.items ++ v)) pair) ∙ c.loop-byte.invariant) (sym c.if-not-can_expand.ensures.test) }
+    record { some = some_first (specifier c.in-Some-split_first.letter.now c.args.name.now) (expand c.in-Some-split_first.beyond.now c.args.name.now) (expand c.args.value.now c.args.name.now) c.loop-byte.expanded.items (sym (ap (option_map (λ (v : List ℕ). c.loop-byte.expanded.items ++ v)) pair) ∙ c.loop-byte.invariant) c.requires.possible }
 
 pub loop-byte-preserved-then-byte-eq37 : goal.loop-byte-preserved-then-byte-eq37
 loop-byte-preserved-then-byte-eq37 c =
@@ -32,8 +32,8 @@ loop-byte-preserved c =
     pushed_before (Some (byte ∷ [])) _ _ _ c.in_ok-push-in_default-split_first.ensures.items
     ∙ sym (ap (option_map (λ (v : List ℕ). c.loop-byte.expanded.items ++ v)) alone) ∙ c.loop-byte.invariant
 
-pub returns-clause-expanded : goal.returns-clause-expanded
-returns-clause-expanded c =
+pub returns : goal.returns
+returns c =
     let nil = nil_from_length c.loop-byte.rest.now c.in_default.ensures.cases in
     let end = ap (λ r. option_map (λ (v : List ℕ). c.loop-byte.expanded.items ++ v) (expand r c.args.name.now)) nil ∙ ap (option_map (λ (v : List ℕ). c.loop-byte.expanded.items ++ v)) (expand-nil c.args.name.now) in
-    sym c.loop-byte.invariant ∙ end ∙ ap (λ x. Some x) (append-nil c.loop-byte.expanded.items)
+    record { expanded = sym c.loop-byte.invariant ∙ end ∙ ap (λ x. Some x) (append-nil c.loop-byte.expanded.items) }
