@@ -72,7 +72,7 @@ fn load<R: Threads + Sync>(rt: &R, words: &mut Words, out: &mut Answer) -> Resul
 
 // Loads as `load` does, at a gate that turns each piece away so often; and how often it was asked for each.
 fn gate<R: Threads + Sync>(rt: &R, words: &mut Words, out: &mut Answer) -> Result<(), LineFault> {
-    let gate = CountingGate::new(words.alloc, words.place()?)?;
+    let gate = CountingGate::new(words.alloc, words.index()?)?;
     let workers = words.numbers()?;
     let asked = asked_of(words)?;
     load_by_each(rt, out, &asked, &[], &workers, &gate)?;

@@ -147,7 +147,7 @@ fn add_events(events: &mut Vec<Event>, edits: &[Edit], number: usize) -> Result<
     events.push(Event::Cut {
         node: 0,
         ask: number,
-        paths: None,
+        places: None,
     })?;
     events.push(Event::Give {
         piece: number,

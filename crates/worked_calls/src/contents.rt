@@ -16,7 +16,7 @@ pub fn answer(words: &mut Words, out: &mut Answer) -> Result<(), LineFault> {
 
 // As many bytes as the next word says, each of them `a`.
 fn filled(words: &mut Words) -> Result<Vec<u8>, LineFault> {
-    let count = words.place()?;
+    let count = words.index()?;
     Ok(vec![in words.alloc; b'a'; count]?)
 }
 

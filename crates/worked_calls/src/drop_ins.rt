@@ -15,12 +15,7 @@ pub fn answer(words: &mut Words, out: &mut Answer) -> Result<(), LineFault> {
 }
 
 // What a call answers of the unit that has these names in a store.
-fn told(
-    call: &[u8],
-    store: &Store,
-    names: &[UnitName],
-    out: &mut Answer,
-) -> Result<(), LineFault> {
+fn told(call: &[u8], store: &Store, names: &[UnitName], out: &mut Answer) -> Result<(), LineFault> {
     match_word!(call;
         b"order" => append_paths(out, &order(out.alloc, store, names)?),
         b"lend" => append_lent(out, store, names),

@@ -35,14 +35,14 @@ fn append_at(
 
 /// Writes an edit.
 pub fn append_edit(out: &mut Answer, edit: &Edit) -> Result<(), LineFault> {
-    append_at(out, edit.version, &edit.path, &edit.content)
+    append_at(out, edit.version, &edit.place, &edit.content)
 }
 
 /// Writes an entry with its path, behind a space if something stands there.
 pub fn append_placed(out: &mut Answer, placed: &Placed) -> Result<(), LineFault> {
     let entry = placed.entry();
     out.part(b" ")?;
-    append_at(out, entry.version, &placed.path()?, &entry.content)
+    append_at(out, entry.version, &placed.place()?, &entry.content)
 }
 
 /// Writes entries, each behind a space if something stands there; `nothing` where there are none.

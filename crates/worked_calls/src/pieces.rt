@@ -59,7 +59,7 @@ fn append_piece(out: &mut Answer, piece: &Piece) -> Result<(), LineFault> {
 
 /// The two parts of a piece; where they are refused memory, those of the piece that comes back, which is written too.
 pub fn split(words: &mut Words, out: &mut Answer, between: &mut Answer) -> Result<(), LineFault> {
-    let at = words.place()?;
+    let at = words.index()?;
     let (first, second) = match piece(words)?.split(at) {
         Ok(parts) => parts,
         Err(Rest { rest }) => {

@@ -91,7 +91,7 @@ fn is_read(sections: &Sections, value: &[u8]) -> bool {
 
 // Whether a file with one value of so many bytes is read as that value alone.
 fn long(words: &mut Words, out: &mut Answer) -> Result<(), LineFault> {
-    let count = words.place()?;
+    let count = words.index()?;
     let value = vec![in words.alloc; b'v'; count]?;
     let sections = read(words.alloc, &file_with(words.alloc, &value)?)?;
     out.either(is_read(&sections, &value), b"same", b"other")

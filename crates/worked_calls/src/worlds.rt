@@ -4,11 +4,11 @@
 //! a cut at some paths; and a piece's number and `>NODE` for a gift.
 use crate::edits::append_store;
 use crate::replicas::replica;
-use delta_gossip::{Event, Paths, World, exchange, run_world, sweep};
+use delta_gossip::{Event, Places, World, exchange, run_world, sweep};
 use replica_store::Replica;
 use std::alloc::Global;
 use worked_lines::{
-    Answer, LineFault, Words, cut_at, each_of, edit_of, match_word, parts_of, path_of, place_of,
+    Answer, LineFault, Words, cut_at, each_of, edit_of, index_of, match_word, parts_of, path_of,
     writer_of,
 };
 
@@ -103,7 +103,7 @@ fn append_world(out: &mut Answer, world: &World) -> Result<(), LineFault> {
 fn event(alloc: Global, word: &[u8]) -> Result<Event, LineFault> {
     let digits = word.iter().position(|b| !b.is_ascii_digit());
     let place = digits.ok_or(LineFault::Words)?;
-    let number = place_of(&word[..place])?;
+    let number = index_of(&word[..place])?;
     let rest = &word[place + 1..];
     match word[place] {
         b'!' => Ok(Event::Put {
@@ -114,21 +114,21 @@ fn event(alloc: Global, word: &[u8]) -> Result<Event, LineFault> {
         b'/' => cut(alloc, number, rest),
         b'>' => Ok(Event::Give {
             piece: number,
-            node: place_of(rest)?,
+            node: index_of(rest)?,
         }),
         _ => Err(LineFault::Words),
     }
 }
 
-// A node cuts for the ask of a word, at the paths behind it or at all.
+// A node cuts for the ask of a word, at the places behind it or at all.
 fn cut(alloc: Global, node: usize, word: &[u8]) -> Result<Event, LineFault> {
     let Some((ask, names)) = cut_at(word, b'@') else {
-        let ask = place_of(word)?;
-        let paths = None;
-        return Ok(Event::Cut { node, ask, paths });
+        let ask = index_of(word)?;
+        let places = None;
+        return Ok(Event::Cut { node, ask, places });
     };
-    let ask = place_of(ask)?;
+    let ask = index_of(ask)?;
     let names = parts_of(alloc, names)?;
-    let paths = Some(Paths::new(each_of(alloc, &names, path_of)?));
-    Ok(Event::Cut { node, ask, paths })
+    let places = Some(Places::new(each_of(alloc, &names, path_of)?));
+    Ok(Event::Cut { node, ask, places })
 }

@@ -5,8 +5,7 @@
 use crate::faults::LineFault;
 use crate::spelled::{cut_at, file_of, link_of, number_of, path_of, writer_of};
 use edit_sums::Content;
-use load_path::Path;
-use replica_store::{Edit, Version};
+use replica_store::{Edit, Place, Version};
 use std::alloc::Global;
 
 /// The version that a word writes.
@@ -28,17 +27,17 @@ fn cut_content(alloc: Global, word: &[u8]) -> Result<(&[u8], Content), LineFault
     Ok((word, Content::gone()))
 }
 
-/// The path and the content that a word writes.
-pub fn placed_of(alloc: Global, word: &[u8]) -> Result<(Path, Content), LineFault> {
+/// The place and the content that a word writes.
+pub fn placed_of(alloc: Global, word: &[u8]) -> Result<(Place, Content), LineFault> {
     let (path, content) = cut_content(alloc, word)?;
     Ok((path_of(alloc, path)?, content))
 }
 
-// The edit of a version whose path and content a word writes.
+// The edit of a version whose place and content a word writes.
 fn edit_at(alloc: Global, version: Version, word: &[u8]) -> Result<Edit, LineFault> {
-    let (path, content) = placed_of(alloc, word)?;
+    let (place, content) = placed_of(alloc, word)?;
     Ok(Edit {
-        path,
+        place,
         version,
         content,
     })

@@ -39,7 +39,7 @@ pub fn number_of(word: &[u8]) -> Result<u64, LineFault> {
 }
 
 /// The number of what is in memory that a word writes.
-pub fn place_of(word: &[u8]) -> Result<usize, LineFault> {
+pub fn index_of(word: &[u8]) -> Result<usize, LineFault> {
     Ok(number_of(word)? as usize)
 }
 

@@ -2,7 +2,7 @@
 use crate::edits::listed_edit;
 use crate::faults::LineFault;
 use crate::spelled::{
-    each_of, file_of, is, name_of, number_of, path_of, place_of, spelled_name_of, text_of,
+    each_of, file_of, index_of, is, name_of, number_of, path_of, spelled_name_of, text_of,
     writer_of,
 };
 use edit_sums::Content;
@@ -77,8 +77,8 @@ impl<'a> Words<'a> {
     }
 
     /// The next word as a number of what is in memory.
-    pub fn place(&mut self) -> Result<usize, LineFault> {
-        place_of(self.word()?)
+    pub fn index(&mut self) -> Result<usize, LineFault> {
+        index_of(self.word()?)
     }
 
     /// The next word as a writer's number.
@@ -118,7 +118,7 @@ impl<'a> Words<'a> {
 
     /// The numbers that a list of words writes.
     pub fn numbers(&mut self) -> Result<Vec<usize>, LineFault> {
-        each_of(self.alloc, &self.list()?, |_, word| place_of(word))
+        each_of(self.alloc, &self.list()?, |_, word| index_of(word))
     }
 
     /// The edits that a list of words writes.

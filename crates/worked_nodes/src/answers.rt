@@ -101,7 +101,7 @@ fn answer_node<R: Threads + Wait + Clock + Sync>(
     over_edit: bool,
 ) -> Result<(), LineFault> {
     let writer = words.writer()?;
-    let seats = words.place()?;
+    let seats = words.index()?;
     let replica = if over_edit {
         Replica::from_store(writer, Store::from_edits(words.alloc, &one_edit(words)?)?)
     } else {

@@ -112,7 +112,7 @@ pub fn beside<N: NodeName + Send + Sync, R: Threads + Wait + Clock + Sync>(
     bench: &mut Bench<N>,
     words: &mut Words,
 ) -> Result<(), LineFault> {
-    let (first, second, third) = (words.place()?, words.place()?, words.place()?);
+    let (first, second, third) = (words.index()?, words.index()?, words.index()?);
     let (Some(holder), Some(writer), Some(looker)) = (
         bench.lend(first),
         bench.lend(second),

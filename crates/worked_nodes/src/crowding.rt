@@ -34,7 +34,7 @@ pub fn answer_crowd<R: Threads + Wait + Sync>(
     words: &mut Words,
     out: &mut Answer,
 ) -> Result<(), LineFault> {
-    let (writer, seats, edits) = (words.writer()?, words.place()?, words.number()?);
+    let (writer, seats, edits) = (words.writer()?, words.index()?, words.number()?);
     let gate = CountingGate::new(words.alloc, 0)?;
     append_crowd(rt, out, writer, seats, edits, &gate)?;
     out.line(b"asked for")?;

@@ -51,8 +51,8 @@ pub fn work_inbox<N: NodeName, R: Wait>(
     bench: &mut Bench<N>,
     words: &mut Words,
 ) -> Result<(), LineFault> {
-    let place = words.place()?;
-    let gate = CountingGate::new(words.alloc, words.place()?)?;
+    let place = words.index()?;
+    let gate = CountingGate::new(words.alloc, words.index()?)?;
     let inbox = inbox_of(rt, words)?;
     let Some(seat) = bench.seat(place) else {
         return bench.tell("no seat");

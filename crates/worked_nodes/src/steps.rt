@@ -68,7 +68,7 @@ fn edit<N: NodeName, R: Wait>(
     bench: &mut Bench<N>,
     words: &mut Words,
 ) -> Result<(), LineFault> {
-    let (place, path, content) = (words.place()?, words.path()?, words.file()?);
+    let (place, path, content) = (words.index()?, words.path()?, words.file()?);
     let Some(seat) = bench.seat(place) else {
         return bench.tell("no seat");
     };
@@ -87,7 +87,7 @@ fn absorb<N: NodeName, R: Wait>(
     bench: &mut Bench<N>,
     words: &mut Words,
 ) -> Result<(), LineFault> {
-    let (place, piece) = (words.place()?, one_piece(words)?);
+    let (place, piece) = (words.index()?, one_piece(words)?);
     let Some(seat) = bench.seat(place) else {
         return bench.tell("no seat");
     };
@@ -100,7 +100,7 @@ fn absorb<N: NodeName, R: Wait>(
 
 // A seat learns the last token.
 fn learn<N: NodeName>(bench: &mut Bench<N>, words: &mut Words) -> Result<(), LineFault> {
-    let place = words.place()?;
+    let place = words.index()?;
     let Some(Some(seat)) = bench.seats.get_mut(place) else {
         return bench.tell("no seat");
     };
@@ -125,7 +125,7 @@ fn append_view<N: NodeName>(out: &mut Answer, seat: Seat<N>) -> (Seat<N>, Result
 
 // A seat views.
 fn view<N: NodeName>(bench: &mut Bench<N>, words: &mut Words) -> Result<(), LineFault> {
-    let place = words.place()?;
+    let place = words.index()?;
     let Some(seat) = bench.lend(place) else {
         return bench.tell("no seat");
     };

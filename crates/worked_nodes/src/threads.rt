@@ -24,9 +24,9 @@ pub struct Plan {
 /// The plan that words write.
 pub fn plan_of(words: &mut Words) -> Result<Plan, LineFault> {
     Ok(Plan {
-        writers: words.place()?,
+        writers: words.index()?,
         edits: words.number()?,
-        readers: words.place()?,
+        readers: words.index()?,
         views: words.number()?,
     })
 }
