@@ -35,7 +35,7 @@ use Rattle.script_answers.specs.Texts.{ok_line}
 use Rattle.script_worlds.specs.Worlds.{ScriptWorld, happened, has_writer, held, next_edit}
 use Rattle.script_worlds.specs.Worlds.{with_node as with_new_node}
 use Rattle.fleet_script.specs.Does.{AtNode, AtPath, AtPaths, Gives, IsRead, Names, Reads, Refuses, RefusesPath, WithFile, WithTarget, WithText, Writes}
-use Rattle.fleet_script.specs.Holds.{Goes, HasNoNode, Holds, IsNodeNamed, Keeps}
+use Rattle.fleet_script.specs.Holds.{Goes, HasNoNode, HasNoPlace, Holds, IsNodeNamed, Keeps}
 use Rattle.fleet_script.proofs.Nodes.{holds_node, holds_put, set_same}
 
 -- steps, and what they leave open
@@ -116,6 +116,12 @@ module _ (shell : Keeps) (fault : Fault) where
   pub without_path : (text : List ℕ) (P : PlaceParts → Step) → IsPathFault (path_of text) fault → Goes shell shell (λ old outcome new. AtPath old outcome new text (λ q. P q old outcome new)) (Err fault)
   without_path text P (inl e) = no_memory shell shell fault _ e
   without_path text P (inr (f, read, e)) = refuses_path f _ e (λ old outcome r. subst (λ (x : Result PlaceParts PathFault). MatchResult x (λ q. P q old outcome old) (RefusesPath old outcome old)) (sym read) r)
+
+  pub without_place : (name text : List ℕ) (P : ℕ → PlaceParts → Step) → HasNoPlace shell name text fault
+      → Goes shell shell (λ old outcome new. AtNode old outcome new name (λ k. AtPath old outcome new text (λ q. P k q old outcome new))) (Err fault)
+  without_place name text P (inl none) = without_node name (λ k old outcome new. AtPath old outcome new text (λ q. P k q old outcome new)) none
+  without_place name text P (inr (at, named, bad)) =
+      with_node shell shell (Err fault) name at (λ k old outcome new. AtPath old outcome new text (λ q. P k q old outcome new)) named (without_path text (P at) bad)
 
   pub without_paths : (texts : List (List ℕ)) (P : List PlaceParts → Step) → IsPathFault (paths_of texts) fault → Goes shell shell (λ old outcome new. AtPaths old outcome new texts (λ q. P q old outcome new)) (Err fault)
   without_paths texts P (inl e) = no_memory shell shell fault _ e

@@ -17,6 +17,9 @@ mod exchanges;
 mod execution;
 mod questions;
 
+/// What is told of a command: the text of its answer, or why it was not done.
+type Told = Result<Vec<u8>, Fault>;
+
 /// Each node's replica of now, in the order of their making; by name the numbers of the nodes, from 0, and the pieces
 /// of now; and the writer numbers that are taken; and how many workers load,
 /// which changes no answer.

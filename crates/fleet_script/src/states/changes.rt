@@ -1,10 +1,10 @@
 //! Commands that change one node, or how many workers load.
-ghost use Rattle.std.specs.Prelude.{◌≡◌, ◌<◌, vec_len, OnOk, OnErr};
+ghost use Rattle.std.specs.Prelude.{◌≡◌, ◌<◌, length, vec_len, IfOk, OnOk, OnErr, MatchResult};
 ghost use Rattle.script_commands.specs.declared.commands.Command.TheVariants.{Node, Put, Link, Remove, Workers};
 ghost use Rattle.fleet_script.specs.Does.{Writes};
-ghost use Rattle.fleet_script.specs.Holds.{Executes, Goes, kept_in};
+ghost use Rattle.fleet_script.specs.Holds.{Executes, Goes, HasNoPlace, IsPlace, kept_in};
 
-use crate::states::Shell;
+use crate::states::{Shell, Told};
 use edit_sums::Content;
 use load_path::Path;
 use plain_values::Bytes;
@@ -14,7 +14,7 @@ use script_commands::{Fault, LineRefusal, read_file, read_link, read_path};
 use std::alloc::Global;
 
 impl Shell {
-    pub(super) fn node(&mut self, alloc: Global, name: &[u8], writer: u32) -> Result<Vec<u8>, Fault>
+    pub(super) fn node(&mut self, alloc: Global, name: &[u8], writer: u32) -> Told
         ensures done { Executes self.old self.new (Node name.now writer) result }
         ensures crew { self.new.workers ≡ self.old.workers }
     {
@@ -33,49 +33,27 @@ impl Shell {
         Ok(text)
     }
 
-    pub(super) fn put(
-        &mut self,
-        alloc: Global,
-        node: &[u8],
-        path: &[u8],
-        text: &[u8],
-    ) -> Result<Vec<u8>, Fault>
+    pub(super) fn put(&mut self, alloc: Global, node: &[u8], path: &[u8], text: &[u8]) -> Told
         ensures done { Executes self.old self.new (Put node.now path.now text.now) result }
         ensures crew { self.new.workers ≡ self.old.workers }
     {
-        let at = self.node_at(alloc, node)?;
-        let path = read_path(alloc, path)?;
-        let content = read_file(alloc, text)?;
-        self.write(alloc, at, path, content)
+        let (at, path) = self.place(alloc, node, path)?;
+        self.write(alloc, at, path, read_file(alloc, text)?)
     }
 
-    pub(super) fn link(
-        &mut self,
-        alloc: Global,
-        node: &[u8],
-        path: &[u8],
-        target: &[u8],
-    ) -> Result<Vec<u8>, Fault>
+    pub(super) fn link(&mut self, alloc: Global, node: &[u8], path: &[u8], target: &[u8]) -> Told
         ensures done { Executes self.old self.new (Link node.now path.now target.now) result }
         ensures crew { self.new.workers ≡ self.old.workers }
     {
-        let at = self.node_at(alloc, node)?;
-        let path = read_path(alloc, path)?;
-        let content = read_link(alloc, target)?;
-        self.write(alloc, at, path, content)
+        let (at, path) = self.place(alloc, node, path)?;
+        self.write(alloc, at, path, read_link(alloc, target)?)
     }
 
-    pub(super) fn remove(
-        &mut self,
-        alloc: Global,
-        node: &[u8],
-        path: &[u8],
-    ) -> Result<Vec<u8>, Fault>
+    pub(super) fn remove(&mut self, alloc: Global, node: &[u8], path: &[u8]) -> Told
         ensures done { Executes self.old self.new (Remove node.now path.now) result }
         ensures crew { self.new.workers ≡ self.old.workers }
     {
-        let at = self.node_at(alloc, node)?;
-        let path = read_path(alloc, path)?;
+        let (at, path) = self.place(alloc, node, path)?;
         let version = match self.nodes[at].remove(path) {
             Ok(version) => version,
             Err(fault) => return Err(Fault::from(fault)),
@@ -83,7 +61,7 @@ impl Shell {
         Ok(put_done(alloc, version)?)
     }
 
-    pub(super) fn workers(&mut self, alloc: Global, count: u32) -> Result<Vec<u8>, Fault>
+    pub(super) fn workers(&mut self, alloc: Global, count: u32) -> Told
         ensures done { Executes self.old self.new (Workers count) result }
         ensures crew { OnOk result (self.new.workers ≡ count) }
         ensures same_crew { OnErr result (self.new.workers ≡ self.old.workers) }
@@ -96,14 +74,19 @@ impl Shell {
         Ok(text)
     }
 
+    // Where a command writes: the number of the node of a name, and the path that a text writes.
+    fn place(&self, alloc: Global, node: &[u8], path: &[u8]) -> Result<(usize, Path), Fault>
+        ensures within { IfOk result (λ place. place.0 < length self.now.nodes.items) }
+        ensures found { MatchResult result (λ place. IsPlace (kept_in self.now) node.now path.now place.0 place.1)
+            (HasNoPlace (kept_in self.now) node.now path.now) }
+    {
+        let at = self.node_at(alloc, node)?;
+        let path = read_path(alloc, path)?;
+        Ok((at, path))
+    }
+
     // A node puts its next edit.
-    fn write(
-        &mut self,
-        alloc: Global,
-        at: usize,
-        path: Path,
-        content: Content,
-    ) -> Result<Vec<u8>, Fault>
+    fn write(&mut self, alloc: Global, at: usize, path: Path, content: Content) -> Told
         requires within { at < vec_len self.old.nodes }
         ensures done { Goes (kept_in self.old) (kept_in self.new) (λ before outcome after.
             Writes before outcome after at path content) result }

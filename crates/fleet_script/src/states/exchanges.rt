@@ -7,7 +7,7 @@ ghost use Rattle.script_commands.specs.declared.commands.Command.TheVariants.{Me
 ghost use Rattle.fleet_script.specs.Does.{if_any};
 ghost use Rattle.fleet_script.specs.Holds.{Executes, IsJoinedAt, kept_in};
 
-use crate::states::Shell;
+use crate::states::{Shell, Told};
 use delta_gossip::sweep;
 use delta_pieces::{Piece, delta_at, delta_between, digest_at};
 use load_path::Path;
@@ -20,7 +20,7 @@ use std::mem;
 
 impl Shell {
     /// Gives a node all that it lacks of another.
-    pub(super) fn merge(&mut self, alloc: Global, from: &[u8], to: &[u8]) -> Result<Vec<u8>, Fault>
+    pub(super) fn merge(&mut self, alloc: Global, from: &[u8], to: &[u8]) -> Told
         ensures done { Executes self.old self.new (Merge from.now to.now) result }
         ensures crew { self.new.workers ≡ self.old.workers }
     {
@@ -38,7 +38,7 @@ impl Shell {
         from: &[u8],
         to: &[u8],
         paths: Words<'_>,
-    ) -> Result<Vec<u8>, Fault>
+    ) -> Told
         ensures done { Executes self.old self.new (Part piece.now from.now to.now paths.entry) result }
         ensures crew { self.new.workers ≡ self.old.workers }
     {
@@ -52,12 +52,7 @@ impl Shell {
     }
 
     /// Gives a piece to a node. The piece is kept, and may be given again.
-    pub(super) fn send(
-        &mut self,
-        alloc: Global,
-        piece: &[u8],
-        node: &[u8],
-    ) -> Result<Vec<u8>, Fault>
+    pub(super) fn send(&mut self, alloc: Global, piece: &[u8], node: &[u8]) -> Told
         ensures done { Executes self.old self.new (Send piece.now node.now) result }
         ensures crew { self.new.workers ≡ self.old.workers }
     {
@@ -71,7 +66,7 @@ impl Shell {
     }
 
     /// Brings all nodes together: then each holds the join of all stores.
-    pub(super) fn sweep(&mut self, alloc: Global) -> Result<Vec<u8>, Fault>
+    pub(super) fn sweep(&mut self, alloc: Global) -> Told
         ensures done { Executes self.old self.new Sweep result }
         ensures crew { self.new.workers ≡ self.old.workers }
     {

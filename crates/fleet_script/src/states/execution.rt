@@ -5,7 +5,7 @@ ghost use Rattle.fleet_script.specs.Does.{Does, Refuses};
 ghost use Rattle.fleet_script.specs.Holds.{Continues, Goes, HasRoom, kept_in};
 ghost use Rattle.fleet_script.specs.Scripts.{AnswersLine};
 
-use crate::states::Shell;
+use crate::states::{Shell, Told};
 use script_answers::refused;
 use script_commands::{Command, Fault, LineRefusal, parse};
 use script_words::is_passed_over;
@@ -18,11 +18,7 @@ const LINE_LIMIT: usize = 300_000;
 
 impl Shell {
     // Does what a line asks for.
-    fn execute<R: AllocGlobal + Threads + Wait + Sync>(
-        &mut self,
-        rt: &R,
-        line: &[u8],
-    ) -> Result<Vec<u8>, Fault>
+    fn execute<R: AllocGlobal + Threads + Wait + Sync>(&mut self, rt: &R, line: &[u8]) -> Told
         requires room { HasRoom (kept_in self.old) }
         ensures done { Goes (kept_in self.old) (kept_in self.new) (λ before outcome after.
             MatchResult (command_of line.now) (λ command. Does before command outcome after)

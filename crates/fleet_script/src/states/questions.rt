@@ -2,15 +2,15 @@
 ghost use Rattle.script_commands.specs.declared.commands.Command.TheVariants.{Files, Cat, Show, List, Plan, Same, Crowd};
 ghost use Rattle.fleet_script.specs.Holds.{Executes, HasRoom, kept_in};
 
-use crate::states::Shell;
+use crate::states::{Shell, Told};
 use script_answers::{list_files, tell_crowd, tell_files, tell_list, tell_plan, tell_unit};
-use script_commands::{EditCount, Fault, Words};
+use script_commands::{EditCount, Words};
 use std::alloc::Global;
 use std::sync::Wait;
 use std::thread::Threads;
 
 impl Shell {
-    pub(super) fn files(&self, alloc: Global, node: &[u8]) -> Result<Vec<u8>, Fault>
+    pub(super) fn files(&self, alloc: Global, node: &[u8]) -> Told
         ensures done { Executes self.now self.now (Files node.now) result }
     {
         let replica = self.replica(alloc, node)?;
@@ -18,7 +18,7 @@ impl Shell {
     }
 
     // Tells a unit's files: its fragment, and then its drop-ins.
-    pub(super) fn cat(&self, alloc: Global, node: &[u8], unit: &[u8]) -> Result<Vec<u8>, Fault>
+    pub(super) fn cat(&self, alloc: Global, node: &[u8], unit: &[u8]) -> Told
         ensures done { Executes self.now self.now (Cat node.now unit.now) result }
     {
         let replica = self.replica(alloc, node)?;
@@ -32,7 +32,7 @@ impl Shell {
         alloc: Global,
         node: &[u8],
         unit: &[u8],
-    ) -> Result<Vec<u8>, Fault>
+    ) -> Told
         ensures done { Executes self.now self.now (Show node.now unit.now) result }
     {
         let replica = self.replica(alloc, node)?;
@@ -46,7 +46,7 @@ impl Shell {
         alloc: Global,
         node: &[u8],
         unit: &[u8],
-    ) -> Result<Vec<u8>, Fault>
+    ) -> Told
         ensures done { Executes self.now self.now (List node.now unit.now) result }
     {
         let replica = self.replica(alloc, node)?;
@@ -61,14 +61,14 @@ impl Shell {
         node: &[u8],
         unit: &[u8],
         running: Words<'_>,
-    ) -> Result<Vec<u8>, Fault>
+    ) -> Told
         ensures done { Executes self.now self.now (Plan node.now unit.now running.entry) result }
     {
         let replica = self.replica(alloc, node)?;
         tell_plan(rt, alloc, replica.store(), unit, running, &self.workers)
     }
 
-    pub(super) fn same(&self, alloc: Global, left: &[u8], right: &[u8]) -> Result<Vec<u8>, Fault>
+    pub(super) fn same(&self, alloc: Global, left: &[u8], right: &[u8]) -> Told
         ensures done { Executes self.now self.now (Same left.now right.now) result }
     {
         let left = self.replica(alloc, left)?;
@@ -88,7 +88,7 @@ impl Shell {
         node: &[u8],
         seats: u32,
         edits: EditCount,
-    ) -> Result<Vec<u8>, Fault>
+    ) -> Told
         requires room { HasRoom (kept_in self.now) }
         ensures done { Executes self.now self.now (Crowd node.now seats edits) result }
     {

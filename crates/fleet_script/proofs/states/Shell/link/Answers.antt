@@ -6,7 +6,7 @@ use Rattle.fleet_script.proofs.states.Shell.link.Goals as goal
 pub returns-clause-done : goal.returns-clause-done
 returns-clause-done c =
     let shell = kept_in c.args.self.now in
-    with_place shell (kept_in c.write.new.self) c.write.result c.args.node.now c.args.path.now c.in_ok-at.at c.in_ok-path.path _
-    c.in_ok-at.ensures.found c.in_ok-path.ensures.read
-    (with_link shell (kept_in c.write.new.self) c.write.result c.args.target.now c.in_ok-content.content
-    (λ content old outcome new. Writes old outcome new c.in_ok-at.at c.in_ok-path.path content) c.in_ok-content.ensures.read c.write.ensures.done)
+    with_place shell (kept_in c.write-2.new.self) c.write-2.result c.args.node.now c.args.path.now c.in_ok-at.at c.in_ok-at.path _
+    c.in_ok-at.ensures.found.named c.in_ok-at.ensures.found.written
+    (with_link shell (kept_in c.write-2.new.self) c.write-2.result c.args.target.now c.in_ok-read_link.field-0
+    (λ content old outcome new. Writes old outcome new c.in_ok-at.at c.in_ok-at.path content) c.in_ok-read_link.ensures.read c.write-2.ensures.done)
