@@ -1,5 +1,5 @@
 //! Questions of stores and of nodes of worlds, in words.
-use crate::edits::asked_of;
+use crate::edits::{Asked, asked_of};
 use crate::graphs::append_far;
 use crate::tellings::append_unit;
 use delta_gossip::Event;
@@ -114,6 +114,42 @@ fn asking_of(words: &mut Words) -> Result<Asking, LineFault> {
     Ok(Asking { question, counts })
 }
 
+// What a store answers, by one thread.
+fn told_here(alloc: Global, asked: &Asked, question: &Question) -> Result<Vec<u8>, LineFault> {
+    let told = answer_here(alloc, &asked.store, &asked.names, question)?;
+    text_of(alloc, Ok(Some(told)))
+}
+
+// What a store answers, by so many workers.
+fn told_by<R: Threads + Sync>(
+    rt: &R,
+    alloc: Global,
+    asked: &Asked,
+    question: &Question,
+    workers: usize,
+) -> Result<Vec<u8>, LineFault> {
+    let (store, names) = (&asked.store, &asked.names);
+    let told = answer_question(rt, alloc, store, names, question, workers, &OpenGate);
+    text_of(alloc, told.map(Some))
+}
+
+// Writes what a store answers by one thread, and then by each number of workers.
+fn append_all<R: Threads + Sync>(
+    rt: &R,
+    out: &mut Answer,
+    asked: &Asked,
+    asking: &Asking,
+) -> Result<(), LineFault> {
+    let here = told_here(out.alloc, asked, &asking.question)?;
+    out.write(&here)?;
+    for count in &asking.counts {
+        let text = told_by(rt, out.alloc, asked, &asking.question, *count)?;
+        out.line(format!(in out.alloc; "{count} workers: ")?.as_bytes())?;
+        append_beside(out, &text, &here)?;
+    }
+    Ok(())
+}
+
 /// Answers a question from a store by one thread, and then by each number of workers.
 pub fn ask<R: Threads + Sync>(
     rt: &R,
@@ -121,18 +157,8 @@ pub fn ask<R: Threads + Sync>(
     out: &mut Answer,
 ) -> Result<(), LineFault> {
     let asked = asked_of(words)?;
-    let Asking { question, counts } = asking_of(words)?;
-    let (store, names) = (&asked.store, &asked.names);
-    let here = answer_here(words.alloc, store, names, &question)?;
-    let here = text_of(words.alloc, Ok(Some(here)))?;
-    out.write(&here)?;
-    for count in &counts {
-        let told = answer_question(rt, words.alloc, store, names, &question, *count, &OpenGate);
-        let text = text_of(words.alloc, told.map(Some))?;
-        out.line(format!(in out.alloc; "{count} workers: ")?.as_bytes())?;
-        append_beside(out, &text, &here)?;
-    }
-    Ok(())
+    let asking = asking_of(words)?;
+    append_all(rt, out, &asked, &asking)
 }
 
 // The first node puts edits, and then the second is given all that it lacks, in the exchange of a number.
@@ -212,6 +238,21 @@ fn append_moment<R: Threads + Sync>(
     Ok(())
 }
 
+// Writes what the nodes answer of all but the last edit, and then of all.
+fn append_moments<R: Threads + Sync>(
+    rt: &R,
+    out: &mut Answer,
+    edits: &[Edit],
+    asking: &Asking,
+) -> Result<(), LineFault> {
+    let before_last = edits.len().checked_sub(1).ok_or(LineFault::Words)?;
+    let mut events = Vec::new(out.alloc);
+    add_events(&mut events, &edits[..before_last], 0)?;
+    append_moment(rt, out, &events, asking)?;
+    add_events(&mut events, &edits[before_last..], 1)?;
+    append_moment(rt, out, &events, asking)
+}
+
 /// Answers a question at two nodes of a world that took the same edits, of all but the last edit and then of all.
 pub fn world<R: Threads + Sync>(
     rt: &R,
@@ -220,10 +261,5 @@ pub fn world<R: Threads + Sync>(
 ) -> Result<(), LineFault> {
     let edits = words.edits()?;
     let asking = asking_of(words)?;
-    let before_last = edits.len().checked_sub(1).ok_or(LineFault::Words)?;
-    let mut events = Vec::new(words.alloc);
-    add_events(&mut events, &edits[..before_last], 0)?;
-    append_moment(rt, out, &events, &asking)?;
-    add_events(&mut events, &edits[before_last..], 1)?;
-    append_moment(rt, out, &events, &asking)
+    append_moments(rt, out, &edits, &asking)
 }
