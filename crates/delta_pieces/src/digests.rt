@@ -83,7 +83,10 @@ impl Digest {
 }
 
 // A copy of the versions.
-fn copy_of(alloc: Global, versions: &[(Place, Version)]) -> Result<Vec<(Place, Version)>, AllocError>
+fn copy_of(
+    alloc: Global,
+    versions: &[(Place, Version)],
+) -> Result<Vec<(Place, Version)>, AllocError>
     ensures copy { IfOk result (λ copy. copy.items ≡ versions.now) }
 {
     let mut copy = Vec::with_capacity(alloc, versions.len())?;
