@@ -1,5 +1,5 @@
 //! The nodes that a round names and that aren't its own.
-ghost use Rattle.std.specs.Prelude.{◌≡◌, ◌↔◌, ◌++◌, All, IfOk, OnOk, IsTrue};
+ghost use Rattle.std.specs.Prelude.{◌↔◌, ◌++◌, All, IfOk, OnOk, IsTrue};
 ghost use Rattle.std.specs.List.{flat_map};
 ghost use Rattle.std.specs.List.Sorted.{IsStrictlySortedBy};
 ghost use Rattle.std.specs.Map.{keys_of};
@@ -28,8 +28,8 @@ pub(crate) fn load_round<K: Key, L: Loads<K>>(
 }
 
 /// The nodes that are named in a part of what a round loaded and aren't the round's own, each once, in order; where its
-/// nodes don't rise, maybe some of its own too. `AllocError` for want of memory. One copy of the round's nodes, a search for
-/// each node that is named, and O(m log m) for m that are given.
+/// nodes don't rise, maybe some of its own too. `AllocError` for want of memory. A search for each node that is named, and
+/// O(m log m) for m that are given.
 pub fn others_named<K: Key, L: Loads<K>>(
     alloc: Global,
     loader: &L,
@@ -45,24 +45,12 @@ pub fn others_named<K: Key, L: Loads<K>>(
     ensures apart { IsStrictlySortedBy K.cmp (keys_of pairs.now)
         → IfOk result (λ names. AreApart (keys_of pairs.now) names.items) }
 {
-    let own = nodes_alone(alloc, pairs)?;
     let mut names = Vec::new(alloc);
     for (_, one) in part {
         let more = loader.names(alloc, one)?;
-        add_others(&own, &mut names, more)?;
+        add_others(pairs, &mut names, more)?;
     }
     Ok(each_once(names))
-}
-
-// The nodes without what is loaded for them, so that searches stay in little memory.
-fn nodes_alone<K: Key, U>(alloc: Global, pairs: &[(K, U)]) -> Result<Vec<(K, ())>, AllocError>
-    ensures nodes { IfOk result (λ alone. keys_of alone.items ≡ keys_of pairs.now) }
-{
-    let mut alone = Vec::with_capacity(alloc, pairs.len())?;
-    for (node, _) in pairs {
-        alone.push((node.try_clone()?, ()))?;
-    }
-    Ok(alone)
 }
 
 // Adds those of the nodes that aren't the round's own.

@@ -1,9 +1,8 @@
-use Rattle.std.proofs.Common.{◌≡◌, ◌<◌, ◌++◌, ◌∙◌, List, length, arith, rules, take, subst, sym, ap}
+use Rattle.std.proofs.Common.{◌≡◌, ◌<◌, length, arith, rules, take, subst, sym, ap}
 use Rattle.std.proofs.lemmas.Grind.{common_steps}
 use Rattle.std.specs.Map.{keys_of}
 use Rattle.std.proofs.lemmas.List.Elements.{All-append, All-get_or}
-use Rattle.std.specs.List.Sorted.{IsStrictlySortedBy}
-use Rattle.name_closure.specs.Loading.{AreApart, AreOthers}
+use Rattle.name_closure.specs.Loading.{AreOthers}
 use Rattle.name_closure.proofs.Others.{key_at, made_more, others_after, others_of_same}
 use Rattle.name_closure.proofs.Rounding.{holds_among, holds_of_part}
 use Rattle.name_closure.proofs.names.others_named.Goals as goal
@@ -13,9 +12,6 @@ loop-one-preserved g c =
     let loader = c.args.loader.now in
     let part = c.args.part.now in
     let own = keys_of c.args.pairs.now in
-    let alone : keys_of c.deref.result.now ≡ own = ap (λ ns. keys_of ns) c.deref.ensures.value ∙ c.in_ok-own.ensures.nodes in
-    let added = subst (λ (ns : List g.row.K.Denot). AreOthers ns (c.loop-one.names.items ++ c.in_ok-more.more.items) c.add_others.new.names.items) alone c.in_ok-add_others.ensures.added in
-    let apart = subst (λ (ns : List g.row.K.Denot). IsStrictlySortedBy g.K.Ord.cmp ns → AreApart ns c.loop-one.names.items → AreApart ns c.add_others.new.names.items) alone c.in_ok-add_others.ensures.apart in
     let pair = c.loop-one-item.result in
     let within : c.loop-one.one-index < length part = search rules in
     let is = c.loop-one-item.is in
@@ -29,12 +25,12 @@ loop-one-preserved g c =
       others =
           subst (λ v. AreOthers own v c.add_others.new.names.items)
           (made_more (λ (p : g.row.K.Denot × g.row.L-Loaded.Denot). g.L.Loads.named loader p.1) part c.loop-one.one-index pair pair c.in_ok-more.more.items within is c.in_ok-more.ensures.named)
-          (others_after own _ c.loop-one.names.items c.in_ok-more.more.items c.add_others.new.names.items c.loop-one.invariant.others added);
-      apart = λ rising. apart rising (c.loop-one.invariant.apart rising);
+          (others_after own _ c.loop-one.names.items c.in_ok-more.more.items c.add_others.new.names.items c.loop-one.invariant.others c.in_ok-add_others.ensures.added);
+      apart = λ rising. c.in_ok-add_others.ensures.apart rising (c.loop-one.invariant.apart rising);
       nodes =
           holds_of_part (g.L.Loads.is_node loader) _ c.add_others.new.names.items
           (All-append (g.L.Loads.is_node loader) c.loop-one.names.items c.in_ok-more.more.items c.loop-one.invariant.nodes (c.in_ok-more.ensures.nodes pair.0 node loaded))
-          added.origin;
+          c.in_ok-add_others.ensures.added.origin;
     }
 
 pub returns-clause-others : goal.returns-clause-others
