@@ -1,16 +1,16 @@
 -- What the edit of one pair makes of a map.
-use Rattle.std.specs.Prelude.{◌≡◌, ℕ, zero, suc, List, [], ◌∷◌, Option, Some, None, true, false, cond, refl}
+use Rattle.std.specs.Prelude.{◌≡◌, ◌↔◌, Bool, IsTrue, ℕ, zero, suc, List, [], ◌∷◌, Option, Some, None, cond, refl}
 use Rattle.std.specs.List.{insert}
 use Rattle.std.specs.Cmp.{IsTotalOrder, tied_itself}
-use Rattle.std.specs.Ordering.{is_eq, eq_by_cmp}
+use Rattle.std.specs.Ordering.{is_eq}
 use Rattle.std.proofs.Common.{ap, sym, subst, ◌∙◌, set, get_or}
 use Rattle.std.specs.declared.cmp.Ordering.{Ordering}
 use Rattle.std.specs.FinMap.Entries.{find, put}
 use Rattle.sorted_pairs.specs.Places.{IsAt, IsGap}
 use Rattle.sorted_pairs.specs.PlaceLaws.{set_is_put, insert_is_put, find_at, find_gap}
 use Rattle.join_law.specs.Order.{IsLeast, IsJoin, IsPartialJoin, IsBetween}
-use Rattle.join_law.specs.Maps.{OptionBelow, IsHeld, AllHeld, MapBelow, IsMap}
-use Rattle.join_law.specs.MapLaws.{OptionJoin, OptionBounds, option_join, option_bounds, option_new, map_itself, join_at_key, bounds_at_key, below_at_key, between_at_key, is_map-put, entry_not_least}
+use Rattle.join_law.specs.Maps.{OptionBelow, AllHeld, MapBelow, IsMap}
+use Rattle.join_law.specs.MapLaws.{OptionJoin, OptionBounds, option_join, option_bounds, option_new, map_itself, join_at_key, bounds_at_key, below_at_key, between_at_key, is_map-put, entry_not_least, entry_least}
 
 at_itself : {K V : Type 0} (R : K → K → Ordering) (o : IsTotalOrder R) (below : V → V → Type 0) (k : K) (v : V) (es : List (K × V)) → MapBelow R below ((k, v) ∷ []) es → OptionBelow below (Some v) (find R k es)
 at_itself R o below k v es h = subst (λ r. OptionBelow below (cond (is_eq r) (Some v) None) (find R k es)) (tied_itself o k) (h.at k)
@@ -21,30 +21,12 @@ set_same [] i e h = refl
 set_same (f ∷ fs) zero e h = ap (λ x. x ∷ fs) h
 set_same (f ∷ fs) (suc i) e h = ap (λ xs. f ∷ xs) (set_same fs i e h)
 
--- what was joined in part lies between
-pub partial_between : {A : Type 0} (below : A → A → Type 0) (a b v r : A) → IsPartialJoin below a b v r → IsBetween below a b v
-partial_between below a b v r j = record { kept = j.kept; within = λ z p q. ((j.bounds z).1 (p, q)).0 }
-
--- a least value changes nothing
-pub nothing_joined : {A : Type 0} (below : A → A → Type 0) (a b : A) → IsLeast below b → IsJoin below a b a
-nothing_joined below a b least = record { bounds = λ z. (λ h. (h, least z), λ p. p.0) }
-
--- nor does a pair with one
-pub least_pair : {K V : Type 0} (R : K → K → Ordering) (below : V → V → Type 0) (k : K) (v : V) → IsLeast below v → IsLeast (MapBelow R below) ((k, v) ∷ [])
-least_pair {K} {V} R below k v least z = record {
-  at = λ q. elim (eq_by_cmp R q k) as (λ b. OptionBelow below (cond b (Some v) None) (find R q z)) [
-    | true ↦ some (find R q z)
-    | false ↦ tt
-  ];
-}
-  where
-    some : (w : Option V) → OptionBelow below (Some v) w
-    some None = least
-    some (Some w) = least w
-
--- a pair as a value that a map may hold
-pub pair_held : {K V : Type 0} (R : K → K → Ordering) (o : IsTotalOrder R) (below : V → V → Type 0) (valid : V → Type 0) (k : K) (v : V) → IsHeld below valid v → IsHeld (MapBelow R below) (IsMap R below valid) ((k, v) ∷ [])
-pair_held R o below valid k v h = record { not_least = entry_not_least R below o k v h.not_least; lawful = record { sorted = refl; held = (h, tt) } }
+-- a key was added with a pair exactly where it was with its value
+pub added_with : {K V : Type 0} (R : K → K → Ordering) (o : IsTotalOrder R) (below : V → V → Type 0) (k : K) (v : V) (added new : Bool) → IsTrue added ↔ (IsTrue new × ¬ IsLeast below v) → IsTrue added ↔ (IsTrue new × ¬ IsLeast (MapBelow R below) ((k, v) ∷ []))
+added_with R o below k v added new h = (
+  λ t. let both = h.0 t in (both.0, entry_not_least R below o k v both.1),
+  λ both. h.1 (both.0, λ least. both.1 (entry_least R below o k v least)),
+)
 
 module _ {K V : Type 0} (R : K → K → Ordering) (o : IsTotalOrder R) (valid : V → Type 0) (below : V → V → Type 0) (itself : (x : V) → below x x) (chain : (x y z : V) → below x y → below y z → below x z) where
   none_least_at : (k : K) (es : List (K × V)) (i : ℕ) (d : K × V) → IsAt R k es i → AllHeld below valid es → ¬ IsLeast below (get_or es i d).1

@@ -1,5 +1,5 @@
 -- What holds whatever a call answers.
-use Rattle.std.specs.Prelude.{Result, Ok, Err, OnOk, OnErr, Bool, true, false}
+use Rattle.std.specs.Prelude.{Result, Ok, Err, OnOk, OnErr, IfOk, Bool, true, false}
 use Rattle.std.specs.Bool.{OnTrue, OnFalse}
 
 pub on_err : {T E P : Type 0} (r : Result T E) → P → OnErr r P
@@ -13,6 +13,10 @@ on_err_weaker (Err e) f h = f h
 pub on_ok_weaker : {T E P Q : Type 0} (r : Result T E) → (P → Q) → OnOk r P → OnOk r Q
 on_ok_weaker (Ok t) f h = f h
 on_ok_weaker (Err e) f h = tt
+
+pub if_ok_weaker : {T E : Type 0} {P Q : T → Type 0} (r : Result T E) → ((t : T) → P t → Q t) → IfOk r P → IfOk r Q
+if_ok_weaker (Ok t) f h = f t h
+if_ok_weaker (Err e) f h = tt
 
 pub by_outcome : {T E P Q A : Type 0} (r : Result T E) → (P → A) → (Q → A) → OnOk r P → OnErr r Q → A
 by_outcome (Ok t) f g p q = f p

@@ -7,9 +7,14 @@ use Rattle.std.specs.declared.cmp.Ordering.{Ordering}
 use Rattle.std.specs.FinMap.Entries.{find, put, where_key, find-put, find-where_key, find_tied}
 use Rattle.list_laws.specs.Orderings.{is_equal}
 use Rattle.join_law.specs.Order.{IsJoin, IsBetween}
-use Rattle.join_law.specs.Maps.{OptionBelow, MapBelow, or_empty, map_union}
+use Rattle.join_law.specs.Maps.{OptionBelow, MapBelow, or_empty, map_union, is_none_or}
 use Rattle.join_law.specs.MapLaws.{OptionJoin, OptionBounds, option_chain, map_itself, map_chain}
 use Rattle.join_law.specs.UnionLaws.{union_joins}
+
+-- a test of what is held at a key of a map that may be absent
+pub is_none_or-within : {K V : Type 0} (R : K → K → Ordering) (k : K) (test : V → Bool) (m : Option (List (K × V))) → is_none_or (λ n. is_none_or test (find R k n)) m ≡ is_none_or test (find R k (or_empty m))
+is_none_or-within R k test None = refl
+is_none_or-within R k test (Some n) = refl
 
 module _ {K V : Type 0} (R : K → K → Ordering) (o : IsTotalOrder R) (below : V → V → Type 0) (itself : (x : V) → below x x) (chain : (x y z : V) → below x y → below y z → below x z) where
   module _ (k : K) where

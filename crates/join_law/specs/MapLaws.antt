@@ -127,3 +127,20 @@ module _ {K V : Type 0} (R : K → K → Ordering) (below : V → V → Type 0) 
     -- one entry with a value that isn't a least one
     pub entry_not_least : (v : V) → ¬ IsLeast below v → ¬ IsLeast (MapBelow R below) ((k, v) ∷ [])
     entry_not_least v n least = n (subst (λ r. OptionBelow below (cond (is_eq r) (Some v) None) None) (tied_itself o k) ((least []).at k))
+
+    -- and one with a least one
+    pub entry_least : (v : V) → IsLeast below v → IsLeast (MapBelow R below) ((k, v) ∷ [])
+    entry_least v least z = record {
+      at = λ q. elim (eq_by_cmp R q k) as (λ b. OptionBelow below (cond b (Some v) None) (find R q z)) [
+        | true ↦ some (find R q z)
+        | false ↦ tt
+      ];
+    }
+      where
+        some : (w : Option V) → OptionBelow below (Some v) w
+        some None = least
+        some (Some w) = least w
+
+    -- one entry as a value that a map of maps may hold
+    pub entry_held : (valid : V → Type 0) (v : V) → IsHeld below valid v → IsHeld (MapBelow R below) (IsMap R below valid) ((k, v) ∷ [])
+    entry_held valid v h = record { not_least = entry_not_least v h.not_least; lawful = record { sorted = refl; held = (h, tt) } }

@@ -1,5 +1,5 @@
 -- Maps as lists of pairs in the order of their keys, compared key by key.
-use Rattle.std.specs.Prelude.{Bool, false, List, [], ◌∷◌, Option, Some, None}
+use Rattle.std.specs.Prelude.{Bool, true, false, List, [], ◌∷◌, Option, Some, None}
 use Rattle.std.specs.Bool.{IsTrue}
 use Rattle.std.specs.FinMap.{find, put, is_sorted}
 use Rattle.std.specs.declared.cmp.Ordering.{Ordering}
@@ -57,3 +57,8 @@ or_empty (Some m) = m
 abbrev pub is_some_and : {V : Type 0} → (V → Bool) → Option V → Bool
 is_some_and test None = false
 is_some_and test (Some v) = test v
+
+-- a test of a value that may be absent: then it holds
+abbrev pub is_none_or : {V : Type 0} → (V → Bool) → Option V → Bool
+is_none_or test None = true
+is_none_or test (Some v) = test v

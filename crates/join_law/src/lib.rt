@@ -8,15 +8,16 @@
 //! Zawirski, "Conflict-free Replicated Data Types", 2011).
 #![tactic(auto)]
 
+mod additions;
 mod changes;
 mod copies;
 mod edits;
 mod joins;
 mod maps;
-mod nested;
 mod passes;
 mod versions;
 
+pub use additions::{AddAt, AddValue, Addition};
 pub use changes::{Change, ChangeAt, Overwrite};
 pub use joins::{Join, Rest};
 pub use maps::JoinMap;

@@ -1,13 +1,15 @@
 -- One edit more.
 use Rattle.std.proofs.Common.{◌≡◌, ℕ, Bool, true, false, cond, [], ◌∷◌, Option, Some, None, IsSome, refl, sym, ap, subst, ◌∙◌, arith}
 use Rattle.std.specs.Prelude.{max, length, ◌+◌, ◌-◌, ◌^◌, ◌≤◌}
-use Rattle.std.specs.Ordering.{eq_by_cmp}
+use Rattle.std.specs.Ordering.{nat_cmp, eq_by_cmp}
+use Rattle.std.specs.Cmp.{nat_cmp_total}
 use Rattle.std.specs.Cmp.Lexicographic.{nat_list_cmp_total}
 use Rattle.std.specs.FinMap as finmap
 use Rattle.join_law.specs.declared.versions.Versioned.TheVariants.{At}
 use Rattle.join_law.specs.Order.{IsJoin}
+use Rattle.join_law.specs.Maps.{IsHeld}
 use Rattle.join_law.specs.VersionedLaws.{not_least}
-use Rattle.join_law.specs.MapLaws.{entry_not_least}
+use Rattle.join_law.specs.MapLaws.{entry_held}
 use Rattle.load_path.specs.Paths.{PathParts, IsPath, path_cmp}
 use Rattle.load_path.specs.PathLaws.{path_cmp_total}
 use Rattle.edit_sums.specs.Contents.{content_cmp}
@@ -18,7 +20,7 @@ use Rattle.edit_sums.specs.Sums.{EntryMap, entry_of, with_edit, sum_of, join, hi
 use Rattle.edit_sums.specs.SumLaws.{same_store, with_edit-join}
 use Rattle.edit_sums.specs.GreatestLaws.{get-with_edit, get-sum_of, tied}
 use Rattle.edit_sums.specs.CounterLaws.{high_of-join, high_of-sum_of}
-use Rattle.path_maps.specs.PathMaps.{RankMap, bytes_cmp, NamesBelow, RanksBelow, AreNames, AreFolders, AreRanks, flat}
+use Rattle.path_maps.specs.PathMaps.{RankMap, bytes_cmp, NamesBelow, FoldersBelow, RanksBelow, AreNames, AreFolders, AreRanks, flat}
 use Rattle.path_maps.specs.PathMapLaws.{flat-join}
 use Rattle.path_maps.specs.Kept.{IsCounted, IsKept}
 
@@ -44,13 +46,11 @@ nothing_kept = record {
 abbrev pub one_edit : Edit → RankMap
 one_edit e = (e.place.rank, (e.place.folder, (e.place.name, At (entry_of e)) ∷ []) ∷ []) ∷ []
 
-pub one_ranks : (e : Edit) → AreRanks (one_edit e)
-one_ranks e =
-    let names : AreNames ((e.place.name, At (entry_of e)) ∷ []) = record { sorted = refl; held = (record { not_least = not_least content_cmp (entry_of e); lawful = tt }, tt) } in
-    let names_left = entry_not_least bytes_cmp (IsUpTo content_cmp) nat_list_cmp_total e.place.name (At (entry_of e)) (not_least content_cmp (entry_of e)) in
-    let folders : AreFolders ((e.place.folder, (e.place.name, At (entry_of e)) ∷ []) ∷ []) = record { sorted = refl; held = (record { not_least = names_left; lawful = names }, tt) } in
-    let folders_left = entry_not_least bytes_cmp NamesBelow nat_list_cmp_total e.place.folder ((e.place.name, At (entry_of e)) ∷ []) names_left in
-    record { sorted = refl; held = (record { not_least = folders_left; lawful = folders }, tt) }
+pub one_held : (e : Edit) → IsHeld RanksBelow AreRanks (one_edit e)
+one_held e =
+    entry_held nat_cmp FoldersBelow nat_cmp_total e.place.rank AreFolders ((e.place.folder, (e.place.name, At (entry_of e)) ∷ []) ∷ [])
+    (entry_held bytes_cmp NamesBelow nat_list_cmp_total e.place.folder AreNames ((e.place.name, At (entry_of e)) ∷ [])
+    (entry_held bytes_cmp (IsUpTo content_cmp) nat_list_cmp_total e.place.name (λ _. Unit {0}) (At (entry_of e)) (record { not_least = not_least content_cmp (entry_of e); lawful = tt })))
 
 pub flat-one : (e : Edit) → flat (one_edit e) ≡ sum_of (e ∷ [])
 flat-one e = same_store (flat (one_edit e)) (sum_of (e ∷ []))
@@ -60,7 +60,7 @@ flat-one e = same_store (flat (one_edit e)) (sum_of (e ∷ []))
 pub joined_edit : (m n : RankMap) (s : EntryMap) (e : Edit) (p : PathParts) → p ≡ e.place → flat m ≡ s → AreRanks m → AreRanks n → IsJoin RanksBelow m (one_edit (record e { place = p })) n → flat n ≡ with_edit s e
 joined_edit m n s e p parts is is_m is_n j =
     let e' : Edit = record e { place = p } in
-    flat-join m (one_edit e') n is_m (one_ranks e') is_n j ∙ ap (join (flat m)) (flat-one e') ∙ sym (with_edit-join (flat m) e')
+    flat-join m (one_edit e') n is_m (one_held e').lawful is_n j ∙ ap (join (flat m)) (flat-one e') ∙ sym (with_edit-join (flat m) e')
     ∙ ap (λ (t : EntryMap). with_edit t e') is ∙ ap (λ (q : PathParts). with_edit s (record e { place = q })) parts
 
 pub counted_edit : (s : EntryMap) (len high len' : ℕ) (e : Edit) → IsPath e.place → IsCounted s len high → len' ≡ cond (finmap.contains_key s e.place) (finmap.len s) (finmap.len s + 1) → IsCounted (with_edit s e) len' (max high e.version.counter)

@@ -10,8 +10,9 @@ use Rattle.join_law.specs.declared.versions.Versioned.{Versioned}
 use Rattle.join_law.specs.declared.versions.Versioned.TheVariants.{Never, At}
 use Rattle.join_law.specs.Order.{IsLeast}
 use Rattle.join_law.specs.VersionOrder.{IsUpTo, written, written_at}
-use Rattle.join_law.specs.VersionedLaws.{never_least, not_least}
-use Rattle.join_law.specs.Maps.{AllHeld, or_empty}
+use Rattle.join_law.specs.VersionedLaws.{never_least}
+use Rattle.join_law.specs.Maps.{AllHeld, or_empty, is_none_or}
+use Rattle.join_law.specs.LevelLaws.{is_none_or-within}
 use Rattle.load_path.specs.Paths.{PathParts, IsPath}
 use Rattle.edit_sums.specs.declared.contents.Content.{Content}
 use Rattle.edit_sums.specs.Contents.{content_cmp}
@@ -86,6 +87,13 @@ there_held m is s e q h =
     subst (λ (x : Option Entry). IsSome x) (held_is m is s e q _ refl)
     (name_written q.name (names_in m q.rank q.folder) (names_lawful m is q.rank q.folder).held h)
 
+-- an answer whether something was new, where what was joined isn't least
+pub added_new : {P : Type 0} (added new : Bool) → ¬ P → IsTrue added ↔ (IsTrue new × ¬ P) → added ≡ new
+added_new true true left h = refl
+added_new true false left h = let wrong = (h.0 refl).0 in cc (wrong)
+added_new false true left h = let wrong = h.1 (refl, left) in cc (wrong)
+added_new false false left h = refl
+
 module _ (m : RankMap) (is : AreRanks m) (s : EntryMap) (e : flat m ≡ s) (q : PathParts) where
   abbrev found : Option (Versioned Content)
   found = find bytes_cmp q.name (names_in m q.rank q.folder)
@@ -94,22 +102,41 @@ module _ (m : RankMap) (is : AreRanks m) (s : EntryMap) (e : flat m ≡ s) (q : 
   pub absent_there : found ≡ None → finmap.get s q ≡ None
   absent_there none = sym (held_is m is s e q None (ap written_at none))
 
-  -- so many paths are held with this one where its key was added, or was not
-  pub counted_with : (x : Entry) (added : Bool) → IsTrue added ↔ ((found ≡ None) × ¬ IsLeast (IsUpTo content_cmp) (At x)) → finmap.len s + from_bool added ≡ cond (finmap.contains_key s q) (finmap.len s) (finmap.len s + 1)
-  counted_with x true h = let none = absent_there (h.0 refl).0 in ap (λ (o : Option Entry). cond (is_some o) (finmap.len s) (finmap.len s + 1)) (sym none)
-  counted_with x false h = by found refl
+  -- whether one of the look-ups finds nothing
+  abbrev pub is_new : Bool
+  is_new = is_none_or (λ folders. is_none_or (λ names. is_none_or (λ _. false) (find bytes_cmp q.name names)) (find bytes_cmp q.folder folders)) (find nat_cmp q.rank m)
+
+  new_is : is_new ≡ is_none_or (λ _. false) found
+  new_is =
+      is_none_or-within bytes_cmp q.folder (λ names. is_none_or (λ _. false) (find bytes_cmp q.name names)) (find nat_cmp q.rank m)
+      ∙ is_none_or-within bytes_cmp q.name (λ _. false) (find bytes_cmp q.folder (or_empty (find nat_cmp q.rank m)))
+
+  -- none does where something is held
+  pub held_not_new : IsSome (finmap.get s q) → is_new ≡ false
+  held_not_new some = new_is ∙ by found (held_there m is s e q some)
+    where
+      by : (o : Option (Versioned Content)) → IsSome o → is_none_or (λ _. false) o ≡ false
+      by None h = cc (h)
+      by (Some v) h = refl
+
+  -- so many paths are held with this one, which is new or isn't
+  pub counted_with : (added : Bool) → added ≡ is_new → finmap.len s + from_bool added ≡ cond (finmap.contains_key s q) (finmap.len s) (finmap.len s + 1)
+  counted_with added a = ap (λ b. finmap.len s + from_bool b) (a ∙ new_is) ∙ by found refl
     where
       same : finmap.len s + 0 ≡ finmap.len s
       same = omega arith
 
-      by : (o : Option (Versioned Content)) → found ≡ o → finmap.len s + 0 ≡ cond (finmap.contains_key s q) (finmap.len s) (finmap.len s + 1)
-      by None t = let wrong = h.1 (t, not_least content_cmp x) in cc (wrong)
+      by : (o : Option (Versioned Content)) → found ≡ o → finmap.len s + from_bool (is_none_or (λ _. false) o) ≡ cond (finmap.contains_key s q) (finmap.len s) (finmap.len s + 1)
+      by None t = let none = absent_there t in ap (λ (o : Option Entry). cond (is_some o) (finmap.len s) (finmap.len s + 1)) (sym none)
       by (Some v) t = let some = there_held m is s e q (subst (λ (o : Option (Versioned Content)). IsSome o) (sym t) refl) in same ∙ ap (λ b. cond b (finmap.len s) (finmap.len s + 1)) (sym some)
 
   -- and as many can be counted, if a path where nothing is held can be
-  pub fits_with : (most : ℕ) (x : Entry) (added : Bool) → IsTrue added ↔ ((found ≡ None) × ¬ IsLeast (IsUpTo content_cmp) (At x)) → finmap.len s ≤ most → (finmap.get s q ≡ None → finmap.len s + 1 ≤ most) → finmap.len s + from_bool added ≤ most
-  fits_with most x true h now room = room (absent_there (h.0 refl).0)
-  fits_with most x false h now room = omega (arith, now)
+  pub fits_with : (most : ℕ) (added : Bool) → added ≡ is_new → finmap.len s ≤ most → (finmap.get s q ≡ None → finmap.len s + 1 ≤ most) → finmap.len s + from_bool added ≤ most
+  fits_with most added a now room = subst (λ b. finmap.len s + from_bool b ≤ most) (sym (a ∙ new_is)) (by found refl)
+    where
+      by : (o : Option (Versioned Content)) → found ≡ o → finmap.len s + from_bool (is_none_or (λ _. false) o) ≤ most
+      by None t = room (absent_there t)
+      by (Some v) t = omega (arith, now)
 
 -- a path at which the look-ups find something is lawful
 pub lawful_there : (m : RankMap) (len high : ℕ) → IsKept m len high → (q : PathParts) (x : Entry) → look_up m q ≡ Some x → IsPath q

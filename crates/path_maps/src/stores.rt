@@ -15,7 +15,9 @@ use crate::counts::{Counts, count_entries};
 use crate::entries::{Entries, Placed};
 use crate::look_ups::{folder_at, pair_at};
 use edit_sums::{Content, Edit, Entry};
-use join_law::{Change, ChangeAt, Join, JoinMap, Overwrite, Rest, Version, Versioned};
+use join_law::{
+    AddAt, AddValue, Addition, Change, ChangeAt, Join, JoinMap, Overwrite, Rest, Version, Versioned,
+};
 use load_path::Path;
 use plain_values::Bytes;
 use std::alloc::{AllocError, Global};
@@ -223,7 +225,17 @@ impl Store {
         }
         let (rank, folder, name) = place.into_parts();
         let value = Versioned::At(Entry { version, content });
-        let added = self.ranks.join_deep(rank, folder, name, value)?;
+        let addition = AddAt {
+            key: rank,
+            addition: AddAt {
+                key: folder,
+                addition: AddAt {
+                    key: name,
+                    addition: AddValue { value },
+                },
+            },
+        };
+        let added = addition.join_to(&mut self.ranks)?;
         self.len += usize::from(added);
         self.high = self.high.max(version.counter);
         Ok(())

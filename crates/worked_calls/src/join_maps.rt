@@ -4,7 +4,7 @@
 //! A map is written as its pairs, `KEY:VERSION=NUMBER`, parted by commas; `none` has no pair. In a map of maps of
 //! maps a key is three numbers, parted by slashes.
 use crate::joins::{append_value, joined, versioned};
-use join_law::{Join, JoinMap, Versioned};
+use join_law::{AddAt, AddValue, Addition, Join, JoinMap, Versioned};
 use worked_lines::{Answer, LineFault, Words, byte_of, cut_at, match_word, parts_of};
 
 /// A map from numbers to numbers with versions.
@@ -141,7 +141,17 @@ fn join_branch(tree: &mut Tree, pair: &[u8]) -> Result<(), LineFault> {
     let (outer, others) = cut_at(keys, b'/').ok_or(LineFault::Words)?;
     let (middle, inner) = cut_at(others, b'/').ok_or(LineFault::Words)?;
     let value = versioned(value)?;
-    tree.join_deep(byte_of(outer)?, byte_of(middle)?, byte_of(inner)?, value)?;
+    let branch = AddAt {
+        key: byte_of(outer)?,
+        addition: AddAt {
+            key: byte_of(middle)?,
+            addition: AddAt {
+                key: byte_of(inner)?,
+                addition: AddValue { value },
+            },
+        },
+    };
+    branch.join_to(tree)?;
     Ok(())
 }
 

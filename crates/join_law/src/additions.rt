@@ -1,0 +1,146 @@
+//! Joins of one value into maps of maps, of any depth.
+ghost use Rattle.std.specs.Prelude.{◌≡◌, ◌↔◌, [], ◌∷◌, Bool, false, IsTrue, IsOk, IfOk, OnOk, OnErr};
+ghost use Rattle.std.specs.Option.{IfNone, IfSome};
+ghost use Rattle.std.specs.FinMap.{find};
+ghost use Rattle.join_law.specs.Maps.{IsHeld, IsMap, MapBelow, is_none_or};
+ghost use Rattle.join_law.specs.Order.{IsBetween, IsJoin, IsLeast};
+
+use crate::joins::Join;
+use crate::maps::JoinMap;
+use plain_values::Key;
+use sorted_pairs::seek;
+use std::alloc::{AllocError, Global};
+
+/// What is joined into a value.
+pub trait Addition: Drop {
+    /// The values that it is joined into.
+    type Value: Join;
+
+    // What it joins.
+    ghost added: { Self → Self.Value };
+
+    // Whether it joins at a key that a value doesn't hold.
+    ghost is_new: { Self → Self.Value → Bool };
+
+    // Holds where joining it at a key that is held takes no memory.
+    ghost joins_in_place: { Type 0 };
+
+    /// Joins it, and answers whether a key was added, which a bottom value never does.
+    ///
+    /// It fails for want of memory alone. The value then lies between what it was and the join; where
+    /// what is joined is single, it is unchanged.
+    fn join_to(self, value: &mut Self::Value) -> Result<bool, AllocError>
+        ensures ok { OnOk result (IsJoin Self.Value.below value.old (added self) value.new) }
+        ensures added { IfOk result (λ is_added. IsTrue is_added ↔
+            (IsTrue (is_new self value.old) × ¬ IsLeast Self.Value.below (added self))) }
+        ensures refused { OnErr result (IsBetween Self.Value.below value.old (added self) value.new) }
+        ensures single { OnErr result (Self.Value.is_single (added self) → value.new ≡ value.old) }
+        ensures in_place { joins_in_place → is_new self value.old ≡ false → IsOk result }
+        ensures valid { Self.Value.is_valid value.new };
+
+    /// What it joins as a value of its own, unless that is a bottom value. It fails for want of memory
+    /// alone.
+    fn into_value(self, alloc: Global) -> Result<Option<Self::Value>, AllocError>
+        ensures value { IfOk result (λ made. IfSome made (λ value. value ≡ added self)) }
+        ensures held { IfOk result (λ made. IfSome made (IsHeld Self.Value.below Self.Value.is_valid)) }
+        ensures none { IfOk result (λ made. IfNone made (IsLeast Self.Value.below (added self))) };
+}
+
+/// A value that is joined into a value.
+#[derive(Drop)]
+pub struct AddValue<V> {
+    /// What is joined.
+    pub value: V,
+}
+
+impl<V: Join> Addition for AddValue<V> {
+    type Value = V;
+
+    ghost added = { λ a. a.value };
+
+    ghost is_new = { λ _ _. false };
+
+    ghost joins_in_place = { V.joins_in_place };
+
+    fn join_to(self, value: &mut V) -> Result<bool, AllocError> {
+        match value.join_from(self.value) {
+            Ok(()) => Ok(false),
+            Err(_) => Err(AllocError),
+        }
+    }
+
+    fn into_value(self, _alloc: Global) -> Result<Option<V>, AllocError> {
+        if self.value.is_bottom() {
+            return Ok(None);
+        }
+        Ok(Some(self.value))
+    }
+}
+
+/// What is joined into the value at a key of a map. Of maps of maps it is what is joined at a key, at a
+/// key.
+#[derive(Drop)]
+pub struct AddAt<K, A> {
+    /// Where it is joined.
+    pub key: K,
+    /// What is joined there.
+    pub addition: A,
+}
+
+impl<K: Key, A: Addition> Addition for AddAt<K, A> {
+    type Value = JoinMap<K, A::Value>;
+
+    ghost use Rattle.join_law.specs.Maps.{is_none_or};
+
+    ghost added = { λ a. (a.key, A.added a.addition) ∷ [] };
+
+    ghost is_new = { λ a map. is_none_or (A.is_new a.addition) (find K.cmp a.key map) };
+
+    ghost joins_in_place = { A.joins_in_place };
+
+    /// A search and at most one shift of pairs in each map; no map is made but to hold the value.
+    fn join_to(self, map: &mut JoinMap<K, A::Value>) -> Result<bool, AllocError> {
+        join_at_key(&mut map.pairs, self.key, self.addition)
+    }
+
+    fn into_value(self, alloc: Global) -> Result<Option<JoinMap<K, A::Value>>, AllocError> {
+        match self.addition.into_value(alloc)? {
+            Some(value) => Ok(Some(JoinMap::of_pair(alloc, self.key, value)?)),
+            None => Ok(None),
+        }
+    }
+}
+
+// Joins at a key, and answers whether a key was added, there or in the value there.
+fn join_at_key<K: Key, A: Addition>(
+    pairs: &mut Vec<(K, A::Value)>,
+    key: K,
+    addition: A,
+) -> Result<bool, AllocError>
+    requires { IsMap K.cmp A.Value.below A.Value.is_valid pairs.old.items }
+    ensures ok { OnOk result (IsJoin (MapBelow K.cmp A.Value.below) pairs.old.items
+        ((key, A.added addition) ∷ []) pairs.new.items) }
+    ensures added { IfOk result (λ is_added. IsTrue is_added ↔
+        (IsTrue (is_none_or (A.is_new addition) (find K.cmp key pairs.old.items))
+        × ¬ IsLeast (MapBelow K.cmp A.Value.below) ((key, A.added addition) ∷ []))) }
+    ensures refused { OnErr result (IsBetween (MapBelow K.cmp A.Value.below) pairs.old.items
+        ((key, A.added addition) ∷ []) pairs.new.items) }
+    ensures single { OnErr result (A.Value.is_single (A.added addition) → pairs.new.items ≡ pairs.old.items) }
+    ensures in_place { A.joins_in_place →
+        is_none_or (A.is_new addition) (find K.cmp key pairs.old.items) ≡ false → IsOk result }
+    ensures map { IsMap K.cmp A.Value.below A.Value.is_valid pairs.new.items }
+{
+    match seek(pairs, &key) {
+        Ok(at) => {
+            let place = &mut pairs[at];
+            addition.join_to(&mut place.1)
+        }
+        Err(at) => match addition.into_value(*pairs.allocator())? {
+            Some(value) => {
+                pairs.insert(at, (key, value))?;
+                Ok(true)
+            }
+            None => Ok(false),
+        },
+    }
+}
