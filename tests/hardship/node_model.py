@@ -20,7 +20,8 @@ class Wrong(Exception):
 
 @dataclass(frozen=True)
 class Sight:
-    """What a node holds at a moment: the version at each path, and how many takes there were."""
+    """What a node holds at a moment: the version at each place, and how many takes there were. A place is its host, empty
+    for the fleet, and its name."""
 
     held: dict
     takes: int = 0
@@ -28,18 +29,18 @@ class Sight:
     def told(self):
         """As the answers write it."""
         places = sorted(self.held.items())
-        return " ".join([f"takes {self.takes}", *(f"{path} {c}.{w}" for path, (c, w) in places)])
+        return " ".join([f"takes {self.takes}", *(f"{name} {c}.{w}" for (_, name), (c, w) in places)])
 
-    def with_take(self, path, version):
-        """After a take at a path."""
-        return Sight({**self.held, path: max(version, self.held.get(path, version))}, self.takes + 1)
+    def with_take(self, place, version):
+        """After a take at a place."""
+        return Sight({**self.held, place: max(version, self.held.get(place, version))}, self.takes + 1)
 
 
 @dataclass(frozen=True)
 class Take:
     """An edit or a piece of one edit, which has its version."""
 
-    path: str
+    place: tuple
     piece: tuple = None
 
     def version(self, node):
@@ -79,12 +80,12 @@ class Node:
 
     def answered(self, seat, take):
         """After a take that was answered, behind the one that was pending."""
-        accepted = self.accepted.with_take(take.path, take.version(self))
+        accepted = self.accepted.with_take(take.place, take.version(self))
         return replace(self, accepted=accepted, shown=accepted).sees(seat, accepted.takes)
 
     def pending(self, take):
         """After a take that was accepted and isn't shown, behind the one that was pending."""
-        accepted = self.accepted.with_take(take.path, take.version(self))
+        accepted = self.accepted.with_take(take.place, take.version(self))
         return replace(self, accepted=accepted, shown=self.accepted, told=self.told + 1)
 
     def refused(self):

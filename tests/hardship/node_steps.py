@@ -16,9 +16,10 @@ def seat(node, said):
     return [node.with_seat()] if is_left and said == [f"seat {len(node.seen)}"] else []
 
 
-def name_of(word):
-    """The last part of a path."""
-    return word.rsplit("/", 1)[1]
+def place_of(word):
+    """The host that a word of a place names, empty for the fleet, and the last part of its path."""
+    host, path = ("", word) if word.startswith("/") else word.split(":", 1)
+    return host, path.rsplit("/", 1)[1]
 
 
 def version_text(version):
@@ -26,7 +27,7 @@ def version_text(version):
     return f"{version[0]}.{version[1]}"
 
 
-def taken(node, said, place, take, answer, pending):
+def taken(node, said, number, take, answer, pending):
     """A take is answered, pending or refused."""
     if said == [REFUSED]:
         return node.refused()
@@ -34,65 +35,65 @@ def taken(node, said, place, take, answer, pending):
         return [node.pending(take)]
     if said != [answer]:
         return []
-    after = node.answered(place, take)
+    after = node.answered(number, take)
     return [replace(after, token=after.shown.takes)]
 
 
-def edit(node, said, place, path, _text):
+def edit(node, said, number, place, _text):
     """An edit gets the next counter, where one is left."""
-    take = Take(name_of(path))
+    take = Take(place_of(place))
     version = take.version(node)
     if version is None:
         return [node] if said == ["E1 VersionsSpent"] else []
     text = version_text(version)
-    return taken(node, said, place, take, f"ok {text}", f"A3 Pending {text}")
+    return taken(node, said, number, take, f"ok {text}", f"A3 Pending {text}")
 
 
-def piece_of(path, counter, writer):
+def piece_of(place, counter, writer):
     """A piece of one edit."""
-    return Take(name_of(path), (int(counter), int(writer)))
+    return Take(place_of(place), (int(counter), int(writer)))
 
 
-def absorb(node, said, place, path, counter, writer, _text):
-    """A piece of one edit changes a path where its version is greater."""
-    take = piece_of(path, counter, writer)
-    changed = int(take.piece > node.accepted.held.get(take.path, (0, -1)))
-    return taken(node, said, place, take, f"changed {changed}", "A3 Pending")
+def absorb(node, said, number, place, counter, writer, _text):
+    """A piece of one edit changes a place where its version is greater."""
+    take = piece_of(place, counter, writer)
+    changed = int(take.piece > node.accepted.held.get(take.place, (0, -1)))
+    return taken(node, said, number, take, f"changed {changed}", "A3 Pending")
 
 
-def learn(node, said, place):
+def learn(node, said, number):
     """A seat learns the last token that was given, and has then seen what it had and what the token tells."""
     if node.token is None:
         return [node] if said == ["no token"] else []
-    after = node.sees(place, node.token)
-    return [after] if said == [f"seen {after.seen[place]}"] else []
+    after = node.sees(number, node.token)
+    return [after] if said == [f"seen {after.seen[number]}"] else []
 
 
-def view(node, said, place):
+def view(node, said, number):
     """A view shows what was published, which the seat has then seen."""
-    return [node.sees(place, node.shown.takes)] if said == [node.shown.told()] else []
+    return [node.sees(number, node.shown.takes)] if said == [node.shown.told()] else []
 
 
-def served(states, place, take):
+def served(states, number, take):
     """How a message may go from each of these: a node, and how many were answered, pending and refused before."""
     for node, (answered, pending, refused) in states:
         if take.version(node) is None:
             yield node, (answered, pending, refused + 1)
             continue
-        yield node.answered(place, take), (answered + 1, pending, refused)
+        yield node.answered(number, take), (answered + 1, pending, refused)
         yield node.pending(take), (answered, pending + 1, refused)
         for after in node.refused():
             yield after, (answered, pending, refused + 1)
 
 
-def serve(node, said, place, times, *messages):
+def serve(node, said, number, times, *messages):
     """Each message up to the end is answered, pending or refused; the gate is asked for each."""
     takes = messages[: messages.index(None)] if None in messages else messages
     often = min(int(times) + 1, TURNS)
     asked = "".join(f" {number}:{often}" for number in range(len(takes)))
     states = [(node, (0, 0, 0))]
     for take in takes:
-        states = list(served(states, place, take))
+        states = list(served(states, number, take))
     return [after for after, counts in states if said == [*told_counts(counts), "asked for" + asked]]
 
 
@@ -118,7 +119,7 @@ def messages_of(words):
             return
         size = {"edit": 2, "absorb": 4, "end": 0}[kind]
         given, words[:] = words[:size], words[size:]
-        yield Take(name_of(given[0])) if kind == "edit" else piece_of(*given[:3]) if given else None
+        yield Take(place_of(given[0])) if kind == "edit" else piece_of(*given[:3]) if given else None
 
 
 def steps_of(words):
@@ -165,8 +166,8 @@ def opened(words, lines):
     call, writer, room = words.pop(0), int(words.pop(0)), int(words.pop(0))
     held = {}
     if call == "over":
-        path, version = name_of(words.pop(0)), (int(words.pop(0)), int(words.pop(0)))
-        held[path] = version
+        place, version = place_of(words.pop(0)), (int(words.pop(0)), int(words.pop(0)))
+        held[place] = version
         words.pop(0)
     told = int(lines[:1] == ["no blank: out of memory"])
     del lines[:told]

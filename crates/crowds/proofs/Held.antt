@@ -19,42 +19,42 @@ use Rattle.node_histories.specs.declared.events.HistoryEvent.{HistoryEvent}
 use Rattle.node_histories.specs.declared.events.HistoryEvent.TheVariants.{Opening, Edited, Absorbed}
 use Rattle.node_histories.specs.Histories.{IsLegal, all_edits, edits_in, store_of, takes_in}
 use Rattle.shared_node.specs.Seats.{SeatNow, AllAgree}
-use Rattle.crowds.specs.Crowds.{crowd_path, crowd_paths, edit_at, paths_with}
+use Rattle.crowds.specs.Crowds.{crowd_place, crowd_places, edit_at, places_with}
 use Rattle.crowds.specs.Workers.{is_own, own_edits, HaveWorked}
-use Rattle.crowds.proofs.Listed.{in_paths, from_paths}
+use Rattle.crowds.proofs.Listed.{in_places, from_places}
 use Rattle.crowds.proofs.Ours.{is_ours, all_pass, ours_many, sum_same}
 use Rattle.crowds.proofs.Own.{own_grows}
-use Rattle.crowds.proofs.SamePaths.{AreAmongPaths, same_paths}
+use Rattle.crowds.proofs.SamePaths.{AreAmongPlaces, same_places}
 
 -- the edits of an event of the crowd are at a worker's path
-edits_in_ours : (workers : ℕ) (x : HistoryEvent) (e : Edit) → is_ours workers x ≡ true → IsAmong e (edits_in x) → (k : ℕ) × (k < workers) × (e.place ≡ crowd_path k)
+edits_in_ours : (workers : ℕ) (x : HistoryEvent) (e : Edit) → is_ours workers x ≡ true → IsAmong e (edits_in x) → (k : ℕ) × (k < workers) × (e.place ≡ crowd_place k)
 edits_in_ours workers (Opening r) e is a = cc
 edits_in_ours workers (Edited seat f) e is (inl same) =
-    let parts = and_parts (nat_lt seat workers) (eq_by_cmp place_cmp f.place (crowd_path seat)) is in
-    (seat, ltb-true seat workers parts.0, ap (λ (g : Edit). g.place) (sym same) ∙ tied f.place (crowd_path seat) parts.1)
+    let parts = and_parts (nat_lt seat workers) (eq_by_cmp place_cmp f.place (crowd_place seat)) is in
+    (seat, ltb-true seat workers parts.0, ap (λ (g : Edit). g.place) (sym same) ∙ tied f.place (crowd_place seat) parts.1)
 edits_in_ours workers (Edited seat f) e is (inr a) = absurd a
 edits_in_ours workers (Absorbed seat p) e is a = cc
 
-edits_step : (workers : ℕ) (x : HistoryEvent) (t : List HistoryEvent) (e : Edit) → is_ours workers x ≡ true → (IsAmong e (all_edits t) → (k : ℕ) × (k < workers) × (e.place ≡ crowd_path k))
-    → IsAmong e (edits_in x) ⊎ IsAmong e (all_edits t) → (k : ℕ) × (k < workers) × (e.place ≡ crowd_path k)
+edits_step : (workers : ℕ) (x : HistoryEvent) (t : List HistoryEvent) (e : Edit) → is_ours workers x ≡ true → (IsAmong e (all_edits t) → (k : ℕ) × (k < workers) × (e.place ≡ crowd_place k))
+    → IsAmong e (edits_in x) ⊎ IsAmong e (all_edits t) → (k : ℕ) × (k < workers) × (e.place ≡ crowd_place k)
 edits_step workers x t e is rest (inl a) = edits_in_ours workers x e is a
 edits_step workers x t e is rest (inr a) = rest a
 
-edits_ours : (workers : ℕ) (t : List HistoryEvent) → ((x : HistoryEvent) → IsAmong x t → is_ours workers x ≡ true) → (e : Edit) → IsAmong e (all_edits t) → (k : ℕ) × (k < workers) × (e.place ≡ crowd_path k)
+edits_ours : (workers : ℕ) (t : List HistoryEvent) → ((x : HistoryEvent) → IsAmong x t → is_ours workers x ≡ true) → (e : Edit) → IsAmong e (all_edits t) → (k : ℕ) × (k < workers) × (e.place ≡ crowd_place k)
 edits_ours workers [] ours e a = absurd a
 edits_ours workers (x ∷ t) ours e a =
     edits_step workers x t e (ours x (inl refl)) (λ b. edits_ours workers t (λ y h. ours y (inr h)) e b) (IsAmong-append_cases e (edits_in x) (all_edits t) a)
 
 -- a worker that has an edit of its own has it among all edits
-own_in : (k : ℕ) (x : HistoryEvent) → is_own k x ≡ true → (e : Edit) × IsAmong e (edits_in x) × (e.place ≡ crowd_path k)
+own_in : (k : ℕ) (x : HistoryEvent) → is_own k x ≡ true → (e : Edit) × IsAmong e (edits_in x) × (e.place ≡ crowd_place k)
 own_in k (Opening r) is = cc
 own_in k (Edited seat e) is =
-    let parts = and_parts (seat == k) (eq_by_cmp place_cmp e.place (crowd_path k)) is in
-    (e, inl refl, tied e.place (crowd_path k) parts.1)
+    let parts = and_parts (seat == k) (eq_by_cmp place_cmp e.place (crowd_place k)) is in
+    (e, inl refl, tied e.place (crowd_place k) parts.1)
 own_in k (Absorbed seat p) is = cc
 
-own_step : (k : ℕ) (x : HistoryEvent) (h : List HistoryEvent) → 0 < own_edits k (x ∷ h) → (0 < own_edits k h → (e : Edit) × IsAmong e (all_edits h) × (e.place ≡ crowd_path k))
-    → (b : Bool) → is_own k x ≡ b → (e : Edit) × IsAmong e (all_edits (x ∷ h)) × (e.place ≡ crowd_path k)
+own_step : (k : ℕ) (x : HistoryEvent) (h : List HistoryEvent) → 0 < own_edits k (x ∷ h) → (0 < own_edits k h → (e : Edit) × IsAmong e (all_edits h) × (e.place ≡ crowd_place k))
+    → (b : Bool) → is_own k x ≡ b → (e : Edit) × IsAmong e (all_edits (x ∷ h)) × (e.place ≡ crowd_place k)
 own_step k x h some rest true is = let r = own_in k x is in (r.0, IsAmong-append_left r.0 (edits_in x) (all_edits h) r.1, r.2)
 own_step k x h some rest false is =
     let parts = sum_by-cons (λ y. cond (is_own k y) 1 0) x h in
@@ -62,7 +62,7 @@ own_step k x h some rest false is =
     let r = rest (omega (arith, parts, none)) in
     (r.0, IsAmong-append_right r.0 (edits_in x) (all_edits h) r.1, r.2)
 
-own_there : (k : ℕ) (h : List HistoryEvent) → 0 < own_edits k h → (e : Edit) × IsAmong e (all_edits h) × (e.place ≡ crowd_path k)
+own_there : (k : ℕ) (h : List HistoryEvent) → 0 < own_edits k h → (e : Edit) × IsAmong e (all_edits h) × (e.place ≡ crowd_place k)
 own_there k [] some = absurd (omega arith)
 own_there k (x ∷ h) some = own_step k x h some (λ more. own_there k h more) (is_own k x) refl
 
@@ -107,32 +107,32 @@ module _ (workers edits : ℕ) (seats : List SeatNow) (count : length seats ≡ 
             let long = ap takes_in is in
             absurd (none_among t e (omega (arith, sum, takes, nothing, long)) a)
 
-    there : (q : Replicated) (t : List HistoryEvent) → q ≡ start → h ≡ Opening q ∷ t → AreAmongPaths (all_edits (Opening q ∷ t)) (edits_of start.store ++ map edit_at (crowd_paths workers edits))
+    there : (q : Replicated) (t : List HistoryEvent) → q ≡ start → h ≡ Opening q ∷ t → AreAmongPlaces (all_edits (Opening q ∷ t)) (edits_of start.store ++ map edit_at (crowd_places workers edits))
     there q t same is e a = by (IsAmong-append_cases e (edits_of q.store) (all_edits t) a)
       where
-        by : IsAmong e (edits_of q.store) ⊎ IsAmong e (all_edits t) → (f : Edit) × IsAmong f (edits_of start.store ++ map edit_at (crowd_paths workers edits)) × (f.place ≡ e.place)
-        by (inl b) = (e, IsAmong-append_left e (edits_of start.store) (map edit_at (crowd_paths workers edits)) (subst (λ (r : Replicated). IsAmong e (edits_of r.store)) same b), refl)
+        by : IsAmong e (edits_of q.store) ⊎ IsAmong e (all_edits t) → (f : Edit) × IsAmong f (edits_of start.store ++ map edit_at (crowd_places workers edits)) × (f.place ≡ e.place)
+        by (inl b) = (e, IsAmong-append_left e (edits_of start.store) (map edit_at (crowd_places workers edits)) (subst (λ (r : Replicated). IsAmong e (edits_of r.store)) same b), refl)
         by (inr b) =
             let r = edits_ours workers t (all_ours q t is) e b in
-            (edit_at (crowd_path r.0), IsAmong-append_right (edit_at (crowd_path r.0)) (edits_of start.store) (map edit_at (crowd_paths workers edits)) (in_paths workers edits r.0 r.1 (some_edits q t e is b)), sym r.2)
+            (edit_at (crowd_place r.0), IsAmong-append_right (edit_at (crowd_place r.0)) (edits_of start.store) (map edit_at (crowd_places workers edits)) (in_places workers edits r.0 r.1 (some_edits q t e is b)), sym r.2)
 
-    back : (q : Replicated) (t : List HistoryEvent) → q ≡ start → h ≡ Opening q ∷ t → AreAmongPaths (edits_of start.store ++ map edit_at (crowd_paths workers edits)) (all_edits (Opening q ∷ t))
-    back q t same is e a = by (IsAmong-append_cases e (edits_of start.store) (map edit_at (crowd_paths workers edits)) a)
+    back : (q : Replicated) (t : List HistoryEvent) → q ≡ start → h ≡ Opening q ∷ t → AreAmongPlaces (edits_of start.store ++ map edit_at (crowd_places workers edits)) (all_edits (Opening q ∷ t))
+    back q t same is e a = by (IsAmong-append_cases e (edits_of start.store) (map edit_at (crowd_places workers edits)) a)
       where
-        by : IsAmong e (edits_of start.store) ⊎ IsAmong e (map edit_at (crowd_paths workers edits)) → (f : Edit) × IsAmong f (all_edits (Opening q ∷ t)) × (f.place ≡ e.place)
+        by : IsAmong e (edits_of start.store) ⊎ IsAmong e (map edit_at (crowd_places workers edits)) → (f : Edit) × IsAmong f (all_edits (Opening q ∷ t)) × (f.place ≡ e.place)
         by (inl b) = (e, IsAmong-append_left e (edits_of q.store) (all_edits t) (subst (λ (r : Replicated). IsAmong e (edits_of r.store)) (sym same) b), refl)
         by (inr b) =
-            let from = from_paths workers edits e b in
+            let from = from_places workers edits e b in
             let own = own_all from.1.0 from.1.1 in
             let some = from.0 in
             let r = own_there from.1.0 h (omega (arith, own, some)) in
             (r.0, subst (λ (k : List HistoryEvent). IsAmong r.0 (all_edits k)) is r.1, r.2 ∙ from.1.2)
 
-    of_history : (k : List HistoryEvent) → h ≡ k → IsLegal start k → finmap.len (store_of k) ≡ paths_with start.store (crowd_paths workers edits)
+    of_history : (k : List HistoryEvent) → h ≡ k → IsLegal start k → finmap.len (store_of k) ≡ places_with start.store (crowd_places workers edits)
     of_history [] is legal = absurd legal
-    of_history (Opening q ∷ t) is legal = same_paths (all_edits (Opening q ∷ t)) (edits_of start.store ++ map edit_at (crowd_paths workers edits)) (there q t legal.0 is) (back q t legal.0 is)
+    of_history (Opening q ∷ t) is legal = same_places (all_edits (Opening q ∷ t)) (edits_of start.store ++ map edit_at (crowd_places workers edits)) (there q t legal.0 is) (back q t legal.0 is)
     of_history (Edited seat e ∷ t) is legal = absurd legal
     of_history (Absorbed seat p ∷ t) is legal = absurd legal
 
-    pub crowd_paths_held : IsLegal start h → finmap.len (store_of h) ≡ paths_with start.store (crowd_paths workers edits)
-    crowd_paths_held legal = of_history h refl legal
+    pub crowd_places_held : IsLegal start h → finmap.len (store_of h) ≡ places_with start.store (crowd_places workers edits)
+    crowd_places_held legal = of_history h refl legal

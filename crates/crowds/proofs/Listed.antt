@@ -7,7 +7,7 @@ use Rattle.std.proofs.lemmas.Bool.Decides.{leb_tells}
 use Rattle.std.proofs.Math.Dec.{leb}
 use Rattle.list_laws.specs.Members.{IsAmong}
 use Rattle.edit_sums.specs.declared.entries.Edit.{Edit}
-use Rattle.crowds.specs.Crowds.{crowd_path, crowd_paths, edit_at}
+use Rattle.crowds.specs.Crowds.{crowd_place, crowd_places, edit_at}
 
 among_map : {X Y : Type 0} (f : X → Y) (x : X) (xs : List X) → IsAmong x xs → IsAmong (f x) (map f xs)
 among_map f x [] a = absurd a
@@ -33,16 +33,16 @@ from_range a (suc n) k (inl e) = omega arith
 from_range a (suc n) k (inr h) = let r = from_range (a + 1) n k h in omega arith
 
 -- the edit at the path of a worker, where there are edits
-pub in_paths : (workers edits k : ℕ) → k < workers → 0 < edits → IsAmong (edit_at (crowd_path k)) (map edit_at (crowd_paths workers edits))
-in_paths workers edits k lt some =
+pub in_places : (workers edits k : ℕ) → k < workers → 0 < edits → IsAmong (edit_at (crowd_place k)) (map edit_at (crowd_places workers edits))
+in_places workers edits k lt some =
     let is : (edits == 0) ≡ false = ne_eqb edits 0 (λ same. absurd (omega arith)) in
-    subst (λ b. IsAmong (edit_at (crowd_path k)) (map edit_at (if b then [] else map crowd_path (range_with_len 0 workers)))) (sym is)
-    (among_map edit_at (crowd_path k) (map crowd_path (range_with_len 0 workers)) (among_map crowd_path k (range_with_len 0 workers) (among_range 0 workers k (omega arith) (omega arith))))
+    subst (λ b. IsAmong (edit_at (crowd_place k)) (map edit_at (if b then [] else map crowd_place (range_with_len 0 workers)))) (sym is)
+    (among_map edit_at (crowd_place k) (map crowd_place (range_with_len 0 workers)) (among_map crowd_place k (range_with_len 0 workers) (among_range 0 workers k (omega arith) (omega arith))))
 
-from_some : (workers : ℕ) (f : Edit) → IsAmong f (map edit_at (map crowd_path (range_with_len 0 workers))) → (k : ℕ) × (k < workers) × (crowd_path k ≡ f.place)
+from_some : (workers : ℕ) (f : Edit) → IsAmong f (map edit_at (map crowd_place (range_with_len 0 workers))) → (k : ℕ) × (k < workers) × (crowd_place k ≡ f.place)
 from_some workers f h =
-    let at = from_map edit_at f (map crowd_path (range_with_len 0 workers)) h in
-    let worker = from_map crowd_path at.0 (range_with_len 0 workers) at.1 in
+    let at = from_map edit_at f (map crowd_place (range_with_len 0 workers)) h in
+    let worker = from_map crowd_place at.0 (range_with_len 0 workers) at.1 in
     let within = from_range 0 workers worker.0 worker.1 in
     (worker.0, omega arith, worker.2 ∙ ap (λ (e : Edit). e.place) at.2)
 
@@ -51,9 +51,9 @@ not_zero zero is = cc
 not_zero (suc n) is = omega arith
 
 -- each of these edits is at the path of a worker, and there are edits
-pub from_paths : (workers edits : ℕ) (f : Edit) → IsAmong f (map edit_at (crowd_paths workers edits)) → (0 < edits) × ((k : ℕ) × (k < workers) × (crowd_path k ≡ f.place))
-from_paths workers edits f h = by (edits == 0) refl h
+pub from_places : (workers edits : ℕ) (f : Edit) → IsAmong f (map edit_at (crowd_places workers edits)) → (0 < edits) × ((k : ℕ) × (k < workers) × (crowd_place k ≡ f.place))
+from_places workers edits f h = by (edits == 0) refl h
   where
-    by : (b : Bool) → (edits == 0) ≡ b → IsAmong f (map edit_at (if b then [] else map crowd_path (range_with_len 0 workers))) → (0 < edits) × ((k : ℕ) × (k < workers) × (crowd_path k ≡ f.place))
+    by : (b : Bool) → (edits == 0) ≡ b → IsAmong f (map edit_at (if b then [] else map crowd_place (range_with_len 0 workers))) → (0 < edits) × ((k : ℕ) × (k < workers) × (crowd_place k ≡ f.place))
     by true is a = absurd a
     by false is a = (not_zero edits is, from_some workers f a)

@@ -1,8 +1,7 @@
 -- What was made of a text that is lawful.
 use Rattle.std.proofs.Common.{◌≡◌, ℕ, Bool, true, false, List, ◌⊎◌, inl, inr, Ok, Err}
 use Rattle.std.specs.Prelude.{if◌then◌else◌}
-use Rattle.load_path.specs.Paths.{path_of}
-use Rattle.load_places.specs.Places.{PlaceParts}
+use Rattle.load_path.specs.Paths.{PathParts, path_of}
 use Rattle.load_path.specs.declared.paths.PathFault.TheVariants as path
 use Rattle.edit_sums.specs.Contents.{file_of}
 use Rattle.edit_sums.specs.Limits.{is_file}
@@ -18,6 +17,6 @@ file_is made bytes (inr e) = by (is_file bytes) e
     by true e = cc
     by false e = cc
 
-pub path_is : (made parts : PlaceParts) (text : List ℕ) → ((Ok made ≡ Err path.Memory) ⊎ (Ok made ≡ path_of text)) → path_of text ≡ Ok parts → made ≡ parts
+pub path_is : (made parts : PathParts) (text : List ℕ) → ((Ok made ≡ Err path.Memory) ⊎ (Ok made ≡ path_of text)) → path_of text ≡ Ok parts → made ≡ parts
 path_is made parts text (inl e) is = cc
 path_is made parts text (inr e) is = cc

@@ -13,13 +13,13 @@ use Rattle.load_places.specs.Places.{place_cmp}
 use Rattle.edit_sums.specs.declared.entries.Edit.{Edit}
 use Rattle.node_histories.specs.declared.events.HistoryEvent.{HistoryEvent}
 use Rattle.node_histories.specs.declared.events.HistoryEvent.TheVariants.{Opening, Edited, Absorbed}
-use Rattle.crowds.specs.Crowds.{crowd_path}
+use Rattle.crowds.specs.Crowds.{crowd_place}
 use Rattle.crowds.specs.Workers.{is_own, own_edits}
 
 -- an edit of a worker's own file, the worker one of so many
 abbrev pub is_ours : ℕ → HistoryEvent → Bool
 is_ours workers (Opening replica) = false
-is_ours workers (Edited seat e) = nat_lt seat workers && eq_by_cmp place_cmp e.place (crowd_path seat)
+is_ours workers (Edited seat e) = nat_lt seat workers && eq_by_cmp place_cmp e.place (crowd_place seat)
 is_ours workers (Absorbed seat piece) = false
 
 three : (a b : ℕ) → (a < b) ⊎ ((a ≡ b) ⊎ (b < a))
@@ -40,7 +40,7 @@ edited_more n seat e (inr (inl same)) =
     let a : nat_lt seat (suc n) ≡ true = lt-ltb seat (suc n) (omega arith) in
     let b : nat_lt seat n ≡ false = le-ltb seat n (omega arith) in
     let d : (seat == n) ≡ true = eq-eqb seat n same in
-    let path : ◌≡◌ {A = ℕ} (cond (eq_by_cmp place_cmp e.place (crowd_path seat)) 1 0) (cond (eq_by_cmp place_cmp e.place (crowd_path n)) 1 0) = ap (λ k. cond (eq_by_cmp place_cmp e.place (crowd_path k)) 1 0) same in
+    let path : ◌≡◌ {A = ℕ} (cond (eq_by_cmp place_cmp e.place (crowd_place seat)) 1 0) (cond (eq_by_cmp place_cmp e.place (crowd_place n)) 1 0) = ap (λ k. cond (eq_by_cmp place_cmp e.place (crowd_place k)) 1 0) same in
     simp (a, b, d) (omega (arith, path))
 edited_more n seat e (inr (inr gt)) =
     let a : nat_lt seat (suc n) ≡ false = le-ltb seat (suc n) (omega arith) in

@@ -10,7 +10,7 @@ use Rattle.edit_sums.specs.GreatestLaws.{same_place}
 use Rattle.node_histories.specs.declared.events.HistoryEvent.{HistoryEvent}
 use Rattle.node_histories.specs.declared.events.HistoryEvent.TheVariants.{Edited}
 use Rattle.node_histories.specs.Histories.{EndsWith}
-use Rattle.crowds.specs.Crowds.{crowd_path}
+use Rattle.crowds.specs.Crowds.{crowd_place}
 use Rattle.crowds.specs.Workers.{is_own, own_edits}
 
 pub own_grows : (worker : ℕ) (seen h : List HistoryEvent) → IsPrefix seen h → own_edits worker seen ≤ own_edits worker h
@@ -18,10 +18,10 @@ own_grows worker seen h p =
     let parts = sum_by-append (λ x. cond (is_own worker x) 1 0) seen p.0 in
     subst (λ (k : List HistoryEvent). own_edits worker seen ≤ own_edits worker k) p.1 (omega (arith, parts))
 
-own_is : (worker : ℕ) (e : Edit) → e.place ≡ crowd_path worker → is_own worker (Edited worker e) ≡ true
-own_is worker e at = and_from (worker == worker) _ (eq-eqb worker worker refl) (ap (λ (q : PlaceParts). eq_by_cmp place_cmp q (crowd_path worker)) at ∙ same_place (crowd_path worker))
+own_is : (worker : ℕ) (e : Edit) → e.place ≡ crowd_place worker → is_own worker (Edited worker e) ≡ true
+own_is worker e at = and_from (worker == worker) _ (eq-eqb worker worker refl) (ap (λ (q : PlaceParts). eq_by_cmp place_cmp q (crowd_place worker)) at ∙ same_place (crowd_place worker))
 
-pub own_more : (worker : ℕ) (seen h : List HistoryEvent) (e : Edit) → e.place ≡ crowd_path worker → EndsWith seen h (Edited worker e) → own_edits worker seen + 1 ≤ own_edits worker h
+pub own_more : (worker : ℕ) (seen h : List HistoryEvent) (e : Edit) → e.place ≡ crowd_place worker → EndsWith seen h (Edited worker e) → own_edits worker seen + 1 ≤ own_edits worker h
 own_more worker seen h e at ends =
     let up = own_grows worker seen ends.0 ends.1 in
     let more = sum_by_push (λ x. cond (is_own worker x) 1 0) ends.0 (Edited worker e) in

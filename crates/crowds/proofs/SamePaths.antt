@@ -59,14 +59,14 @@ same_len s t same =
     len_bared s ∙ ap (λ m. length (finmap.entries m)) one ∙ sym (len_bared t)
 
 -- each of these edits has one of the others at its path
-abbrev pub AreAmongPaths : List Edit → List Edit → Type 0
-AreAmongPaths es fs = (e : Edit) → IsAmong e es → (f : Edit) × IsAmong f fs × (f.place ≡ e.place)
+abbrev pub AreAmongPlaces : List Edit → List Edit → Type 0
+AreAmongPlaces es fs = (e : Edit) → IsAmong e es → (f : Edit) × IsAmong f fs × (f.place ≡ e.place)
 
 some_above : (x : Entry) (o : Option Entry) → IsBelow (Some x) o → is_some o ≡ true
 some_above x None below = absurd below
 some_above x (Some y) below = refl
 
-held_too : (es fs : List Edit) (q : PlaceParts) → AreAmongPaths es fs → is_some (greatest_at q es) ≡ true → is_some (greatest_at q fs) ≡ true
+held_too : (es fs : List Edit) (q : PlaceParts) → AreAmongPlaces es fs → is_some (greatest_at q es) ≡ true → is_some (greatest_at q fs) ≡ true
 held_too es fs q among = by (greatest_at q es) refl
   where
     by : (o : Option Entry) → greatest_at q es ≡ o → is_some o ≡ true → is_some (greatest_at q fs) ≡ true
@@ -82,6 +82,6 @@ same_truth false true there back = back refl
 same_truth false false there back = refl
 
 -- edits of the same paths give as many paths
-pub same_paths : (es fs : List Edit) → AreAmongPaths es fs → AreAmongPaths fs es → finmap.len (sum_of es) ≡ finmap.len (sum_of fs)
-same_paths es fs there back =
+pub same_places : (es fs : List Edit) → AreAmongPlaces es fs → AreAmongPlaces fs es → finmap.len (sum_of es) ≡ finmap.len (sum_of fs)
+same_places es fs there back =
     same_len (sum_of es) (sum_of fs) (λ q. ap is_some (get-sum_of es q) ∙ same_truth (is_some (greatest_at q es)) (is_some (greatest_at q fs)) (held_too es fs q there) (held_too fs es q back) ∙ ap is_some (sym (get-sum_of fs q)))

@@ -1,30 +1,36 @@
--- What a crowd writes, and how many paths are held then.
+-- What a crowd writes, and how many places are held then.
 -- Source: this project's own.
 use Rattle.std.specs.Prelude.{ℕ, ◌==◌, codes, if◌then◌else◌, List, [], ◌++◌, map}
 use Rattle.std.specs.List.{range_with_len}
 use Rattle.std.specs.Fmt.{decimal}
 use Rattle.std.specs.FinMap as finmap
+use Rattle.load_path.specs.Paths.{PathParts}
 use Rattle.load_places.specs.Places.{PlaceParts}
+use Rattle.load_places.specs.declared.places.Scope.TheVariants.{Fleet}
 use Rattle.edit_sums.specs.declared.contents.Content.TheVariants.{Gone}
 use Rattle.edit_sums.specs.declared.entries.Edit.{Edit}
 use Rattle.edit_sums.specs.Sums.{EntryMap, edits_of, sum_of}
 
 -- the path of a worker's own file
-unfoldable pub crowd_path : ℕ → PlaceParts
+unfoldable pub crowd_path : ℕ → PathParts
 crowd_path worker = record { rank = 0; folder = []; name = codes "crowd-" ++ decimal worker ++ codes ".service" }
+
+-- the file is the whole fleet's
+abbrev pub crowd_place : ℕ → PlaceParts
+crowd_place worker = record { scope = Fleet; path = crowd_path worker }
 
 -- what a worker writes at its edit of this number
 abbrev pub crowd_text : ℕ → ℕ → List ℕ
 crowd_text worker number = codes "[Unit]\nDescription=" ++ decimal worker ++ codes " " ++ decimal number ++ codes "\n"
 
--- the paths that so many workers write, each with so many edits
-abbrev pub crowd_paths : ℕ → ℕ → List PlaceParts
-crowd_paths workers edits = if edits == 0 then [] else map crowd_path (range_with_len 0 workers)
+-- the places that so many workers write, each with so many edits
+abbrev pub crowd_places : ℕ → ℕ → List PlaceParts
+crowd_places workers edits = if edits == 0 then [] else map crowd_place (range_with_len 0 workers)
 
--- an edit at a path; its version and content don't matter where paths are counted
+-- an edit at a place; its version and content don't matter where places are counted
 abbrev pub edit_at : PlaceParts → Edit
-edit_at path = record { place = path; version = record { counter = 0; writer = 0 }; content = Gone }
+edit_at place = record { place = place; version = record { counter = 0; writer = 0 }; content = Gone }
 
--- how many paths are held by the sum of what a store has and of edits at these paths
-abbrev pub paths_with : EntryMap → List PlaceParts → ℕ
-paths_with s paths = finmap.len (sum_of (edits_of s ++ map edit_at paths))
+-- how many places are held by the sum of what a store has and of edits at these places
+abbrev pub places_with : EntryMap → List PlaceParts → ℕ
+places_with s places = finmap.len (sum_of (edits_of s ++ map edit_at places))

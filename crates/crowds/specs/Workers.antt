@@ -6,12 +6,12 @@ use Rattle.load_places.specs.Places.{place_cmp}
 use Rattle.node_histories.specs.declared.events.HistoryEvent.{HistoryEvent}
 use Rattle.node_histories.specs.declared.events.HistoryEvent.TheVariants.{Opening, Edited, Absorbed}
 use Rattle.shared_node.specs.Seats.{SeatNow}
-use Rattle.crowds.specs.Crowds.{crowd_path}
+use Rattle.crowds.specs.Crowds.{crowd_place}
 
 -- the event is an edit of the worker's own file, from the seat of its number
 abbrev pub is_own : ℕ → HistoryEvent → Bool
 is_own worker (Opening replica) = false
-is_own worker (Edited seat edit) = seat == worker && eq_by_cmp place_cmp edit.place (crowd_path worker)
+is_own worker (Edited seat edit) = seat == worker && eq_by_cmp place_cmp edit.place (crowd_place worker)
 is_own worker (Absorbed seat piece) = false
 
 -- how many events are that

@@ -5,7 +5,7 @@ ghost use Rattle.edit_sums.specs.Sums.{high_of};
 ghost use Rattle.node_histories.specs.Histories.{IsLegal, replica_of, takes_in};
 ghost use Rattle.shared_node.specs.Seats.{AllAgree};
 ghost use Rattle.crowds.specs.declared.faults.CrowdFault.TheVariants.{Seats};
-ghost use Rattle.crowds.specs.Crowds.{crowd_paths, paths_with};
+ghost use Rattle.crowds.specs.Crowds.{crowd_places, places_with};
 
 use crate::faults::CrowdFault;
 use crate::threads::work_side_by_side;
@@ -24,7 +24,7 @@ pub const MOST_EDITS: u64 = 1_000;
 /// So many counters a crowd takes at most.
 pub const ROOM: u64 = 64_000;
 
-/// What a crowd came to: how many takes its node had as it was closed, and how many paths it held, those of removals
+/// What a crowd came to: how many takes its node had as it was closed, and how many places it held, those of removals
 /// too.
 #[derive(Clone, Copy, Debug, PartialEq, Eq)]
 pub struct Counted {
@@ -71,7 +71,7 @@ fn crowd_at<N: NodeName + Send + Sync, R: Threads + Wait + Sync, G: Gate + Sync>
     requires opening { blank.opening ≡ N.opening }
     requires seats { blank.seats ≡ N.seats }
     ensures takes { IfOk result (λ counted. counted.takes ≡ seats * edits) }
-    ensures paths { IfOk result (λ counted. counted.paths ≡ paths_with N.opening.store (crowd_paths seats edits)) }
+    ensures paths { IfOk result (λ counted. counted.paths ≡ places_with N.opening.store (crowd_places seats edits)) }
 {
     let node = Node::<N>::open(blank);
     match work_side_by_side(rt, alloc, &node, seats, edits, gate) {
@@ -90,7 +90,7 @@ fn crowd_at<N: NodeName + Send + Sync, R: Threads + Wait + Sync, G: Gate + Sync>
 }
 
 /// Lets so many workers edit a copy of a replica side by side, as one node with a seat for each, and tells how many
-/// takes and paths it had at its end. The copy is dropped, and the replica is as it was.
+/// takes and places it had at its end. The copy is dropped, and the replica is as it was.
 ///
 /// Worker K, from 0, makes its edits J, from 0, one after another, each of the file
 /// `/etc/systemd/system/crowd-K.service` with the lines `[Unit]` and `Description=K J`. Before its first it asks the
@@ -111,7 +111,7 @@ pub fn crowd<R: Threads + Wait + Sync, G: Gate + Sync>(
     requires edits { edits ≤ MOST_EDITS }
     requires room { high_of replica.now.store ≤ u64.MAX - ROOM }
     ensures takes { IfOk result (λ counted. counted.takes ≡ seats * edits) }
-    ensures paths { IfOk result (λ counted. counted.paths ≡ paths_with replica.now.store (crowd_paths seats edits)) }
+    ensures paths { IfOk result (λ counted. counted.paths ≡ places_with replica.now.store (crowd_places seats edits)) }
     ensures seats { (result ≡ Err Seats) ↔ ((seats ≡ 0) ⊎ (64 < seats)) }
 {
     if seats == 0 || seats > MOST_SEATS {

@@ -1,5 +1,5 @@
 //! Crowds: so many workers at one node, in a thread each, that edit it side by side. `crowd` tells how many takes
-//! the node had and how many paths it held, and nothing else is left of it.
+//! the node had and how many places it held, and nothing else is left of it.
 //!
 //! Promise: the count at close is exact.
 //!

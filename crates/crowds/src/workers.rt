@@ -2,7 +2,7 @@
 ghost use Rattle.std.specs.Prelude.{◌≡◌, ◌+◌, ◌≤◌, IfOk, OnOk};
 ghost use Rattle.crowds.specs.Workers.{own_edits, HasWorked};
 
-use crate::texts::{file_of, path_of};
+use crate::texts::{file_of, place_of};
 use node_histories::NodeName;
 use shared_node::{Node, Seat};
 use std::alloc::{AllocError, Global};
@@ -22,9 +22,9 @@ fn edit_once<N: NodeName, R: Wait>(
     ensures own { OnOk result (own_edits seat.old.number seat.old.seen + 1
         ≤ own_edits seat.old.number seat.new.seen) }
 {
-    let path = path_of(alloc, seat.number())?;
+    let place = place_of(alloc, seat.number())?;
     let content = file_of(alloc, seat.number(), number)?;
-    match node.edit(rt, seat, path, content) {
+    match node.edit(rt, seat, place, content) {
         Ok(_) => Ok(()),
         Err(_) => Err(AllocError),
     }

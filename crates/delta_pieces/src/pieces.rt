@@ -1,13 +1,14 @@
 //! Pieces.
-ghost use Rattle.std.specs.Prelude.{◌≡◌, ◌↔◌, [], length, take, drop, IsTrue, IfOk, IfErr};
+ghost use Rattle.std.specs.Prelude.{◌≡◌, ◌↔◌, [], length, map, take, drop, IsTrue, IfOk, IfErr};
 ghost use Rattle.std.specs.FinMap as finmap;
+ghost use Rattle.edit_sums.specs.Flat.{at_fleet};
 ghost use Rattle.edit_sums.specs.Sums.{join, sum_of};
 ghost use Rattle.world_law.specs.Cuts.{only_at};
 
 use crate::copies::gather;
 use crate::digests::Digest;
 use crate::newer::newer_at;
-use edit_sums::Edit;
+use edit_sums::{Edit, FlatEdit};
 use join_law::Rest;
 use load_places::Place;
 use replica_store::Store;
@@ -40,6 +41,16 @@ impl Piece {
     {
         Ok(Piece {
             store: Store::from_edits(alloc, edits)?,
+        })
+    }
+
+    /// The sum of edits of before there were hosts, each the fleet's, as a piece. O(n log n). It fails for want of memory
+    /// alone.
+    pub fn from_flat(alloc: Global, edits: &[FlatEdit]) -> Result<Piece, AllocError>
+        ensures sum { IfOk result (λ piece. piece ≡ sum_of (map at_fleet edits.now)) }
+    {
+        Ok(Piece {
+            store: Store::from_flat(alloc, edits)?,
         })
     }
 

@@ -1,10 +1,11 @@
 -- What a folder's paths say of a file name.
-use Rattle.std.proofs.Common.{◌≡◌, ℕ, Bool, true, false, cond, ◌&&◌, ◌||◌, ◌==◌, Option, Some, None, is_some, List, [], ◌∷◌, filter, map, inl, inr, refl, ap, sym, ◌∙◌, eq-eqb}
+use Rattle.std.proofs.Common.{◌≡◌, ℕ, Bool, true, false, cond, ◌&&◌, ◌||◌, ◌==◌, Option, Some, None, is_some, List, [], ◌∷◌, filter, map, inl, inr, IsTrue, refl, ap, sym, ◌∙◌, eq-eqb}
 use Rattle.std.specs.Option.{option_and_then, option_or}
 use Rattle.std.specs.List.{list_any}
 use Rattle.std.specs.Str.{bytes_eq}
-use Rattle.std.specs.Ordering.{eq_by_cmp, is_eq}
+use Rattle.std.specs.Ordering.{eq_by_cmp, is_eq, ordering_reverse}
 use Rattle.std.specs.FinMap as finmap
+use Rattle.std.specs.FinMap.Entries.{find, is_sorted, below_all}
 use Rattle.std.specs.FinMap.{contains_key-keys}
 use Rattle.std.proofs.lemmas.Cmp.{tied_itself}
 use Rattle.std.proofs.lemmas.Bool.{and_parts, eqb-true, and_from}
@@ -12,15 +13,34 @@ use Rattle.std.proofs.lemmas.Slice.Eq.{bytes_eq-Decides}
 use Rattle.load_path.specs.Paths.{PathParts, path_cmp}
 use Rattle.load_path.specs.PathLaws.{path_cmp_total, path_cmp-IsAntisymmetric}
 use Rattle.edit_sums.specs.Entries.{Entry}
-use Rattle.edit_sums.specs.Sums.{EntryMap, edit_of}
-use Rattle.edit_sums.specs.GreatestLaws.{get_from_edits_of}
+use Rattle.path_maps.specs.Views.{View}
 use Rattle.list_laws.specs.Members.{IsAmong}
 use Rattle.path_maps.specs.Folders.{is_in}
 use Rattle.dropins.specs.declared.precedence.Search.{Search}
 use Rattle.list_laws.specs.FirstSaid.{first_said}
-use Rattle.list_laws.specs.Orderings.{is_equal}
+use Rattle.list_laws.specs.Orderings.{is_equal, is_less}
+use Rattle.list_laws.specs.Truths.{from_T}
 use Rattle.dropins.specs.Walks.{path, said_for, take_at, take_of}
 use Rattle.dropins.proofs.Firsts.{said_among}
+
+-- ---- what is seen at the path of an entry
+
+below_among : (q : PathParts) (es : List (PathParts × Entry)) → IsTrue (below_all path_cmp q es) → (p : PathParts × Entry) → IsAmong p es → eq_by_cmp path_cmp p.0 q ≡ false
+below_among q [] b p a = absurd a
+below_among q (e ∷ es) b p (inl same) =
+    ap (λ (x : PathParts × Entry). eq_by_cmp path_cmp x.0 q) (sym same) ∙ ap is_eq (path_cmp_total.antisymm e.0 q ∙ ap ordering_reverse (is_less _ (and_parts _ _ b).0))
+below_among q (e ∷ es) b p (inr a) = below_among q es (and_parts _ _ b).1 p a
+
+own_entry : (es : List (PathParts × Entry)) → IsTrue (is_sorted path_cmp es) → (p : PathParts × Entry) → IsAmong p es → find path_cmp p.0 es ≡ Some p.1
+own_entry [] s p a = absurd a
+own_entry (e ∷ es) s p (inl same) =
+    ap (λ (x : PathParts × Entry). cond (eq_by_cmp path_cmp x.0 e.0) (Some e.1) (find path_cmp x.0 es)) (sym same)
+    ∙ ap (λ o. cond (is_eq o) (Some e.1) (find path_cmp e.0 es)) (tied_itself path_cmp_total e.0) ∙ ap (λ (x : PathParts × Entry). Some x.1) same
+own_entry (e ∷ es) s p (inr a) =
+    ap (λ b. cond b (Some e.1) (find path_cmp p.0 es)) (below_among e.0 es (and_parts _ _ s).0 p a) ∙ own_entry es (and_parts (below_all path_cmp e.0 es) _ s).1 p a
+
+seen_entry : (v : View) (p : PathParts × Entry) → IsAmong p (finmap.entries v) → finmap.get v p.0 ≡ Some p.1
+seen_entry v p a = finmap.get-entries v p.0 ∙ own_entry (finmap.entries v) (from_T _ (finmap.entries_sorted v)) p a
 
 module _ (r : ℕ) (d f : List ℕ) where
   same_path : (k : PathParts) → is_in r d k ≡ true → bytes_eq k.name f ≡ true → k ≡ path r d f
@@ -49,7 +69,7 @@ module _ (r : ℕ) (d f : List ℕ) where
       step false n true hi hn he = sym (back he) ∙ ap (λ b. b && bytes_eq k.name f) hi
       step false n false hi hn he = refl
 
-  among : (s : EntryMap) (x : Search) (ks : List PathParts) → first_said (λ p. cond (bytes_eq p.name f) (take_at s x p) None) (filter (is_in r d) ks) ≡ cond (list_any (eq_by_cmp path_cmp (path r d f)) ks) (take_at s x (path r d f)) None
+  among : (s : View) (x : Search) (ks : List PathParts) → first_said (λ p. cond (bytes_eq p.name f) (take_at s x p) None) (filter (is_in r d) ks) ≡ cond (list_any (eq_by_cmp path_cmp (path r d f)) ks) (take_at s x (path r d f)) None
   among s x [] = refl
   among s x (k ∷ ks) =
       said_among (λ p. cond (bytes_eq p.name f) (take_at s x p) None) k (filter (is_in r d) ks) (is_in r d k) (bytes_eq k.name f) (list_any (eq_by_cmp path_cmp (path r d f)) ks) (take_at s x k) (take_at s x (path r d f)) refl (λ i n. ap (take_at s x) (same_path k i n)) (among s x ks)
@@ -60,14 +80,14 @@ module _ (r : ℕ) (d f : List ℕ) where
   none_held x (Some e) = refl
 
   -- the paths of a folder say what stands at the path of a file name there
-  folder_says : (s : EntryMap) (x : Search) → first_said (λ p. cond (bytes_eq p.name f) (take_at s x p) None) (filter (is_in r d) (finmap.keys s)) ≡ take_at s x (path r d f)
+  folder_says : (s : View) (x : Search) → first_said (λ p. cond (bytes_eq p.name f) (take_at s x p) None) (filter (is_in r d) (finmap.keys s)) ≡ take_at s x (path r d f)
   folder_says s x =
       among s x (finmap.keys s)
       ∙ ap (λ b. cond b (take_at s x (path r d f)) None) (sym (contains_key-keys s (path r d f)))
       ∙ none_held x (finmap.get s (path r d f))
 
-  -- entries of the store say what stands at their paths
-  entries_say : (s : EntryMap) (x : Search) (es : List (PathParts × Entry)) → ((p : PathParts × Entry) → IsAmong (edit_of p) (map edit_of es) → finmap.get s p.0 ≡ Some p.1)
+  -- entries of what is seen say what stands at their paths
+  entries_say : (s : View) (x : Search) (es : List (PathParts × Entry)) → ((p : PathParts × Entry) → IsAmong p es → finmap.get s p.0 ≡ Some p.1)
       → first_said (said_for x f) (filter (λ p. is_in r d p.0) es) ≡ first_said (λ p. cond (bytes_eq p.name f) (take_at s x p) None) (filter (is_in r d) (map (λ p. p.0) es))
   entries_say s x [] held = refl
   entries_say s x (p ∷ es) held =
@@ -78,5 +98,5 @@ module _ (r : ℕ) (d f : List ℕ) where
         | false ↦ rest
       ]
 
-  pub folder_entries_say : (s : EntryMap) (x : Search) → first_said (said_for x f) (filter (λ p. is_in r d p.0) (finmap.entries s)) ≡ take_at s x (path r d f)
-  folder_entries_say s x = entries_say s x (finmap.entries s) (λ p h. get_from_edits_of (edit_of p) s h) ∙ folder_says s x
+  pub folder_entries_say : (s : View) (x : Search) → first_said (said_for x f) (filter (λ p. is_in r d p.0) (finmap.entries s)) ≡ take_at s x (path r d f)
+  folder_entries_say s x = entries_say s x (finmap.entries s) (seen_entry s) ∙ folder_says s x

@@ -7,7 +7,8 @@ use Rattle.std.proofs.lemmas.Option.{same_Some}
 use Rattle.list_laws.specs.FirstSaid.{first_is, first_said, first_same}
 use Rattle.load_path.specs.Paths.{PathParts}
 use Rattle.edit_sums.specs.Entries.{Entry}
-use Rattle.edit_sums.specs.Sums.{EntryMap, shown}
+use Rattle.edit_sums.specs.Sums.{shown}
+use Rattle.path_maps.specs.Views.{View}
 use Rattle.dropins.specs.declared.precedence.Search.{Search}
 use Rattle.dropins.specs.declared.precedence.Take.{Take}
 use Rattle.dropins.specs.declared.precedence.Take.TheVariants.{Nothing, Placed}
@@ -29,7 +30,7 @@ lent_path q e None h = refl
 lent_path q e (Some Mask) h = refl
 lent_path q e (Some (At p)) h = ap (λ r. Some (At r)) (sym h)
 
-seen_at : (s : EntryMap) (x : Search) (q : PathParts) → option_map seen (take_at s x q) ≡ candidate_at s x q
+seen_at : (s : View) (x : Search) (q : PathParts) → option_map seen (take_at s x q) ≡ candidate_at s x q
 seen_at s x q = by (finmap.get s q)
   where
     by : (o : Option Entry) → option_map seen (option_and_then (λ e. take_of x (q, e)) o) ≡ option_and_then (as_found x q) (option_and_then shown o)
@@ -44,7 +45,7 @@ first_map {B = B} {C = C} h g (a ∷ as_left) = by (g a) ∙ ap (option_or (opti
     by None = refl
     by (Some b) = refl
 
-module _ (s : EntryMap) (x : Search) (ds : List (List ℕ)) where
+module _ (s : View) (x : Search) (ds : List (List ℕ)) where
   seen_in : (f : List ℕ) (r : ℕ) → option_map seen (took_in s x ds f r) ≡ taken_in s x ds f r
   seen_in f r = first_map seen (λ d. take_at s x (path r d f)) ds ∙ first_same (λ d. option_map seen (take_at s x (path r d f))) (λ d. candidate_at s x (path r d f)) (λ d. seen_at s x (path r d f)) ds
 
@@ -89,7 +90,7 @@ module _ (s : EntryMap) (x : Search) (ds : List (List ℕ)) where
           ap (λ (y : PathParts × Entry). Some (Placed y)) (λ i. (path_is i, entry_is i))
 
 -- what both lists of folders lend
-module _ (s : EntryMap) (x : Search) (ds ts : List (List ℕ)) where
+module _ (s : View) (x : Search) (ds ts : List (List ℕ)) where
   pub over_name : (f : List ℕ) (p : PathParts × Entry) → took_over s x ds ts f ≡ Some (Placed p) → p.0.name ≡ f
   over_name f p h = by (took s x ds f) refl h
     where

@@ -14,7 +14,7 @@ use Rattle.std.proofs.lemmas.Map.Views.{btree_map_get_iff}
 use Rattle.list_laws.specs.Members.{none_there, only_one}
 use Rattle.load_path.specs.Paths.{PathParts}
 use Rattle.edit_sums.specs.Entries.{Entry}
-use Rattle.edit_sums.specs.Sums.{EntryMap}
+use Rattle.path_maps.specs.Views.{View}
 use Rattle.unit_name.specs.Names.{Name, is_name, IsName, name_cmp}
 use Rattle.unit_name.specs.NameLaws.{name_cmp-IsAntisymmetric}
 use Rattle.dropins.specs.declared.precedence.Take.{Take}
@@ -74,7 +74,7 @@ there_given (e ∷ es) f p c = pick (there_given es f p) (Contains-append_cases 
     pick more (inl o) = subst (λ d. Contains (given d.1 ++ unmasked es) p) (sym (only_one e (f, Placed p) o)) (Contains-append_left (p ∷ []) (unmasked es) p (Contains-push [] p))
     pick more (inr o) = Contains-append_right (given e.1) (unmasked es) p (more o)
 
-module _ (s : EntryMap) (x : Search) (ds ts : List (List ℕ)) (m : BTreeMap (List ℕ) Take) (ordered : IsOrdered name_cmp m) (says : (f : List ℕ) → get name_cmp m f ≡ took_over s x ds ts f) where
+module _ (s : View) (x : Search) (ds ts : List (List ℕ)) (m : BTreeMap (List ℕ) Take) (ordered : IsOrdered name_cmp m) (says : (f : List ℕ) → get name_cmp m f ≡ took_over s x ds ts f) where
   entry_is : (f : List ℕ) (v : Take) → (get name_cmp m f ≡ Some v) ↔ Contains m.entries (f, v)
   entry_is f v = btree_map_get_iff nat_list_cmp_total name_cmp-IsAntisymmetric m ordered f v
 
@@ -137,7 +137,7 @@ entry_there (p ∷ ps) n c = pick (entry_there ps n) (Contains-append_cases (p.0
     pick more (inr o) = let h = more o in record { entry = h.entry; there = Contains-append_right (p ∷ []) ps h.entry h.there; name_is = h.name_is }
 
 -- the unit names among the file names of what is taken are those that are linked
-pub linked : (s : EntryMap) (fs : List Name) (d : Folder) (ps : List (PathParts × Entry)) → ((p : PathParts × Entry) → Contains ps p ↔ (IsTakenOver s Links (dirs_with (ending d) fs) [] (At p.0) p.0 × (finmap.get s p.0 ≡ Some p.1)))
+pub linked : (s : View) (fs : List Name) (d : Folder) (ps : List (PathParts × Entry)) → ((p : PathParts × Entry) → Contains ps p ↔ (IsTakenOver s Links (dirs_with (ending d) fs) [] (At p.0) p.0 × (finmap.get s p.0 ≡ Some p.1)))
     → (ns : List Name) → ns ≡ filter is_name (map entry_name ps) → (n : Name) → Contains ns n ↔ IsLinkedOf s fs d n
 linked s fs d ps ex ns e n = (there, back)
   where

@@ -9,7 +9,8 @@ use Rattle.std.proofs.lemmas.List.Elements.{Contains-append_cases, Contains-appe
 use Rattle.list_laws.specs.Members.{none_there, only_one}
 use Rattle.load_path.specs.Paths.{PathParts}
 use Rattle.edit_sums.specs.Entries.{Entry}
-use Rattle.edit_sums.specs.Sums.{EntryMap, shown}
+use Rattle.edit_sums.specs.Sums.{shown}
+use Rattle.path_maps.specs.Views.{View}
 use Rattle.unit_name.specs.Names.{Name, name_cmp}
 use Rattle.dropins.specs.declared.precedence.Search.{Search}
 use Rattle.dropins.specs.declared.precedence.Search.TheVariants.{DropIns}
@@ -18,11 +19,11 @@ use Rattle.dropins.specs.Taken.Candidate.{At}
 
 -- the paths of the entries of a unit's drop-ins are its drop-ins, and they rise by file name where the entries do
 abbrev pub LentAreDropIns : Type 0
-LentAreDropIns = (s : EntryMap) (fs : List Name) (ps : List (PathParts × Entry)) → AreDropInsOf s fs ps
+LentAreDropIns = (s : View) (fs : List Name) (ps : List (PathParts × Entry)) → AreDropInsOf s fs ps
     → ((p : PathParts) → Contains (map entry_path ps) p ↔ IsDropInOf s fs p) × (IsStrictlySortedBy name_cmp (map entry_name ps) → IsStrictlySortedBy name_cmp (map file_name (map entry_path ps)))
 
 -- where a candidate stands, the store has an entry
-pub held_there : (s : EntryMap) (x : Search) (q p : PathParts) → candidate_at s x q ≡ Some (At p) → (e : Entry) × (finmap.get s q ≡ Some e)
+pub held_there : (s : View) (x : Search) (q p : PathParts) → candidate_at s x q ≡ Some (At p) → (e : Entry) × (finmap.get s q ≡ Some e)
 held_there s x q p h = by (finmap.get s q) refl h
   where
     by : (o : Option Entry) → finmap.get s q ≡ o → option_and_then (as_found x q) (option_and_then shown o) ≡ Some (At p) → (e : Entry) × (finmap.get s q ≡ Some e)

@@ -8,7 +8,7 @@ use Rattle.std.specs.Cmp.Lexicographic.{nat_list_cmp_total}
 use Rattle.list_laws.specs.Members.{among_from_contains, contains_from_among}
 use Rattle.list_laws.specs.Rising.{one_rising}
 use Rattle.load_path.specs.Paths.{PathParts}
-use Rattle.edit_sums.specs.Sums.{EntryMap, visible_at}
+use Rattle.path_maps.specs.Views.{View, seen_at}
 use Rattle.edit_sums.specs.declared.contents.Content.{Content}
 use Rattle.edit_sums.specs.declared.contents.Content.TheVariants.{Gone, Link, File}
 use Rattle.unit_name.specs.Names.{Name, name_cmp}
@@ -21,7 +21,7 @@ OneOrder = (ps qs : List PathParts) → IsStrictlySortedBy name_cmp (map file_na
 
 -- a drop-in's file name ends in .conf, and a file that isn't empty is visible at its path
 abbrev pub DropInsAreFiles : Type 0
-DropInsAreFiles = (s : EntryMap) (ns : List Name) (p : PathParts) → IsDropIn s ns p → IsTrue (is_conf p.name) × ((b : ℕ) × (bs : List ℕ) × (visible_at s p ≡ Some (File (b ∷ bs))))
+DropInsAreFiles = (s : View) (ns : List Name) (p : PathParts) → IsDropIn s ns p → IsTrue (is_conf p.name) × ((b : ℕ) × (bs : List ℕ) × (seen_at s p ≡ Some (File (b ∷ bs))))
 
 pub one_order : OneOrder
 one_order ps qs a b same = one_rising file_name name_cmp nat_list_cmp_total ps qs a b (λ p. (λ h. among_from_contains p qs ((same p).0 (contains_from_among p ps h)), λ h. among_from_contains p ps ((same p).1 (contains_from_among p qs h))))
@@ -39,4 +39,4 @@ file_there p true (Some (File [])) h = cc (h)
 file_there p true (Some (File (b ∷ bs))) h = (refl, (b, bs, refl))
 
 pub drop_ins_are_files : DropInsAreFiles
-drop_ins_are_files s ns p d = file_there p (is_conf p.name) (visible_at s p) d.stands.says
+drop_ins_are_files s ns p d = file_there p (is_conf p.name) (seen_at s p) d.stands.says

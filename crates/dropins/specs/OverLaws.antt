@@ -6,7 +6,7 @@ use Rattle.list_laws.specs.Agreements.{agree_everywhere}
 use Rattle.load_path.specs.Paths.{PathParts, path_cmp}
 use Rattle.load_path.specs.PathLaws.{path_cmp_total, path_cmp-IsAntisymmetric}
 use Rattle.load_path.specs.Levels.{IsLevel, level_of}
-use Rattle.edit_sums.specs.Sums.{EntryMap, visible_at}
+use Rattle.path_maps.specs.Views.{View, seen_at}
 use Rattle.dropins.specs.declared.precedence.Search.{Search}
 use Rattle.dropins.specs.Taken.Owner.{OfName, OfType}
 use Rattle.dropins.specs.Taken.{Candidate, Owner, Precedes, Stands, IsTaken, IsTakenOver, as_found, dirs_by}
@@ -14,33 +14,33 @@ use Rattle.dropins.specs.Walks.{taken}
 use Rattle.dropins.specs.WalkLaws.{found_is_taken, none_stands, taken_once}
 
 -- nothing stands for this file name
-abbrev pub NoneStands : EntryMap → Search → List (List ℕ) → List ℕ → Type 0
+abbrev pub NoneStands : View → Search → List (List ℕ) → List ℕ → Type 0
 NoneStands s x ds f = (d : Candidate) (q : PathParts) (i : ℕ) → Stands s x ds d q i → q.name ≡ f → ⊥
 
 -- What is taken is what is taken in the folders of names; or what is taken in those of types, where nothing of its file name stands in a folder of a name.
 abbrev pub NamesOrElseTypes : Type 0
-NamesOrElseTypes = (s : EntryMap) (x : Search) (ds ts : List (List ℕ)) (c : Candidate) (p : PathParts) → IsTakenOver s x ds ts c p ↔ (IsTaken s x ds c p ⊎ (IsTaken s x ts c p × NoneStands s x ds p.name))
+NamesOrElseTypes = (s : View) (x : Search) (ds ts : List (List ℕ)) (c : Candidate) (p : PathParts) → IsTakenOver s x ds ts c p ↔ (IsTaken s x ds c p ⊎ (IsTaken s x ts c p × NoneStands s x ds p.name))
 
 -- For a file name one candidate at most is taken.
 abbrev pub OverOnce : Type 0
-OverOnce = (s : EntryMap) (x : Search) (ds ts : List (List ℕ)) (c d : Candidate) (p q : PathParts) → IsTakenOver s x ds ts c p → IsTakenOver s x ds ts d q → p.name ≡ q.name → (p ≡ q) × (c ≡ d)
+OverOnce = (s : View) (x : Search) (ds ts : List (List ℕ)) (c d : Candidate) (p q : PathParts) → IsTakenOver s x ds ts c p → IsTakenOver s x ds ts d q → p.name ≡ q.name → (p ≡ q) × (c ≡ d)
 
 -- Where anything stands for a file name, something is taken for it.
 abbrev pub SomethingIsTakenOver : Type 0
-SomethingIsTakenOver = (s : EntryMap) (x : Search) (ds ts : List (List ℕ)) (o : Owner) (d : Candidate) (q : PathParts) (i : ℕ) → Stands s x (dirs_by o ds ts) d q i
+SomethingIsTakenOver = (s : View) (x : Search) (ds ts : List (List ℕ)) (o : Owner) (d : Candidate) (q : PathParts) (i : ℕ) → Stands s x (dirs_by o ds ts) d q i
     → (c : Candidate) × (p : PathParts) × (p.name ≡ q.name) × IsTakenOver s x ds ts c p
 
 -- What is taken depends on what is visible in the folders alone.
 abbrev pub FoldersDecideOver : Type 0
-FoldersDecideOver = (s t : EntryMap) (x : Search) (ds ts : List (List ℕ)) → ((o : Owner) (p : PathParts) (i : ℕ) → IsLevel (level_of p) → slice_get (dirs_by o ds ts) i ≡ Some p.folder → visible_at s p ≡ visible_at t p)
+FoldersDecideOver = (s t : View) (x : Search) (ds ts : List (List ℕ)) → ((o : Owner) (p : PathParts) (i : ℕ) → IsLevel (level_of p) → slice_get (dirs_by o ds ts) i ≡ Some p.folder → seen_at s p ≡ seen_at t p)
     → (c : Candidate) (p : PathParts) → IsTakenOver s x ds ts c p → IsTakenOver t x ds ts c p
 
 -- Once something is removed, a mask too, that is taken which is taken where it never was.
 abbrev pub RemovalsGiveBackOver : Type 0
-RemovalsGiveBackOver = (s t : EntryMap) (x : Search) (ds ts : List (List ℕ)) (m : PathParts) → visible_at s m ≡ None → visible_at t m ≡ None → ((q : PathParts) → q ≢ m → visible_at s q ≡ visible_at t q)
+RemovalsGiveBackOver = (s t : View) (x : Search) (ds ts : List (List ℕ)) (m : PathParts) → seen_at s m ≡ None → seen_at t m ≡ None → ((q : PathParts) → q ≢ m → seen_at s q ≡ seen_at t q)
     → (c : Candidate) (p : PathParts) → IsTakenOver s x ds ts c p → IsTakenOver t x ds ts c p
 
-module _ (s : EntryMap) (x : Search) (ds ts : List (List ℕ)) (c : Candidate) (p : PathParts) where
+module _ (s : View) (x : Search) (ds ts : List (List ℕ)) (c : Candidate) (p : PathParts) where
   pub over_of_names : IsTaken s x ds c p → IsTakenOver s x ds ts c p
   over_of_names a = record { owner = OfName; place = a.place; stands = a.stands; least = λ d q o i st n. least d q o i st n }
     where
@@ -81,7 +81,7 @@ names_or_else_types s x ds ts c p = (over_is_either s x ds ts c p, by)
     by (inr b) = over_of_types s x ds ts c p b.0 b.1
 
 -- without folders of types those of names decide
-pub over_none : (s : EntryMap) (x : Search) (ds : List (List ℕ)) (c : Candidate) (p : PathParts) → IsTakenOver s x ds [] c p → IsTaken s x ds c p
+pub over_none : (s : View) (x : Search) (ds : List (List ℕ)) (c : Candidate) (p : PathParts) → IsTakenOver s x ds [] c p → IsTaken s x ds c p
 over_none s x ds c p t = by (over_is_either s x ds [] c p t)
   where
     nowhere : (i : ℕ) → Stands s x [] c p i → ⊥
@@ -102,7 +102,7 @@ over_once s x ds ts c d p q a b n = by (over_is_either s x ds ts c p a) (over_is
     by (inr k) (inl l) = absurd (k.1 d q l.place l.stands (sym n))
     by (inr k) (inr l) = taken_once s x ts c d p q k.0 l.0 n
 
-module _ (s : EntryMap) (x : Search) (ds ts : List (List ℕ)) (f : List ℕ) where
+module _ (s : View) (x : Search) (ds ts : List (List ℕ)) (f : List ℕ) where
   found_over : (o : Option Candidate) → taken s x ds f ≡ o → (u : Option Candidate) → taken s x ts f ≡ u → ((c : Candidate) × (p : PathParts) × (p.name ≡ f) × IsTakenOver s x ds ts c p) ⊎ (NoneStands s x ds f × NoneStands s x ts f)
   found_over (Some c) e u g = let b = found_is_taken s x ds f c e in inl (c, b.path, b.name_is, over_of_names s x ds ts c b.path b.taken)
   found_over None e (Some c) g =
@@ -119,7 +119,7 @@ something_is_taken_over s x ds ts o d q i st = by o st (found_over s x ds ts q.n
     by OfType st (inr h) = absurd (h.1 d q i st refl)
 
 -- what stands in one store stands in another that shows the same there
-stands_again : (s t : EntryMap) (x : Search) (ds : List (List ℕ)) → ((p : PathParts) (i : ℕ) → IsLevel (level_of p) → slice_get ds i ≡ Some p.folder → visible_at s p ≡ visible_at t p)
+stands_again : (s t : View) (x : Search) (ds : List (List ℕ)) → ((p : PathParts) (i : ℕ) → IsLevel (level_of p) → slice_get ds i ≡ Some p.folder → seen_at s p ≡ seen_at t p)
     → (c : Candidate) (p : PathParts) (i : ℕ) → Stands s x ds c p i → Stands t x ds c p i
 stands_again s t x ds same c p i st = record {
   level_within = st.level_within;
@@ -137,4 +137,4 @@ folders_decide_over s t x ds ts same c p a = record {
 
 pub removals_give_back_over : RemovalsGiveBackOver
 removals_give_back_over s t x ds ts m removed absent same =
-    folders_decide_over s t x ds ts (λ o q i l f. agree_everywhere path_cmp path_cmp_total path_cmp-IsAntisymmetric (visible_at s) (visible_at t) m (removed ∙ sym absent) same q)
+    folders_decide_over s t x ds ts (λ o q i l f. agree_everywhere path_cmp path_cmp_total path_cmp-IsAntisymmetric (seen_at s) (seen_at t) m (removed ∙ sym absent) same q)

@@ -6,7 +6,7 @@ use Rattle.list_laws.specs.Agreements.{agree_everywhere}
 use Rattle.load_path.specs.Paths.{PathParts, path_cmp}
 use Rattle.load_path.specs.Levels.{IsLevel, level_of}
 use Rattle.load_path.specs.PathLaws.{path_cmp_total, path_cmp-IsAntisymmetric}
-use Rattle.edit_sums.specs.Sums.{EntryMap, visible_at}
+use Rattle.path_maps.specs.Views.{View, seen_at}
 use Rattle.dropins.specs.Taken.Candidate.{Mask, At}
 use Rattle.dropins.specs.declared.precedence.Search.{Search}
 use Rattle.dropins.specs.Taken.{Candidate, as_found, Stands, IsTaken, TakenFor}
@@ -15,28 +15,28 @@ use Rattle.dropins.specs.WalkLaws as walk
 
 -- a level goes before the closeness of a folder: what is taken has at most the level of anything that stands for its file name, in whichever folder
 abbrev pub RanksGoFirst : Type 0
-RanksGoFirst = (s : EntryMap) (x : Search) (ds : List (List ℕ)) (c d : Candidate) (p q : PathParts) (i : ℕ) → IsTaken s x ds c p → Stands s x ds d q i → q.name ≡ p.name → level_of p ≤ level_of q
+RanksGoFirst = (s : View) (x : Search) (ds : List (List ℕ)) (c d : Candidate) (p q : PathParts) (i : ℕ) → IsTaken s x ds c p → Stands s x ds d q i → q.name ≡ p.name → level_of p ≤ level_of q
 
 -- where anything stands for a file name, something is taken for it
 abbrev pub SomethingIsTaken : Type 0
-SomethingIsTaken = (s : EntryMap) (x : Search) (ds : List (List ℕ)) (d : Candidate) (q : PathParts) (i : ℕ) → Stands s x ds d q i → (c : Candidate) × TakenFor s x ds q.name c
+SomethingIsTaken = (s : View) (x : Search) (ds : List (List ℕ)) (d : Candidate) (q : PathParts) (i : ℕ) → Stands s x ds d q i → (c : Candidate) × TakenFor s x ds q.name c
 
 -- a file name is taken once at most
 abbrev pub TakenOnce : Type 0
-TakenOnce = (s : EntryMap) (x : Search) (ds : List (List ℕ)) (c d : Candidate) (p q : PathParts) → IsTaken s x ds c p → IsTaken s x ds d q → p.name ≡ q.name → (p ≡ q) × (c ≡ d)
+TakenOnce = (s : View) (x : Search) (ds : List (List ℕ)) (c d : Candidate) (p q : PathParts) → IsTaken s x ds c p → IsTaken s x ds d q → p.name ≡ q.name → (p ≡ q) × (c ≡ d)
 
 -- a mask that is taken hides all else of its file name
 abbrev pub MasksHide : Type 0
-MasksHide = (s : EntryMap) (x : Search) (ds : List (List ℕ)) (p q : PathParts) → IsTaken s x ds Mask p → p.name ≡ q.name → IsTaken s x ds (At q) q → ⊥
+MasksHide = (s : View) (x : Search) (ds : List (List ℕ)) (p q : PathParts) → IsTaken s x ds Mask p → p.name ≡ q.name → IsTaken s x ds (At q) q → ⊥
 
 -- what is taken depends on what is visible in the folders alone
 abbrev pub FoldersDecide : Type 0
-FoldersDecide = (s t : EntryMap) (x : Search) (ds : List (List ℕ)) → ((p : PathParts) (i : ℕ) → IsLevel (level_of p) → slice_get ds i ≡ Some p.folder → visible_at s p ≡ visible_at t p)
+FoldersDecide = (s t : View) (x : Search) (ds : List (List ℕ)) → ((p : PathParts) (i : ℕ) → IsLevel (level_of p) → slice_get ds i ≡ Some p.folder → seen_at s p ≡ seen_at t p)
     → (c : Candidate) (p : PathParts) → IsTaken s x ds c p → IsTaken t x ds c p
 
 -- once something is removed, a mask too, that is taken which is taken where it never was
 abbrev pub RemovalsGiveBack : Type 0
-RemovalsGiveBack = (s t : EntryMap) (x : Search) (ds : List (List ℕ)) (m : PathParts) → visible_at s m ≡ None → visible_at t m ≡ None → ((q : PathParts) → q ≢ m → visible_at s q ≡ visible_at t q)
+RemovalsGiveBack = (s t : View) (x : Search) (ds : List (List ℕ)) (m : PathParts) → seen_at s m ≡ None → seen_at t m ≡ None → ((q : PathParts) → q ≢ m → seen_at s q ≡ seen_at t q)
     → (c : Candidate) (p : PathParts) → IsTaken s x ds c p → IsTaken t x ds c p
 
 pub ranks_go_first : RanksGoFirst
@@ -75,4 +75,4 @@ folders_decide s t x ds same c p a = record {
 }
 
 pub removals_give_back : RemovalsGiveBack
-removals_give_back s t x ds m removed absent same = folders_decide s t x ds (λ q i l f. agree_everywhere path_cmp path_cmp_total path_cmp-IsAntisymmetric (visible_at s) (visible_at t) m (removed ∙ sym absent) same q)
+removals_give_back s t x ds m removed absent same = folders_decide s t x ds (λ q i l f. agree_everywhere path_cmp path_cmp_total path_cmp-IsAntisymmetric (seen_at s) (seen_at t) m (removed ∙ sym absent) same q)

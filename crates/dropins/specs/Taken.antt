@@ -8,7 +8,7 @@ use Rattle.std.specs.Str.{bytes_eq}
 use Rattle.load_path.specs.Paths.{PathParts}
 use Rattle.load_path.specs.Levels.{IsLevel, level_of}
 use Rattle.edit_sums.specs.Entries.{Entry}
-use Rattle.edit_sums.specs.Sums.{EntryMap, visible_at}
+use Rattle.path_maps.specs.Views.{View, seen_at}
 use Rattle.edit_sums.specs.declared.contents.Content.{Content}
 use Rattle.edit_sums.specs.declared.contents.Content.TheVariants.{Gone, Link, File}
 use Rattle.unit_name.specs.Names.{Name, IsName}
@@ -54,17 +54,17 @@ as_found DropIns p c = as_drop_in p c
 as_found Links p c = as_link p c
 
 -- the candidate that is visible at a path
-abbrev pub candidate_at : EntryMap → Search → PathParts → Option Candidate
-candidate_at s x p = option_and_then (as_found x p) (visible_at s p)
+abbrev pub candidate_at : View → Search → PathParts → Option Candidate
+candidate_at s x p = option_and_then (as_found x p) (seen_at s p)
 
 -- this candidate stands at the path: the path is in the folder of this place of the list, in a directory of the load path
-pub record Stands (s : EntryMap) (x : Search) (ds : List (List ℕ)) (c : Candidate) (p : PathParts) (place : ℕ) : Type 0 where
+pub record Stands (s : View) (x : Search) (ds : List (List ℕ)) (c : Candidate) (p : PathParts) (place : ℕ) : Type 0 where
   pub level_within : IsLevel (level_of p)
   pub folder_is : slice_get ds place ≡ Some p.folder
   pub says : candidate_at s x p ≡ Some c
 
 -- the candidate at the path is taken for the path's file name: of all that stand for it, it has the least level, and in that level the first folder of the list
-pub record IsTaken (s : EntryMap) (x : Search) (ds : List (List ℕ)) (c : Candidate) (p : PathParts) : Type 0 where
+pub record IsTaken (s : View) (x : Search) (ds : List (List ℕ)) (c : Candidate) (p : PathParts) : Type 0 where
   pub place : ℕ
   pub stands : Stands s x ds c p place
   pub least : (d : Candidate) (q : PathParts) (i : ℕ) → Stands s x ds d q i → q.name ≡ p.name → (level_of p < level_of q) ⊎ ((level_of p ≡ level_of q) × (place ≤ i))
@@ -89,14 +89,14 @@ abbrev pub Precedes : Owner → ℕ → ℕ → Owner → ℕ → ℕ → Type 0
 Precedes a l i b m j = (turn a < turn b) ⊎ ((turn a ≡ turn b) × ((l < m) ⊎ ((l ≡ m) × (i ≤ j))))
 
 -- the candidate at the path is taken for the path's file name, where ds are folders of names and ts those of types: of all that stand for it in either, it has the least turn, level and place
-pub record IsTakenOver (s : EntryMap) (x : Search) (ds ts : List (List ℕ)) (c : Candidate) (p : PathParts) : Type 0 where
+pub record IsTakenOver (s : View) (x : Search) (ds ts : List (List ℕ)) (c : Candidate) (p : PathParts) : Type 0 where
   pub owner : Owner
   pub place : ℕ
   pub stands : Stands s x (dirs_by owner ds ts) c p place
   pub least : (d : Candidate) (q : PathParts) (o : Owner) (i : ℕ) → Stands s x (dirs_by o ds ts) d q i → q.name ≡ p.name → Precedes owner (level_of p) place o (level_of q) i
 
 -- what is taken for a file name
-pub record TakenFor (s : EntryMap) (x : Search) (ds : List (List ℕ)) (f : List ℕ) (c : Candidate) : Type 0 where
+pub record TakenFor (s : View) (x : Search) (ds : List (List ℕ)) (f : List ℕ) (c : Candidate) : Type 0 where
   pub path : PathParts
   pub name_is : path.name ≡ f
   pub taken : IsTaken s x ds c path
@@ -118,22 +118,22 @@ abbrev pub type_dirs : List Name → List (List ℕ)
 type_dirs fs = dirs_with (codes ".d") (types_of fs)
 
 -- the path is a drop-in of a unit with these folders: it is taken in them, or else in those of their types
-abbrev pub IsDropInOf : EntryMap → List Name → PathParts → Type 0
+abbrev pub IsDropInOf : View → List Name → PathParts → Type 0
 IsDropInOf s fs p = IsTakenOver s DropIns (name_dirs fs) (type_dirs fs) (At p) p
 
 -- the path is a drop-in of a unit of these names
-abbrev pub IsDropIn : EntryMap → List Name → PathParts → Type 0
+abbrev pub IsDropIn : View → List Name → PathParts → Type 0
 IsDropIn s ns p = IsDropInOf s (folders ns) p
 
 -- the link folders of this sort of a unit with these folders give this name: it is a unit's, and a link is taken for it
-pub record IsLinkedOf (s : EntryMap) (fs : List Name) (d : Folder) (n : Name) : Type 0 where
+pub record IsLinkedOf (s : View) (fs : List Name) (d : Folder) (n : Name) : Type 0 where
   pub name : IsName n
   pub path : PathParts
   pub name_is : path.name ≡ n
   pub taken : IsTaken s Links (dirs_with (ending d) fs) (At path) path
 
 -- and those of a unit of these names
-abbrev pub IsLinked : EntryMap → List Name → Folder → Name → Type 0
+abbrev pub IsLinked : View → List Name → Folder → Name → Type 0
 IsLinked s ns d n = IsLinkedOf s (folders ns) d n
 
 abbrev pub file_name : PathParts → List ℕ
@@ -147,5 +147,5 @@ abbrev pub entry_name : PathParts × Entry → List ℕ
 entry_name p = p.0.name
 
 -- these entries are the store's at the drop-ins of a unit with these folders
-abbrev pub AreDropInsOf : EntryMap → List Name → List (PathParts × Entry) → Type 0
+abbrev pub AreDropInsOf : View → List Name → List (PathParts × Entry) → Type 0
 AreDropInsOf s fs ps = (p : PathParts × Entry) → Contains ps p ↔ (IsDropInOf s fs p.0 × (finmap.get s p.0 ≡ Some p.1))

@@ -7,7 +7,7 @@ use Rattle.std.proofs.lemmas.List.{append_cancel_right}
 use Rattle.std.proofs.lemmas.Option.{none-some, same_Some}
 use Rattle.list_laws.specs.Members.{IsAmong, contains_from_among}
 use Rattle.load_path.specs.Paths.{PathParts}
-use Rattle.edit_sums.specs.Sums.{EntryMap, visible_at}
+use Rattle.path_maps.specs.Views.{View, seen_at}
 use Rattle.unit_name.specs.declared.kinds.Kind.{Kind}
 use Rattle.unit_name.specs.Names.{Name, IsName, word}
 use Rattle.dropins.specs.declared.precedence.Search.TheVariants.{DropIns}
@@ -24,19 +24,19 @@ kind_dir k = word k ++ codes ".d"
 
 -- What is taken in the folders of names is a drop-in, in whichever rank: no type's folder hides it, nor a mask there.
 abbrev pub NamesGoFirst : Type 0
-NamesGoFirst = (s : EntryMap) (ns : List Name) (p : PathParts) → IsTaken s DropIns (name_dirs (folders ns)) (At p) p → IsDropIn s ns p
+NamesGoFirst = (s : View) (ns : List Name) (p : PathParts) → IsTaken s DropIns (name_dirs (folders ns)) (At p) p → IsDropIn s ns p
 
 -- A drop-in of a type's folder is one of the names' type, and nothing of its file name stands in a folder of a name.
 abbrev pub TypesComeLast : Type 0
-TypesComeLast = (s : EntryMap) (ns : List Name) (k : Kind) (p : PathParts) → All IsName ns → p.folder ≡ kind_dir k → IsDropIn s ns p → Contains (types_of ns) (word k) × NoneStands s DropIns (name_dirs (folders ns)) p.name
+TypesComeLast = (s : View) (ns : List Name) (k : Kind) (p : PathParts) → All IsName ns → p.folder ≡ kind_dir k → IsDropIn s ns p → Contains (types_of ns) (word k) × NoneStands s DropIns (name_dirs (folders ns)) p.name
 
 -- A mask that is taken in the folders of names hides what a type's folder has for its file name.
 abbrev pub MasksHideTypes : Type 0
-MasksHideTypes = (s : EntryMap) (ns : List Name) (p q : PathParts) → IsTaken s DropIns (name_dirs (folders ns)) Mask p → p.name ≡ q.name → IsDropIn s ns q → ⊥
+MasksHideTypes = (s : View) (ns : List Name) (p q : PathParts) → IsTaken s DropIns (name_dirs (folders ns)) Mask p → p.name ≡ q.name → IsDropIn s ns q → ⊥
 
 -- Where no folder of a type shows anything, the drop-ins are just what is taken in the folders of names.
 abbrev pub NamesAloneWithoutTypes : Type 0
-NamesAloneWithoutTypes = (s : EntryMap) (ns : List Name) → All IsName ns → ((k : Kind) (q : PathParts) → q.folder ≡ kind_dir k → visible_at s q ≡ None)
+NamesAloneWithoutTypes = (s : View) (ns : List Name) → All IsName ns → ((k : Kind) (q : PathParts) → q.folder ≡ kind_dir k → seen_at s q ≡ None)
     → (p : PathParts) → IsDropIn s ns p ↔ IsTaken s DropIns (name_dirs (folders ns)) (At p) p
 
 pub names_go_first : NamesGoFirst
@@ -66,7 +66,7 @@ masks_hide_types s ns p q a n d =
     cc ((over_once s DropIns (name_dirs (folders ns)) (type_dirs (folders ns)) Mask (At q) p q (over_of_names s DropIns (name_dirs (folders ns)) (type_dirs (folders ns)) Mask p a) d n).1)
 
 -- nothing stands in the folders of types
-module _ (s : EntryMap) (ns : List Name) (a : All IsName ns) (none : (k : Kind) (q : PathParts) → q.folder ≡ kind_dir k → visible_at s q ≡ None) where
+module _ (s : View) (ns : List Name) (a : All IsName ns) (none : (k : Kind) (q : PathParts) → q.folder ≡ kind_dir k → seen_at s q ≡ None) where
   nowhere : (c : Candidate) (p : PathParts) (i : ℕ) → Stands s DropIns (type_dirs (folders ns)) c p i → ⊥
   nowhere c p i st =
       let t = among_made (λ t. t ++ codes ".d") p.folder (types_of (folders ns)) (placed_there (type_dirs (folders ns)) i p.folder st.folder_is) in

@@ -5,7 +5,7 @@ use Rattle.std.specs.Option.{option_and_then}
 use Rattle.std.proofs.lemmas.Bool.{cases_lt}
 use Rattle.std.proofs.lemmas.Option.{none-some, same_Some, slice_get-get_or, get_or_from_slice_get, slice_get_within}
 use Rattle.load_path.specs.Paths.{PathParts}
-use Rattle.edit_sums.specs.Sums.{EntryMap, visible_at}
+use Rattle.path_maps.specs.Views.{View, seen_at}
 use Rattle.edit_sums.specs.declared.contents.Content.{Content}
 use Rattle.edit_sums.specs.declared.contents.Content.TheVariants.{Gone, Link, File}
 use Rattle.dropins.specs.Taken.Candidate.{Mask, At}
@@ -54,16 +54,16 @@ unfolding path_or
 found_path x q None = refl
 found_path x q (Some c) = content_path x q c
 
-pub stands_there : (s : EntryMap) (x : Search) (p q : PathParts) → candidate_at s x q ≡ Some (At p) → q ≡ p
+pub stands_there : (s : View) (x : Search) (p q : PathParts) → candidate_at s x q ≡ Some (At p) → q ≡ p
 unfolding path_or
-stands_there s x p q h = sym (found_path x q (visible_at s q)) ∙ ap (path_or q) h
+stands_there s x p q h = sym (found_path x q (seen_at s q)) ∙ ap (path_or q) h
 
 -- ---- the walk
 
 parts : (p : PathParts) (r : ℕ) (d f : List ℕ) → p.rank ≡ r → p.folder ≡ d → p.name ≡ f → p ≡ path r d f
 parts p r d f a b c = ap (λ y. path y p.folder p.name) a ∙ ap (λ y. path r y p.name) b ∙ ap (path r d) c
 
-module _ (s : EntryMap) (x : Search) (ds : List (List ℕ)) where
+module _ (s : View) (x : Search) (ds : List (List ℕ)) where
   -- where nothing is found, nothing stands
   pub none_stands : (f : List ℕ) → taken s x ds f ≡ None → (c : Candidate) (p : PathParts) (i : ℕ) → Stands s x ds c p i → p.name ≡ f → ⊥
   none_stands f h c p i st e =
@@ -72,7 +72,7 @@ module _ (s : EntryMap) (x : Search) (ds : List (List ℕ)) where
       none-some _ (sym none ∙ ap (candidate_at s x) (sym (parts p p.rank (get_or ds i []) f refl (sym folder) e)) ∙ st.says)
 
 -- what is found first is taken
-module _ (s : EntryMap) (x : Search) (ds : List (List ℕ)) (f : List ℕ) (c : Candidate) (h : taken s x ds f ≡ Some c) where
+module _ (s : View) (x : Search) (ds : List (List ℕ)) (f : List ℕ) (c : Candidate) (h : taken s x ds f ≡ Some c) where
   first_rank : IsFirst (taken_in s x ds f) levels 0 c
   first_rank = first_is (taken_in s x ds f) levels 0 c h
 
@@ -106,7 +106,7 @@ module _ (s : EntryMap) (x : Search) (ds : List (List ℕ)) (f : List ℕ) (c : 
     };
   }
 
-module _ (s : EntryMap) (x : Search) (ds : List (List ℕ)) where
+module _ (s : View) (x : Search) (ds : List (List ℕ)) where
   -- for a file name one candidate at most is taken
   pub taken_once : (c d : Candidate) (p q : PathParts) → IsTaken s x ds c p → IsTaken s x ds d q → p.name ≡ q.name → (p ≡ q) × (c ≡ d)
   taken_once c d p q a b n = by (a.least d q b.place b.stands (sym n)) (b.least c p a.place a.stands n)

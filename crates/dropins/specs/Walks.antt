@@ -8,7 +8,8 @@ use Rattle.edit_sums.specs.Entries.{Entry}
 use Rattle.list_laws.specs.FirstSaid.{first_said}
 use Rattle.load_path.specs.Paths.{PathParts}
 use Rattle.load_path.specs.Levels.{first_level}
-use Rattle.edit_sums.specs.Sums.{EntryMap, shown}
+use Rattle.edit_sums.specs.Sums.{shown}
+use Rattle.path_maps.specs.Views.{View}
 use Rattle.dropins.specs.declared.precedence.Take.{Take}
 use Rattle.dropins.specs.declared.precedence.Take.TheVariants.{Nothing, Placed}
 use Rattle.dropins.specs.declared.precedence.Search.{Search}
@@ -32,7 +33,7 @@ abbrev pub said_for : Search → List ℕ → PathParts × Entry → Option Take
 said_for x f p = if bytes_eq p.0.name f then take_of x p else None
 
 -- the same of the entry at a path
-abbrev pub take_at : EntryMap → Search → PathParts → Option Take
+abbrev pub take_at : View → Search → PathParts → Option Take
 take_at s x q = option_and_then (λ e. take_of x (q, e)) (finmap.get s q)
 
 -- what candidates give for a file name: the first that has it
@@ -40,23 +41,23 @@ abbrev pub first_for : List (List ℕ × Take) → List ℕ → Option Take
 first_for cs f = first_said (λ c. if bytes_eq c.0 f then Some c.1 else None) cs
 
 -- what is taken for a file name in a directory's first folder that has something
-abbrev pub took_in : EntryMap → Search → List (List ℕ) → List ℕ → ℕ → Option Take
+abbrev pub took_in : View → Search → List (List ℕ) → List ℕ → ℕ → Option Take
 took_in s x ds f r = first_said (λ d. take_at s x (path r d f)) ds
 
 -- what is taken for a file name
-abbrev pub took : EntryMap → Search → List (List ℕ) → List ℕ → Option Take
+abbrev pub took : View → Search → List (List ℕ) → List ℕ → Option Take
 took s x ds f = first_level (took_in s x ds f)
 
 -- what is taken for a file name in folders of names, or else in those of types
-abbrev pub took_over : EntryMap → Search → List (List ℕ) → List (List ℕ) → List ℕ → Option Take
+abbrev pub took_over : View → Search → List (List ℕ) → List (List ℕ) → List ℕ → Option Take
 took_over s x ds ts f = option_or (took s x ds f) (took s x ts f)
 
 -- the candidate of a file name in a directory's first folder that has one
-abbrev pub taken_in : EntryMap → Search → List (List ℕ) → List ℕ → ℕ → Option Candidate
+abbrev pub taken_in : View → Search → List (List ℕ) → List ℕ → ℕ → Option Candidate
 taken_in s x ds f r = first_said (λ d. candidate_at s x (path r d f)) ds
 
 -- the candidate that is found first for a file name
-abbrev pub taken : EntryMap → Search → List (List ℕ) → List ℕ → Option Candidate
+abbrev pub taken : View → Search → List (List ℕ) → List ℕ → Option Candidate
 taken s x ds f = first_level (taken_in s x ds f)
 
 abbrev pub given : Take → List (PathParts × Entry)

@@ -2,13 +2,14 @@
 ghost use Rattle.std.specs.Prelude.{◌≡◌, ◌↔◌, ℕ, List, IfOk, map, filter};
 ghost use Rattle.std.specs.List.{Contains};
 ghost use Rattle.std.specs.List.Sorted.{IsStrictlySortedBy};
+ghost use Rattle.path_maps.specs.Views.{fleet_of};
 ghost use Rattle.unit_name.specs.Names.{Name, is_name, name_cmp};
 ghost use Rattle.dropins.specs.Taken.{IsLinked, IsLinkedOf, ending, entry_name};
 
 use crate::dirs::name_dirs;
 use crate::folder_lists::UnitFolders;
 use crate::precedence::{Search, taken_entries};
-use replica_store::{Placed, Store};
+use replica_store::{Seen, SeenEntry, Store};
 use std::alloc::{AllocError, Global};
 use unit_name::{NameFault, UnitName};
 
@@ -46,15 +47,15 @@ impl UnitFolders {
     pub fn links(
         &self,
         alloc: Global,
-        store: &Store,
+        seen: &Seen,
         folder: Folder,
     ) -> Result<Vec<UnitName>, AllocError>
         ensures rising { IfOk result (λ units. IsStrictlySortedBy name_cmp units.items) }
-        ensures exact { IfOk result (λ units. (n : Name) → Contains units.items n ↔ IsLinkedOf store.now
+        ensures exact { IfOk result (λ units. (n : Name) → Contains units.items n ↔ IsLinkedOf seen.now
             self.now folder n) }
     {
         let dirs = name_dirs(alloc, self.names(), folder.ending())?;
-        let taken = taken_entries(alloc, store, Search::Links, &dirs, &[])?;
+        let taken = taken_entries(alloc, seen, Search::Links, &dirs, &[])?;
         unit_names(alloc, &taken)
     }
 }
@@ -70,15 +71,15 @@ pub fn links(
     folder: Folder,
 ) -> Result<Vec<UnitName>, AllocError>
     ensures rising { IfOk result (λ units. IsStrictlySortedBy name_cmp units.items) }
-    ensures exact { IfOk result (λ units. (n : Name) → Contains units.items n ↔ IsLinked store.now names.now
+    ensures exact { IfOk result (λ units. (n : Name) → Contains units.items n ↔ IsLinked (fleet_of store.now) names.now
         folder n) }
 {
     let folders = UnitFolders::of(alloc, names)?;
-    folders.links(alloc, store, folder)
+    folders.links(alloc, &store.fleet(), folder)
 }
 
 // The file names that are unit names.
-fn unit_names(alloc: Global, taken: &[Placed]) -> Result<Vec<UnitName>, AllocError>
+fn unit_names(alloc: Global, taken: &[SeenEntry]) -> Result<Vec<UnitName>, AllocError>
     ensures names { IfOk result (λ units. units.items ≡ filter is_name (map entry_name taken.now)) }
 {
     let mut units = Vec::new(alloc);

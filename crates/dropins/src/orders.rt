@@ -3,13 +3,14 @@ ghost use Rattle.std.specs.Prelude.{◌↔◌, IfOk, map};
 ghost use Rattle.std.specs.List.{Contains};
 ghost use Rattle.std.specs.List.Sorted.{IsStrictlySortedBy};
 ghost use Rattle.load_path.specs.Paths.{PathParts};
+ghost use Rattle.path_maps.specs.Views.{fleet_of};
 ghost use Rattle.unit_name.specs.Names.{name_cmp};
 ghost use Rattle.dropins.specs.Taken.{AreDropInsOf, IsDropIn, entry_name, file_name};
 
 use crate::dirs::{name_dirs, type_dirs};
 use crate::folder_lists::UnitFolders;
 use crate::precedence::{Search, paths_of, taken_entries};
-use replica_store::{Path, Placed, Store};
+use replica_store::{Path, Seen, SeenEntry, Store};
 use std::alloc::{AllocError, Global};
 use unit_name::UnitName;
 
@@ -28,14 +29,14 @@ impl UnitFolders {
     pub fn drop_ins<'a>(
         &self,
         alloc: Global,
-        store: &'a Store,
-    ) -> Result<Vec<Placed<'a>>, AllocError>
+        seen: &Seen<'a>,
+    ) -> Result<Vec<SeenEntry<'a>>, AllocError>
         ensures rising { IfOk result (λ taken. IsStrictlySortedBy name_cmp (map entry_name taken.items)) }
-        ensures exact { IfOk result (λ taken. AreDropInsOf store.now self.now taken.items) }
+        ensures exact { IfOk result (λ taken. AreDropInsOf seen.now self.now taken.items) }
     {
         let names = name_dirs(alloc, self.names(), b".d")?;
         let types = type_dirs(alloc, self.names(), b".d")?;
-        taken_entries(alloc, store, Search::DropIns, &names, &types)
+        taken_entries(alloc, seen, Search::DropIns, &names, &types)
     }
 }
 
@@ -45,10 +46,10 @@ impl UnitFolders {
 /// The folder list, and then as `UnitFolders::drop_ins`.
 pub fn order(alloc: Global, store: &Store, names: &[UnitName]) -> Result<Vec<Path>, AllocError>
     ensures rising { IfOk result (λ paths. IsStrictlySortedBy name_cmp (map file_name paths.items)) }
-    ensures exact { IfOk result (λ paths. (p : PathParts) → Contains paths.items p ↔ IsDropIn store.now
-        names.now p) }
+    ensures exact { IfOk result (λ paths. (p : PathParts) → Contains paths.items p ↔ IsDropIn
+        (fleet_of store.now) names.now p) }
 {
     let folders = UnitFolders::of(alloc, names)?;
-    let taken = folders.drop_ins(alloc, store)?;
+    let taken = folders.drop_ins(alloc, &store.fleet())?;
     paths_of(alloc, &taken)
 }

@@ -15,7 +15,7 @@ ghost use Rattle.dropins.specs.Walks.{first_for, path, said_for, take_at, take_o
 
 use load_path::LEVELS;
 use plain_values::Bytes;
-use replica_store::{Content, LinkTarget, Path, Placed, Store};
+use replica_store::{Content, LinkTarget, Path, Seen, SeenEntry};
 use std::alloc::{AllocError, Global};
 use std::collections::BTreeMap;
 
@@ -34,7 +34,7 @@ pub enum Take<'a> {
     /// A mask: it takes the place and gives nothing.
     Nothing,
     /// This entry.
-    Placed(Placed<'a>),
+    Placed(SeenEntry<'a>),
 }
 
 // What may be taken, by file name, in the order in which it is looked for: of one name the first is taken.
@@ -46,27 +46,27 @@ type TakenByName<'a> = BTreeMap<Bytes, Take<'a>>;
 /// What is taken in folders of names, or else in those of types, by file name, without masks.
 pub fn taken_entries<'a>(
     alloc: Global,
-    store: &'a Store,
+    seen: &Seen<'a>,
     search: Search,
     name_dirs: &[Bytes],
     type_dirs: &[Bytes],
-) -> Result<Vec<Placed<'a>>, AllocError>
+) -> Result<Vec<SeenEntry<'a>>, AllocError>
     ensures rising { IfOk result (λ taken. IsStrictlySortedBy name_cmp (map entry_name taken.items)) }
     ensures exact { IfOk result (λ taken. (p : PathParts × Entry) → Contains taken.items p ↔
-        (IsTakenOver store.now search name_dirs.now type_dirs.now (At p.0) p.0
-        × (finmap.get store.now p.0 ≡ Some p.1))) }
+        (IsTakenOver seen.now search name_dirs.now type_dirs.now (At p.0) p.0
+        × (finmap.get seen.now p.0 ≡ Some p.1))) }
 {
-    let takes = taken(alloc, store, search, name_dirs, type_dirs)?;
+    let takes = taken(alloc, seen, search, name_dirs, type_dirs)?;
     unmasked(alloc, takes)
 }
 
 /// The paths of entries, in their order.
-pub fn paths_of(alloc: Global, entries: &[Placed]) -> Result<Vec<Path>, AllocError>
+pub fn paths_of(alloc: Global, entries: &[SeenEntry]) -> Result<Vec<Path>, AllocError>
     ensures paths { IfOk result (λ paths. paths.items ≡ map entry_path entries.now) }
 {
     let mut paths = Vec::new(alloc);
     for placed in entries {
-        paths.push(placed.place()?)?;
+        paths.push(placed.path()?)?;
     }
     Ok(paths)
 }
@@ -78,17 +78,17 @@ pub fn paths_of(alloc: Global, entries: &[Placed]) -> Result<Vec<Path>, AllocErr
 // O(r log n + p log p) with p paths in r such folders.
 fn taken<'a>(
     alloc: Global,
-    store: &'a Store,
+    seen: &Seen<'a>,
     search: Search,
     name_dirs: &[Bytes],
     type_dirs: &[Bytes],
 ) -> Result<TakenByName<'a>, AllocError>
-    ensures taken { IfOk result (λ takes. (f : List ℕ) → get name_cmp takes f ≡ took_over store.now search
+    ensures taken { IfOk result (λ takes. (f : List ℕ) → get name_cmp takes f ≡ took_over seen.now search
         name_dirs.now type_dirs.now f) }
 {
     let mut found = Vec::new(alloc);
-    add_levels(store, &mut found, search, name_dirs)?;
-    add_levels(store, &mut found, search, type_dirs)?;
+    add_levels(seen, &mut found, search, name_dirs)?;
+    add_levels(seen, &mut found, search, type_dirs)?;
     firsts(alloc, found)
 }
 
@@ -103,49 +103,49 @@ fn firsts<'a>(alloc: Global, found: Candidates<'a>) -> Result<TakenByName<'a>, A
 
 // Adds what stands at all levels.
 fn add_levels<'a>(
-    store: &'a Store,
+    seen: &Seen<'a>,
     found: &mut Candidates<'a>,
     search: Search,
     dirs: &[Bytes],
 ) -> Result<(), AllocError>
     ensures added { OnOk result ((f : List ℕ) → first_for found.new.items f ≡ option_or
-        (first_for found.old.items f) (took store.now search dirs.now f)) }
+        (first_for found.old.items f) (took seen.now search dirs.now f)) }
 {
     for level in 0..LEVELS {
-        add_level(store, found, search, level, dirs)?;
+        add_level(seen, found, search, level, dirs)?;
     }
     Ok(())
 }
 
 // Adds what stands at one level.
 fn add_level<'a>(
-    store: &'a Store,
+    seen: &Seen<'a>,
     found: &mut Candidates<'a>,
     search: Search,
     level: u8,
     dirs: &[Bytes],
 ) -> Result<(), AllocError>
     ensures added { OnOk result ((f : List ℕ) → first_for found.new.items f ≡ option_or
-        (first_for found.old.items f) (took_in store.now search dirs.now f level)) }
+        (first_for found.old.items f) (took_in seen.now search dirs.now f level)) }
 {
     for dir in dirs {
-        add_folder(store, found, search, level, dir.as_slice())?;
+        add_folder(seen, found, search, level, dir.as_slice())?;
     }
     Ok(())
 }
 
 // Adds what stands in one folder.
 fn add_folder<'a>(
-    store: &'a Store,
+    seen: &Seen<'a>,
     found: &mut Candidates<'a>,
     search: Search,
     level: u8,
     dir: &[u8],
 ) -> Result<(), AllocError>
     ensures added { OnOk result ((f : List ℕ) → first_for found.new.items f ≡ option_or
-        (first_for found.old.items f) (take_at store.now search (path level dir.now f))) }
+        (first_for found.old.items f) (take_at seen.now search (path level dir.now f))) }
 {
-    let mut entries = store.entries_in(level, dir);
+    let mut entries = seen.entries_in(level, dir);
     while let Some(placed) = entries.next_entry() {
         add_entry(found, search, placed)?;
     }
@@ -156,7 +156,7 @@ fn add_folder<'a>(
 fn add_entry<'a>(
     found: &mut Candidates<'a>,
     search: Search,
-    placed: Placed<'a>,
+    placed: SeenEntry<'a>,
 ) -> Result<(), AllocError>
     ensures added { OnOk result ((f : List ℕ) → first_for found.new.items f ≡ option_or
         (first_for found.old.items f) (said_for search f placed.entry)) }
@@ -169,7 +169,7 @@ fn add_entry<'a>(
 }
 
 // What is taken where an entry comes first.
-fn take_of<'a>(search: Search, placed: Placed<'a>) -> Option<Take<'a>>
+fn take_of<'a>(search: Search, placed: SeenEntry<'a>) -> Option<Take<'a>>
     ensures take { result ≡ take_of search placed.entry }
 {
     match search {
@@ -178,7 +178,7 @@ fn take_of<'a>(search: Search, placed: Placed<'a>) -> Option<Take<'a>>
     }
 }
 
-fn as_drop_in<'a>(placed: Placed<'a>) -> Option<Take<'a>>
+fn as_drop_in<'a>(placed: SeenEntry<'a>) -> Option<Take<'a>>
     ensures take { result ≡ take_of DropIns placed.entry }
 {
     if !is_conf(placed.name().as_slice()) {
@@ -201,7 +201,7 @@ fn as_drop_in<'a>(placed: Placed<'a>) -> Option<Take<'a>>
     }
 }
 
-fn as_link<'a>(placed: Placed<'a>) -> Option<Take<'a>>
+fn as_link<'a>(placed: SeenEntry<'a>) -> Option<Take<'a>>
     ensures take { result ≡ take_of Links placed.entry }
 {
     match &placed.entry().content {
@@ -230,7 +230,7 @@ fn is_null(target: &LinkTarget) -> bool
 }
 
 // The entries that are taken, by file name, without masks.
-fn unmasked<'a>(alloc: Global, takes: TakenByName<'a>) -> Result<Vec<Placed<'a>>, AllocError>
+fn unmasked<'a>(alloc: Global, takes: TakenByName<'a>) -> Result<Vec<SeenEntry<'a>>, AllocError>
     ensures entries { IfOk result (λ taken. taken.items ≡ unmasked takes.entry.entries) }
     ensures ordered { IsOrdered name_cmp takes.entry }
 {

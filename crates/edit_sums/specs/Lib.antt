@@ -9,3 +9,4 @@ pub mod Limits
 pub mod SumLaws
 pub mod Sums
 pub mod WinnerLaws
+pub mod Flat

@@ -11,7 +11,7 @@ mod entries;
 mod laws;
 
 pub use contents::{Content, ContentFault, FILE_LIMIT, FileBytes, LinkTarget, TARGET_LIMIT};
-pub use entries::{Edit, Entry};
+pub use entries::{Edit, Entry, FlatEdit};
 pub use laws::{
     counters_of_sums, joins_of_stores, order_of_stores, sums_of_edits, winners_of_sums,
 };

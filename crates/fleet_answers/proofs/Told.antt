@@ -4,6 +4,7 @@ use Rattle.std.specs.Prelude.{MatchOption}
 use Rattle.std.specs.Option.{IfSome}
 use Rattle.unit_name.specs.Names.{Name}
 use Rattle.edit_sums.specs.Sums.{EntryMap}
+use Rattle.path_maps.specs.Views.{fleet_of}
 use Rattle.inverse_deps.specs.Edges.{EdgeMap}
 use Rattle.parallel_load.specs.Loads.{LoadMap}
 use Rattle.unit_graph.specs.Graphs.{AreDepths, GraphMap, IsKnown}
@@ -39,12 +40,12 @@ of_there A B o x e h = subst (λ (p : Option _). MatchOption p A (λ _. B)) e h
 -- a snapshot of all names that are asked for answers as the store does
 module _ (s : EntryMap) (extra : List Name) (question : Question) (found : Option (Vec Name Global)) (names : Vec Name Global) (is : found ≡ Some names)
     (all : IfSome found (λ (ns : Vec Name Global). ns.items ≡ asked extra question)) (lent : List Name) (same : lent ≡ names.items) (graph : GraphMap)
-    (made : IsSnapshot s lent graph) where
-  all_asked : IsSnapshot s (asked extra question) graph
-  all_asked = subst (λ (ns : List Name). IsSnapshot s ns graph) (same ∙ of_some (λ (ns : Vec Name Global). ns.items ≡ asked extra question) found names is all) made
+    (made : IsSnapshot (fleet_of s) lent graph) where
+  all_asked : IsSnapshot (fleet_of s) (asked extra question) graph
+  all_asked = subst (λ (ns : List Name). IsSnapshot (fleet_of s) ns graph) (same ∙ of_some (λ (ns : Vec Name Global). ns.items ≡ asked extra question) found names is all) made
 
   pub own_known : AreKnown graph.load (names_asked question)
-  own_known = own_are_known s extra question graph.load all_asked.is_load
+  own_known = own_are_known (fleet_of s) extra question graph.load all_asked.is_load
 
   pub answers : MatchOption found (HasTemplate (asked extra question)) (λ _. ¬ HasTemplate (asked extra question)) → (answer : Answer) → IsTold graph question answer
       → IsAnswer s extra question answer

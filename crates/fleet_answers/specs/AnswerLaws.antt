@@ -5,6 +5,7 @@ use Rattle.std.specs.Prelude.{◌↔◌}
 use Rattle.std.specs.Cmp.Lexicographic.{nat_list_cmp_total}
 use Rattle.list_laws.specs.Members.{IsAmong, IsAmong-append_right}
 use Rattle.edit_sums.specs.Sums.{EntryMap}
+use Rattle.path_maps.specs.Views.{View, fleet_of}
 use Rattle.unit_name.specs.Names.{Name, name_cmp}
 use Rattle.setting_rules.specs.declared.dependency_lists.DependencyList.{DependencyList}
 use Rattle.setting_rules.specs.declared.kinds.DepKind.{DepKind}
@@ -41,10 +42,10 @@ OneAnswer = (s : EntryMap) (extra : List Name) (question : Question) (a b : Answ
 
 -- ---- the names of a question are known to a load of them
 
-pub names_are_known : (s : EntryMap) (names : List Name) (load : LoadMap) → IsLoad s names load → AreKnown load names
+pub names_are_known : (s : View) (names : List Name) (load : LoadMap) → IsLoad s names load → AreKnown load names
 names_are_known s names load is n a = (known_names s names load n is).1 (record { steps = 0; chain = inl a })
 
-pub own_are_known : (s : EntryMap) (extra : List Name) (question : Question) (load : LoadMap) → IsLoad s (asked extra question) load → AreKnown load (names_asked question)
+pub own_are_known : (s : View) (extra : List Name) (question : Question) (load : LoadMap) → IsLoad s (asked extra question) load → AreKnown load (names_asked question)
 own_are_known s extra question load is n a = names_are_known s (asked extra question) load is n (IsAmong-append_right n extra (names_asked question) a)
 
 -- ---- units
@@ -140,7 +141,7 @@ one_told load x y p q (OfUnit name) known a b f g = f.2 ∙ ap answer.Unit (one_
 one_told load x y p q (OfPulled name) known a b f g = f.2 ∙ ap answer.Pulled (one_pulled load x y p q name f.0 g.0 (known name (inl refl)) f.1 g.1) ∙ sym g.2
 one_told load x y p q (OfPlan request) known a b f g = one_plan_told load request x y p q a b f g
 
-module _ (s : EntryMap) (names : List Name) (question : Question) (own : (load : LoadMap) → IsLoad s names load → AreKnown load (names_asked question)) (a b : Answer) where
+module _ (s : View) (names : List Name) (question : Question) (own : (load : LoadMap) → IsLoad s names load → AreKnown load (names_asked question)) (a b : Answer) where
   one_from : IsToldFrom s names question a → IsToldFrom s names question b → a ≡ b
   one_from f g =
       let same : f.graph.load ≡ g.graph.load = one_load s names f.graph.load g.graph.load f.snapshot.is_load g.snapshot.is_load in
@@ -157,4 +158,4 @@ pub one_answer : OneAnswer
 one_answer s extra question a b (inl f) (inl g) = f.1 ∙ sym g.1
 one_answer s extra question a b (inl f) (inr g) = absurd (g.0 f.0)
 one_answer s extra question a b (inr f) (inl g) = absurd (f.0 g.0)
-one_answer s extra question a b (inr f) (inr g) = one_whole s (asked extra question) question (own_are_known s extra question) a b f.1 g.1
+one_answer s extra question a b (inr f) (inr g) = one_whole (fleet_of s) (asked extra question) question (own_are_known (fleet_of s) extra question) a b f.1 g.1

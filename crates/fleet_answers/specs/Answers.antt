@@ -3,6 +3,7 @@
 use Rattle.std.specs.Prelude.{◌≡◌, ◌≢◌, ◌⊎◌, ℕ, Some, List, [], ◌∷◌, ◌++◌, map}
 use Rattle.list_laws.specs.Members.{IsAmong}
 use Rattle.edit_sums.specs.Sums.{EntryMap}
+use Rattle.path_maps.specs.Views.{View, fleet_of}
 use Rattle.unit_name.specs.Names.{Name}
 use Rattle.setting_rules.specs.declared.dependency_lists.DependencyList.{DependencyList}
 use Rattle.setting_rules.specs.declared.kinds.DepKind.{DepKind}
@@ -71,24 +72,24 @@ module _ (graph : GraphMap) where
 
 -- ---- what a store answers
 
--- this is the load of a store with these names asked for, where it isn't too large, and these are its edges
-pub record IsSnapshot (s : EntryMap) (extra : List Name) (graph : GraphMap) : Type 0 where
+-- this is the load of what is seen of a store with these names asked for, where it isn't too large, and these are its edges
+pub record IsSnapshot (s : View) (extra : List Name) (graph : GraphMap) : Type 0 where
   pub within : ¬ IsTooLarge s extra
   pub is_load : IsLoad s extra graph.load
   pub edges_are : AreEdges graph.load graph.edges
 
 -- this is what a question is told by such a load of all names that are asked for
-pub record IsToldFrom (s : EntryMap) (names : List Name) (question : Question) (told : Answer) : Type 0 where
+pub record IsToldFrom (s : View) (names : List Name) (question : Question) (told : Answer) : Type 0 where
   pub graph : GraphMap
   pub snapshot : IsSnapshot s names graph
   pub told_is : IsTold graph question told
 
 -- the store is too large, or this is what the question is told
-abbrev pub IsWholeAnswer : EntryMap → List Name → Question → Answer → Type 0
+abbrev pub IsWholeAnswer : View → List Name → Question → Answer → Type 0
 IsWholeAnswer s names question told = (IsTooLarge s names × (told ≡ answer.TooManyUnits)) ⊎ IsToldFrom s names question told
 
 -- This is what a question is answered from a store, where further names are asked for: a template among the names is told before the store is looked at.
 abbrev pub IsAnswer : EntryMap → List Name → Question → Answer → Type 0
 IsAnswer s extra question told =
     (HasTemplate (asked extra question) × (told ≡ answer.Template))
-    ⊎ (¬ HasTemplate (asked extra question) × IsWholeAnswer s (asked extra question) question told)
+    ⊎ (¬ HasTemplate (asked extra question) × IsWholeAnswer (fleet_of s) (asked extra question) question told)

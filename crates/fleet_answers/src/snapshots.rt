@@ -1,5 +1,6 @@
 //! What all that must be loaded of a store comes to.
 ghost use Rattle.std.specs.Prelude.{◌≡◌, ◌↔◌, ◌⊎◌, ◌<◌, Err, IfOk, IfErr, Some};
+ghost use Rattle.path_maps.specs.Views.{fleet_of};
 ghost use Rattle.parallel_load.specs.Refusals.{OnTooMany, OnWorkers};
 ghost use Rattle.parallel_load.specs.Universe.{IsTooLarge};
 ghost use Rattle.parallel_load.specs.declared.faults.LoadFault.TheVariants.{Workers};
@@ -48,8 +49,8 @@ impl Snapshot {
     ///
     /// One load (systemd.unit(5)), and then its edges.
     pub fn of(alloc: Global, store: &Store, extra: &[UnitName]) -> Result<Snapshot, LoadFault>
-        ensures snapshot { IfOk result (IsSnapshot store.now extra.now) }
-        ensures over { IfErr result (λ fault. OnTooMany fault (IsTooLarge store.now extra.now)) }
+        ensures snapshot { IfOk result (IsSnapshot (fleet_of store.now) extra.now) }
+        ensures over { IfErr result (λ fault. OnTooMany fault (IsTooLarge (fleet_of store.now) extra.now)) }
         ensures no_workers { IfErr result (λ fault. OnWorkers fault ⊥) }
     {
         let loaded = load_here(alloc, store, extra)?;
@@ -67,8 +68,8 @@ impl Snapshot {
         gate: &G,
     ) -> Result<Snapshot, LoadFault>
         ensures workers { (result ≡ Err Workers) ↔ ((workers ≡ 0) ⊎ (64 < workers)) }
-        ensures snapshot { IfOk result (IsSnapshot store.now extra.now) }
-        ensures over { IfErr result (λ fault. OnTooMany fault (IsTooLarge store.now extra.now)) }
+        ensures snapshot { IfOk result (IsSnapshot (fleet_of store.now) extra.now) }
+        ensures over { IfErr result (λ fault. OnTooMany fault (IsTooLarge (fleet_of store.now) extra.now)) }
     {
         if workers == 1 {
             return Snapshot::of(alloc, store, extra);

@@ -28,7 +28,7 @@ use Rattle.fleet_script.proofs.Nodes.{at_place, get_or_any, get_or_here, get_or_
 
 -- ---- merging two nodes
 
--- what stays as it is has no other path
+-- what stays as it is has no other place
 none_other : (s : EntryMap) (es : List (PlaceParts × Entry)) → ((e : Edit) → IsAmong e (map edit_of es) → finmap.get s e.place ≡ Some (entry_of e)) → count_by (λ p. is_other (finmap.get s p.0) p.1) es ≡ 0
 none_other s [] held = refl
 none_other s (p ∷ ps) held =
@@ -99,7 +99,7 @@ module _ (shell now : Keeps) (j i : ℕ) (d : Replicated) (lt_from : j < length 
   pub same_count : length now.nodes ≡ length shell.nodes
   same_count = ap (λ (s : Keeps). length s.nodes) (joined d) ∙ length_set shell.nodes i _
 
-  -- the paths that change are counted
+  -- the places that change are counted
   pub merge_counted : (changed : ℕ) (text : Vec ℕ Global) → ((c : Replicated) → changed ≡ changed_places (get_or shell.nodes i c).store (get_or now.nodes i c).store) → text.items ≡ changed_line changed
       → Goes shell now (λ old outcome new. Gives (changed_line (changed_places (held old i) (held (merged old j i) i))) (merged old j i) outcome new) (Ok text)
   merge_counted changed text counted e world h =
@@ -111,28 +111,28 @@ module _ (shell now : Keeps) (j i : ℕ) (d : Replicated) (lt_from : j < length 
 
 -- ---- part
 
-pub parts : (shell now : Keeps) (piece : List ℕ) (j i : ℕ) (d : Replicated) (paths : List PlaceParts) (entries : EntryMap) (text : Vec ℕ Global) → j < length shell.nodes → i < length shell.nodes
-    → ((c : Replicated) → entries ≡ cut (get_or shell.nodes j c).store (digest_of (get_or shell.nodes i c).store) (if_any paths))
+pub parts : (shell now : Keeps) (piece : List ℕ) (j i : ℕ) (d : Replicated) (places : List PlaceParts) (entries : EntryMap) (text : Vec ℕ Global) → j < length shell.nodes → i < length shell.nodes
+    → ((c : Replicated) → entries ≡ cut (get_or shell.nodes j c).store (digest_of (get_or shell.nodes i c).store) (if_any places))
     → now.nodes ≡ shell.nodes → now.number_of ≡ shell.number_of → now.is_taken ≡ shell.is_taken
     → ((other : List ℕ) → now.piece_of other ≡ cond (bytes_eq piece other) (Some entries) (shell.piece_of other))
     → text.items ≡ entries_line (length (finmap.entries entries))
-    → Goes shell now (λ old outcome new. Gives (entries_line (length (finmap.entries (cut (held old j) (digest_of (held old i)) (if_any paths))))) (parted old piece j i (if_any paths)) outcome new) (Ok text)
-parts shell now piece j i d paths entries text lt_from lt_to is nodes numbers writers kept e world h =
-    let cut_is : entries ≡ cut (held world j) (digest_of (held world i)) (if_any paths) =
-    is d ∙ (λ n. cut (at_place shell world h j d lt_from n) (digest_of (at_place shell world h i d lt_to n)) (if_any paths)) in (
-      parted world piece j i (if_any paths),
-      holds_part shell world h piece j i (if_any paths) now entries lt_from lt_to cut_is nodes numbers writers kept,
+    → Goes shell now (λ old outcome new. Gives (entries_line (length (finmap.entries (cut (held old j) (digest_of (held old i)) (if_any places))))) (parted old piece j i (if_any places)) outcome new) (Ok text)
+parts shell now piece j i d places entries text lt_from lt_to is nodes numbers writers kept e world h =
+    let cut_is : entries ≡ cut (held world j) (digest_of (held world i)) (if_any places) =
+    is d ∙ (λ n. cut (at_place shell world h j d lt_from n) (digest_of (at_place shell world h i d lt_to n)) (if_any places)) in (
+      parted world piece j i (if_any places),
+      holds_part shell world h piece j i (if_any places) now entries lt_from lt_to cut_is nodes numbers writers kept,
       record { outcome_is = ap Ok (e ∙ ap (λ (s : EntryMap). entries_line (length (finmap.entries s))) cut_is); world_is = refl },
     )
 
--- what is cut for the ask of a node, at all paths
-pub cut_at_all : (nodes : List Replicated) (from to : ℕ) (paths : List PlaceParts) (here there : Replicated) (asked : VersionMap) (piece : EntryMap) → from < length nodes → to < length nodes → here ≡ get_or nodes from here → there ≡ get_or nodes to there
-    → asked ≡ digest_of there.store → true ≡ (length paths == 0) → piece ≡ cut here.store asked None
-    → (d : Replicated) → piece ≡ cut (get_or nodes from d).store (digest_of (get_or nodes to d).store) (if_any paths)
-cut_at_all nodes from to paths here there asked piece lt_from lt_to is_here is_there is_asked none is d =
+-- what is cut for the ask of a node, at all places
+pub cut_at_all : (nodes : List Replicated) (from to : ℕ) (places : List PlaceParts) (here there : Replicated) (asked : VersionMap) (piece : EntryMap) → from < length nodes → to < length nodes → here ≡ get_or nodes from here → there ≡ get_or nodes to there
+    → asked ≡ digest_of there.store → true ≡ (length places == 0) → piece ≡ cut here.store asked None
+    → (d : Replicated) → piece ≡ cut (get_or nodes from d).store (digest_of (get_or nodes to d).store) (if_any places)
+cut_at_all nodes from to places here there asked piece lt_from lt_to is_here is_there is_asked none is d =
     let one : here ≡ get_or nodes from d = is_here ∙ get_or_any nodes from here d lt_from in
     let other : there ≡ get_or nodes to d = is_there ∙ get_or_any nodes to there d lt_to in
-    let nothing : [] ≡ paths = sym (nil_from_length paths (eqb-true (length paths) 0 (sym none))) in
+    let nothing : [] ≡ places = sym (nil_from_length places (eqb-true (length places) 0 (sym none))) in
     is ∙ (λ n. cut (one n).store ((is_asked ∙ ap (λ (k : Replicated). digest_of k.store) other) n) (if_any (nothing n)))
 
 -- ---- send

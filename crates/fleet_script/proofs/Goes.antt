@@ -11,10 +11,10 @@ use Rattle.std.specs.declared.cmp.Ordering.TheVariants.{Equal}
 use Rattle.std.proofs.lemmas.Map.Text.{is_eq-slice_cmp}
 use Rattle.std.proofs.lemmas.Bool.{true≢false, eq-eqb, eqb-true, ne_eqb}
 use Rattle.join_law.specs.declared.versions.Version.{Version}
-use Rattle.load_path.specs.Paths.{path_of}
+use Rattle.load_places.specs.Texts.{place_of}
 use Rattle.load_places.specs.Places.{PlaceParts}
-use Rattle.load_path.specs.declared.paths.PathFault.{PathFault}
-use Rattle.load_path.specs.declared.paths.PathFault.TheVariants as path
+use Rattle.load_places.specs.declared.texts.PlaceFault.{PlaceFault}
+use Rattle.load_places.specs.declared.texts.PlaceFault.TheVariants as place
 use Rattle.edit_sums.specs.declared.contents.Content.{Content}
 use Rattle.edit_sums.specs.declared.contents.Content.TheVariants.{Gone}
 use Rattle.edit_sums.specs.declared.entries.Edit.{Edit}
@@ -26,16 +26,16 @@ use Rattle.world_law.specs.declared.events.Event.TheVariants.{Put}
 use Rattle.script_commands.specs.declared.commands.Fault.{Fault}
 use Rattle.script_commands.specs.declared.commands.Fault.TheVariants.{Refused, Memory}
 use Rattle.script_commands.specs.declared.commands.LineRefusal.{LineRefusal}
-use Rattle.script_commands.specs.declared.commands.LineRefusal.TheVariants.{UnknownNode, BadText, Directory, Depth, Component, FileTooLarge, BadLink, VersionsSpent, Nothing, NodeTaken, WriterTaken}
-use Rattle.script_commands.specs.Faults.{fault_of_edit, fault_of_path}
+use Rattle.script_commands.specs.declared.commands.LineRefusal.TheVariants.{UnknownNode, BadText, HostName, Directory, Depth, Component, FileTooLarge, BadLink, VersionsSpent, Nothing, NodeTaken, WriterTaken}
+use Rattle.script_commands.specs.Faults.{fault_of_edit, fault_of_place}
 use Rattle.script_commands.specs.Files.{IsFileOf, IsLinkTo, IsNoFile, IsNoLink, without_memory, bad_text, too_large}
 use Rattle.script_commands.specs.Outcomes.{IsSaid, Outcome}
-use Rattle.script_commands.specs.Paths.{IsPathFault, paths_of}
+use Rattle.script_commands.specs.Places.{IsPlaceFault, places_of}
 use Rattle.script_answers.specs.Texts.{ok_line}
 use Rattle.script_worlds.specs.Worlds.{ScriptWorld, happened, has_writer, held, next_edit}
 use Rattle.script_worlds.specs.Worlds.{with_node as with_new_node}
-use Rattle.fleet_script.specs.Does.{AtNode, AtPath, AtPaths, Gives, IsRead, Names, Reads, Refuses, RefusesPath, WithFile, WithTarget, WithText, Writes}
-use Rattle.fleet_script.specs.Holds.{Goes, HasNoNode, HasNoPlace, Holds, IsNodeNamed, Keeps}
+use Rattle.fleet_script.specs.Does.{AtNode, AtPlace, AtPlaces, Gives, IsRead, Names, Reads, Refuses, RefusesPlace, WithFile, WithTarget, WithText, Writes}
+use Rattle.fleet_script.specs.Holds.{Goes, HasNoNode, HasNoSite, Holds, IsNodeNamed, Keeps}
 use Rattle.fleet_script.proofs.Nodes.{holds_node, holds_put, set_same}
 
 -- steps, and what they leave open
@@ -78,20 +78,20 @@ module _ (shell after : Keeps) (r : Told) where
   pub with_node : (name : List ℕ) (at : ℕ) (P : ℕ → Step) → shell.number_of name ≡ Some at → Goes shell after (P at) r → Goes shell after (λ old outcome new. AtNode old outcome new name (λ k. P k old outcome new)) r
   with_node name at P some = weaker shell after r (P at) _ (λ old h outcome new p. subst (λ (o : Option ℕ). MatchOption o (Refuses old UnknownNode outcome new) (λ k. P k old outcome new)) (sym some ∙ h.numbers name) p)
 
-  -- the path that a text writes, and the paths that words write
-  pub with_path : (text : List ℕ) (p : PlaceParts) (P : PlaceParts → Step) → path_of text ≡ Ok p → Goes shell after (P p) r → Goes shell after (λ old outcome new. AtPath old outcome new text (λ q. P q old outcome new)) r
-  with_path text p P read = weaker shell after r (P p) _ (λ old h outcome new q. subst (λ (x : Result PlaceParts PathFault). MatchResult x (λ q. P q old outcome new) (RefusesPath old outcome new)) (sym read) q)
+  -- the place that a text writes, and the places that words write
+  pub with_written : (text : List ℕ) (p : PlaceParts) (P : PlaceParts → Step) → place_of text ≡ Ok p → Goes shell after (P p) r → Goes shell after (λ old outcome new. AtPlace old outcome new text (λ q. P q old outcome new)) r
+  with_written text p P read = weaker shell after r (P p) _ (λ old h outcome new q. subst (λ (x : Result PlaceParts PlaceFault). MatchResult x (λ q. P q old outcome new) (RefusesPlace old outcome new)) (sym read) q)
 
-  pub with_paths : (texts : List (List ℕ)) (ps : List PlaceParts) (P : List PlaceParts → Step) → paths_of texts ≡ Ok ps → Goes shell after (P ps) r → Goes shell after (λ old outcome new. AtPaths old outcome new texts (λ q. P q old outcome new)) r
-  with_paths texts ps P read = weaker shell after r (P ps) _ (λ old h outcome new q. subst (λ (x : Result (List PlaceParts) PathFault). MatchResult x (λ q. P q old outcome new) (RefusesPath old outcome new)) (sym read) q)
+  pub with_all_written : (texts : List (List ℕ)) (ps : List PlaceParts) (P : List PlaceParts → Step) → places_of texts ≡ Ok ps → Goes shell after (P ps) r → Goes shell after (λ old outcome new. AtPlaces old outcome new texts (λ q. P q old outcome new)) r
+  with_all_written texts ps P read = weaker shell after r (P ps) _ (λ old h outcome new q. subst (λ (x : Result (List PlaceParts) PlaceFault). MatchResult x (λ q. P q old outcome new) (RefusesPlace old outcome new)) (sym read) q)
 
-  -- a path that a text writes, of the node of a name
-  pub with_place : (name text : List ℕ) (at : ℕ) (p : PlaceParts) (P : ℕ → PlaceParts → Step)
-      → shell.number_of name ≡ Some at → path_of text ≡ Ok p → Goes shell after (P at p) r
-      → Goes shell after (λ old outcome new. AtNode old outcome new name (λ k. AtPath old outcome new text (λ q. P k q old outcome new))) r
-  with_place name text at p P found read go =
-      with_node name at (λ k old outcome new. AtPath old outcome new text (λ q. P k q old outcome new)) found
-      (with_path text p (P at) read go)
+  -- a place that a text writes, of the node of a name
+  pub with_site : (name text : List ℕ) (at : ℕ) (p : PlaceParts) (P : ℕ → PlaceParts → Step)
+      → shell.number_of name ≡ Some at → place_of text ≡ Ok p → Goes shell after (P at p) r
+      → Goes shell after (λ old outcome new. AtNode old outcome new name (λ k. AtPlace old outcome new text (λ q. P k q old outcome new))) r
+  with_site name text at p P found read go =
+      with_node name at (λ k old outcome new. AtPlace old outcome new text (λ q. P k q old outcome new)) found
+      (with_written text p (P at) read go)
 
   -- the file that a text spells, and the link to a target
   pub with_file : (text : List ℕ) (content : Content) (P : Content → Step) → IsFileOf text content → Goes shell after (P content) r
@@ -107,25 +107,26 @@ module _ (shell : Keeps) (fault : Fault) where
   without_node name P (inl e) = no_memory shell shell fault _ e
   without_node name P (inr (e, none)) = refused shell UnknownNode fault _ e (λ old h. subst (λ (o : Option ℕ). MatchOption o (Refuses old UnknownNode (Err UnknownNode) old) (λ k. P k old (Err UnknownNode) old)) (sym none ∙ h.numbers name) (refuses old UnknownNode))
 
-  refuses_path : (f : PathFault) (S : Step) → fault ≡ fault_of_path f → ((old : ScriptWorld) (outcome : Outcome) → RefusesPath old outcome old f → S old outcome old) → Goes shell shell S (Err fault)
-  refuses_path path.Directory S e s = refused shell Directory fault S e (λ old h. s old (Err Directory) (refuses old Directory))
-  refuses_path path.Depth S e s = refused shell Depth fault S e (λ old h. s old (Err Depth) (refuses old Depth))
-  refuses_path path.Component S e s = refused shell Component fault S e (λ old h. s old (Err Component) (refuses old Component))
-  refuses_path path.Memory S e s = no_memory shell shell fault S e
+  refuses_place : (f : PlaceFault) (S : Step) → fault ≡ fault_of_place f → ((old : ScriptWorld) (outcome : Outcome) → RefusesPlace old outcome old f → S old outcome old) → Goes shell shell S (Err fault)
+  refuses_place place.HostName S e s = refused shell HostName fault S e (λ old h. s old (Err HostName) (refuses old HostName))
+  refuses_place place.Directory S e s = refused shell Directory fault S e (λ old h. s old (Err Directory) (refuses old Directory))
+  refuses_place place.Depth S e s = refused shell Depth fault S e (λ old h. s old (Err Depth) (refuses old Depth))
+  refuses_place place.Component S e s = refused shell Component fault S e (λ old h. s old (Err Component) (refuses old Component))
+  refuses_place place.Memory S e s = no_memory shell shell fault S e
 
-  pub without_path : (text : List ℕ) (P : PlaceParts → Step) → IsPathFault (path_of text) fault → Goes shell shell (λ old outcome new. AtPath old outcome new text (λ q. P q old outcome new)) (Err fault)
-  without_path text P (inl e) = no_memory shell shell fault _ e
-  without_path text P (inr (f, read, e)) = refuses_path f _ e (λ old outcome r. subst (λ (x : Result PlaceParts PathFault). MatchResult x (λ q. P q old outcome old) (RefusesPath old outcome old)) (sym read) r)
+  pub without_written : (text : List ℕ) (P : PlaceParts → Step) → IsPlaceFault (place_of text) fault → Goes shell shell (λ old outcome new. AtPlace old outcome new text (λ q. P q old outcome new)) (Err fault)
+  without_written text P (inl e) = no_memory shell shell fault _ e
+  without_written text P (inr (f, read, e)) = refuses_place f _ e (λ old outcome r. subst (λ (x : Result PlaceParts PlaceFault). MatchResult x (λ q. P q old outcome old) (RefusesPlace old outcome old)) (sym read) r)
 
-  pub without_place : (name text : List ℕ) (P : ℕ → PlaceParts → Step) → HasNoPlace shell name text fault
-      → Goes shell shell (λ old outcome new. AtNode old outcome new name (λ k. AtPath old outcome new text (λ q. P k q old outcome new))) (Err fault)
-  without_place name text P (inl none) = without_node name (λ k old outcome new. AtPath old outcome new text (λ q. P k q old outcome new)) none
-  without_place name text P (inr (at, named, bad)) =
-      with_node shell shell (Err fault) name at (λ k old outcome new. AtPath old outcome new text (λ q. P k q old outcome new)) named (without_path text (P at) bad)
+  pub without_site : (name text : List ℕ) (P : ℕ → PlaceParts → Step) → HasNoSite shell name text fault
+      → Goes shell shell (λ old outcome new. AtNode old outcome new name (λ k. AtPlace old outcome new text (λ q. P k q old outcome new))) (Err fault)
+  without_site name text P (inl none) = without_node name (λ k old outcome new. AtPlace old outcome new text (λ q. P k q old outcome new)) none
+  without_site name text P (inr (at, named, bad)) =
+      with_node shell shell (Err fault) name at (λ k old outcome new. AtPlace old outcome new text (λ q. P k q old outcome new)) named (without_written text (P at) bad)
 
-  pub without_paths : (texts : List (List ℕ)) (P : List PlaceParts → Step) → IsPathFault (paths_of texts) fault → Goes shell shell (λ old outcome new. AtPaths old outcome new texts (λ q. P q old outcome new)) (Err fault)
-  without_paths texts P (inl e) = no_memory shell shell fault _ e
-  without_paths texts P (inr (f, read, e)) = refuses_path f _ e (λ old outcome r. subst (λ (x : Result (List PlaceParts) PathFault). MatchResult x (λ q. P q old outcome old) (RefusesPath old outcome old)) (sym read) r)
+  pub without_all_written : (texts : List (List ℕ)) (P : List PlaceParts → Step) → IsPlaceFault (places_of texts) fault → Goes shell shell (λ old outcome new. AtPlaces old outcome new texts (λ q. P q old outcome new)) (Err fault)
+  without_all_written texts P (inl e) = no_memory shell shell fault _ e
+  without_all_written texts P (inr (f, read, e)) = refuses_place f _ e (λ old outcome r. subst (λ (x : Result (List PlaceParts) PlaceFault). MatchResult x (λ q. P q old outcome old) (RefusesPlace old outcome old)) (sym read) r)
 
   pub without_file : (text : List ℕ) (P : Content → Step) → IsNoFile text fault → Goes shell shell (λ old outcome new. WithText old outcome new text (λ bytes. WithFile old outcome new bytes (λ c. P c old outcome new))) (Err fault)
   without_file text P (without_memory e) = no_memory shell shell fault _ e

@@ -165,12 +165,12 @@ module _ (shell : Keeps) (world : ScriptWorld) (h : Holds shell world) where
   }
 
   -- a node puts its next edit
-  pub holds_put : (i : ℕ) (path : PlaceParts) (content : Content) (node new : Replicated) → i < length shell.nodes → slice_get shell.nodes i ≡ Some node
-      → new.writer ≡ node.writer → new.store ≡ with_edit node.store (next_edit world i path content)
-      → Holds (record shell { nodes = set shell.nodes i new }) (happened world (Put i (next_edit world i path content)))
-  holds_put i path content node new lt at writer store =
-      let edit = next_edit world i path content in
-      holds_at (happened world (Put i edit)) i node new lt at writer refl refl (lawful_put world i path content h.lawful (below_count i lt))
+  pub holds_put : (i : ℕ) (place : PlaceParts) (content : Content) (node new : Replicated) → i < length shell.nodes → slice_get shell.nodes i ≡ Some node
+      → new.writer ≡ node.writer → new.store ≡ with_edit node.store (next_edit world i place content)
+      → Holds (record shell { nodes = set shell.nodes i new }) (happened world (Put i (next_edit world i place content)))
+  holds_put i place content node new lt at writer store =
+      let edit = next_edit world i place content in
+      holds_at (happened world (Put i edit)) i node new lt at writer refl refl (lawful_put world i place content h.lawful (below_count i lt))
       (λ p piece there. piece_stays (state world) (Put i edit) p piece there)
       (store ∙ ap (λ (s : EntryMap). with_edit s edit) (h.stores i node at) ∙ sym (held_put world i edit (below_count i lt)))
       (held_put_elsewhere world i edit)
@@ -184,8 +184,8 @@ module _ (shell : Keeps) (world : ScriptWorld) (h : Holds shell world) where
       (store ∙ (λ n. join (h.stores i node at n) (h.stores j other from n)) ∙ sym (held_merged world h.lawful j i (below_count j lt_from) (below_count i lt_to)))
       (λ k ne. held_merged_elsewhere world j i k ne)
     where
-      answered_stays : (from to : ℕ) (paths : Option (List PlaceParts)) (p : ℕ) (piece : worlds.Piece) → slice_get (state world).pieces p ≡ Some piece → slice_get (state (answered world from to paths)).pieces p ≡ Some piece
-      answered_stays from to paths p piece there = piece_stays (state (happened world (Ask to))) (Cut from (next_ask world) paths) p piece (piece_stays (state world) (Ask to) p piece there)
+      answered_stays : (from to : ℕ) (places : Option (List PlaceParts)) (p : ℕ) (piece : worlds.Piece) → slice_get (state world).pieces p ≡ Some piece → slice_get (state (answered world from to places)).pieces p ≡ Some piece
+      answered_stays from to places p piece there = piece_stays (state (happened world (Ask to))) (Cut from (next_ask world) places) p piece (piece_stays (state world) (Ask to) p piece there)
 
   -- a node is given a piece
   pub holds_send : (p i : ℕ) (node new : Replicated) (piece : worlds.Piece) → i < length shell.nodes → slice_get shell.nodes i ≡ Some node → slice_get (state world).pieces p ≡ Some piece
@@ -197,15 +197,15 @@ module _ (shell : Keeps) (world : ScriptWorld) (h : Holds shell world) where
       (λ k ne. held_given_elsewhere world p i k ne)
 
   -- what a node cuts for another is kept under a name
-  pub holds_part : (name : List ℕ) (j i : ℕ) (paths : Option (List PlaceParts)) (now : Keeps) (piece : EntryMap) → j < length shell.nodes → i < length shell.nodes
-      → piece ≡ cut (held world j) (digest_of (held world i)) paths
+  pub holds_part : (name : List ℕ) (j i : ℕ) (places : Option (List PlaceParts)) (now : Keeps) (piece : EntryMap) → j < length shell.nodes → i < length shell.nodes
+      → piece ≡ cut (held world j) (digest_of (held world i)) places
       → now.nodes ≡ shell.nodes → now.number_of ≡ shell.number_of → now.is_taken ≡ shell.is_taken
       → ((other : List ℕ) → now.piece_of other ≡ cond (bytes_eq name other) (Some piece) (shell.piece_of other))
-      → Holds now (parted world name j i paths)
-  holds_part name j i paths now piece lt_from lt_to is same_nodes same_numbers same_writers kept = record {
+      → Holds now (parted world name j i places)
+  holds_part name j i places now piece lt_from lt_to is same_nodes same_numbers same_writers kept = record {
     count = ap (λ (ns : List Replicated). length ns) same_nodes ∙ h.count;
     writers = λ k node at. h.writers k node (subst (λ (ns : List Replicated). slice_get ns k ≡ Some node) same_nodes at);
-    stores = λ k node at. h.stores k node (subst (λ (ns : List Replicated). slice_get ns k ≡ Some node) same_nodes at) ∙ sym (held_answered world j i paths k);
+    stores = λ k node at. h.stores k node (subst (λ (ns : List Replicated). slice_get ns k ≡ Some node) same_nodes at) ∙ sym (held_answered world j i places k);
     numbers = λ other. ap (λ (f : List ℕ → Option ℕ). f other) same_numbers ∙ h.numbers other;
     taken = λ writer. ap (λ (f : ℕ → Bool). f writer) same_writers ∙ h.taken writer;
     pieces = λ other. subst (λ (o : Option EntryMap). IsNamed next o (piece_named next.pieces other)) (sym (kept other)) (by other (bytes_eq name other));
@@ -213,11 +213,11 @@ module _ (shell : Keeps) (world : ScriptWorld) (h : Holds shell world) where
   }
     where
       next : ScriptWorld
-      next = parted world name j i paths
+      next = parted world name j i places
 
       lawful_parted : IsLawful next
       lawful_parted =
-          let lawful = lawful_answered world j i paths h.lawful (below_count j lt_from) (below_count i lt_to) in
+          let lawful = lawful_answered world j i places h.lawful (below_count j lt_from) (below_count i lt_to) in
           record {
             within = lawful.within;
             apart = lawful.apart;
@@ -226,11 +226,11 @@ module _ (shell : Keeps) (world : ScriptWorld) (h : Holds shell world) where
           }
 
       stays : (p : ℕ) (other : worlds.Piece) → slice_get (state world).pieces p ≡ Some other → slice_get (state next).pieces p ≡ Some other
-      stays p other there = piece_stays (state (happened world (Ask i))) (Cut j (next_ask world) paths) p other (piece_stays (state world) (Ask i) p other there)
+      stays p other there = piece_stays (state (happened world (Ask i))) (Cut j (next_ask world) places) p other (piece_stays (state world) (Ask i) p other there)
 
       made : IsPiece next (next_piece world) piece
       made =
-          let answer = answer_is (length world.nodes) world.events h.lawful.honest j i (below_count j lt_from) (below_count i lt_to) paths in
+          let answer = answer_is (length world.nodes) world.events h.lawful.honest j i (below_count j lt_from) (below_count i lt_to) places in
           record { piece = answer.0; there = answer.1; entries_are = answer.2 ∙ sym is }
 
       by : (other : List ℕ) (b : Bool) → IsNamed next (cond b (Some piece) (shell.piece_of other)) (cond b (Some (next_piece world)) (piece_named world.pieces other))

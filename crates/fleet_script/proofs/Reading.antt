@@ -18,7 +18,7 @@ use Rattle.script_answers.specs.FileLaws.{files_are_told_once}
 use Rattle.script_answers.specs.Files.{TellsFiles}
 use Rattle.script_answers.specs.Tells.{TellsList, TellsPlan, TellsUnit, plan_asked, pulled_asked, unit_asked}
 use Rattle.script_answers.specs.TellsLaws.{questions_are_told_once}
-use Rattle.fleet_script.specs.Does.{Does, IsRead, Reads, Refuses, TellsPaths}
+use Rattle.fleet_script.specs.Does.{Does, IsRead, Reads, Refuses, TellsPlaces}
 use Rattle.fleet_script.specs.Readings.{IsReading, SameEditsSameOutcomes, SameEditsSameStores, StoresAreLeast, of_node}
 use Rattle.fleet_script.specs.Scripts.{Run}
 use Rattle.fleet_script.proofs.WholeScripts.{run_lawful}
@@ -39,18 +39,18 @@ module _ (world other : ScriptWorld) (left right : List ℕ) (j k : ℕ) (is_lef
       once (held other k) a b (subst (λ (s : EntryMap). Tells s a) (sum_of-same_edits _ _ same.0 same.1) one.told) two.told
 
   alike : (command : Command) → IsReading command → Does world (of_node left command) a x → Does other (of_node right command) b y → a ≡ b
-  alike (Files node) h p q = read_alike TellsPaths (λ s a b p q. p ∙ sym q) p q
+  alike (Files node) h p q = read_alike TellsPlaces (λ s a b p q. p ∙ sym q) p q
   alike (Cat node unit) h p q = read_alike (TellsFiles unit) (files_are_told_once unit) p q
   alike (Show node unit) h p q = read_alike (TellsUnit unit) (questions_are_told_once (unit_asked unit)) p q
   alike (ListUnits node unit) h p q = read_alike (TellsList unit) (questions_are_told_once (pulled_asked unit)) p q
   alike (Plan node unit running) h p q = read_alike (TellsPlan unit running) (questions_are_told_once (plan_asked unit running)) p q
   alike (Crowd node seats edits) h p q = read_alike (TellsCrowd seats edits) (crowds_are_told_once seats edits) p q
   alike (Node name writer) h p q = absurd h
-  alike (Put node path text) h p q = absurd h
-  alike (Link node path target) h p q = absurd h
-  alike (Remove node path) h p q = absurd h
+  alike (Put node place text) h p q = absurd h
+  alike (Link node place target) h p q = absurd h
+  alike (Remove node place) h p q = absurd h
   alike (Merge from to) h p q = absurd h
-  alike (Part piece from to paths) h p q = absurd h
+  alike (Part piece from to places) h p q = absurd h
   alike (Send piece node) h p q = absurd h
   alike Sweep h p q = absurd h
   alike (Workers count) h p q = absurd h

@@ -5,10 +5,10 @@ use Rattle.std.specs.Prelude.{MatchOption, MatchResult}
 use Rattle.std.specs.Bool.{MatchBool}
 use Rattle.std.specs.FinMap as finmap
 use Rattle.std.proofs.lemmas.Bool.{true≢false}
-use Rattle.load_path.specs.Paths.{path_of}
+use Rattle.load_places.specs.Texts.{place_of}
 use Rattle.load_places.specs.Places.{PlaceParts}
-use Rattle.load_path.specs.declared.paths.PathFault.{PathFault}
-use Rattle.load_path.specs.declared.paths.PathFault.TheVariants as path
+use Rattle.load_places.specs.declared.texts.PlaceFault.{PlaceFault}
+use Rattle.load_places.specs.declared.texts.PlaceFault.TheVariants as place
 use Rattle.edit_sums.specs.declared.contents.Content.{Content}
 use Rattle.edit_sums.specs.declared.contents.Content.TheVariants as content
 use Rattle.edit_sums.specs.Limits.{is_file, is_target}
@@ -19,9 +19,9 @@ use Rattle.script_words.specs.TextLaws.{spells_one}
 use Rattle.script_commands.specs.declared.commands.Command.{Command}
 use Rattle.script_commands.specs.declared.commands.Command.TheVariants.{Node, Put, Link, Remove, Merge, Part, Send, Sweep, Files, Cat, Show, List as ListUnits, Plan, Workers, Same, Crowd}
 use Rattle.script_commands.specs.declared.commands.LineRefusal.{LineRefusal}
-use Rattle.script_commands.specs.declared.commands.LineRefusal.TheVariants.{BadLink, BadText, Component, Depth, Directory, FileTooLarge, NodeTaken, Nothing, UnknownNode, UnknownPiece, VersionsSpent, Workers as NoCrew, WriterTaken}
+use Rattle.script_commands.specs.declared.commands.LineRefusal.TheVariants.{BadLink, BadText, Component, Depth, Directory, FileTooLarge, HostName, NodeTaken, Nothing, UnknownNode, UnknownPiece, VersionsSpent, Workers as NoCrew, WriterTaken}
 use Rattle.script_commands.specs.Outcomes.{Outcome, is_spent}
-use Rattle.script_commands.specs.Paths.{paths_of}
+use Rattle.script_commands.specs.Places.{places_of}
 use Rattle.script_answers.specs.Texts.{changed_line, entries_line, ok_line}
 use Rattle.script_worlds.specs.Worlds.{ScriptWorld, Member, happened, has_writer, held, merged, merged_all, next_edit, node_named, numbers_from, parted, piece_named, swept, with_node}
 use Rattle.script_worlds.specs.Counts.{IsPutUpTo}
@@ -36,7 +36,7 @@ use Rattle.script_answers.specs.Files.{TellsFiles}
 use Rattle.script_answers.specs.Tells.{TellsList, TellsPlan, TellsUnit, plan_asked, pulled_asked, unit_asked}
 use Rattle.script_answers.specs.TellsLaws.{questions_are_told_once, questions_spend_nothing}
 use Rattle.worker_rounds.specs.Crews.{IsCrew}
-use Rattle.fleet_script.specs.Does.{AtNode, AtPath, AtPaths, AtPiece, Does, Gives, IsRead, Reads, Refuses, RefusesPath, TellsPaths, WithFile, WithTarget, WithText, Writes, if_any}
+use Rattle.fleet_script.specs.Does.{AtNode, AtPlace, AtPlaces, AtPiece, Does, Gives, IsRead, Reads, Refuses, RefusesPlace, TellsPlaces, WithFile, WithTarget, WithText, Writes, if_any}
 use Rattle.fleet_script.proofs.Between.{merged_all-append, merged_nodes}
 
 -- a lawful world is followed by a lawful one, and the greatest counter that was put grows by one at most
@@ -135,17 +135,18 @@ module _ (old : ScriptWorld) where
   at_piece : (name : List ℕ) (P : ℕ → Outcome → ScriptWorld → Type 0) → ((p : ℕ) → IsStep old (P p)) → IsStep old (λ outcome new. AtPiece old outcome new name (λ p. P p outcome new))
   at_piece name P f = with_option (piece_named old.pieces name) (λ outcome new. Refuses old UnknownPiece outcome new) P (λ none. refuses UnknownPiece refl) (λ p is. f p)
 
-  refuses_path : (fault : PathFault) → IsStep old (λ outcome new. RefusesPath old outcome new fault)
-  refuses_path path.Directory = refuses Directory refl
-  refuses_path path.Depth = refuses Depth refl
-  refuses_path path.Component = refuses Component refl
-  refuses_path path.Memory = never
+  refuses_place : (fault : PlaceFault) → IsStep old (λ outcome new. RefusesPlace old outcome new fault)
+  refuses_place place.HostName = refuses HostName refl
+  refuses_place place.Directory = refuses Directory refl
+  refuses_place place.Depth = refuses Depth refl
+  refuses_place place.Component = refuses Component refl
+  refuses_place place.Memory = never
 
-  at_path : (text : List ℕ) (P : PlaceParts → Outcome → ScriptWorld → Type 0) → ((at : PlaceParts) → IsStep old (P at)) → IsStep old (λ outcome new. AtPath old outcome new text (λ at. P at outcome new))
-  at_path text P f = with_result (path_of text) P (λ fault outcome new. RefusesPath old outcome new fault) f refuses_path
+  at_written : (text : List ℕ) (P : PlaceParts → Outcome → ScriptWorld → Type 0) → ((at : PlaceParts) → IsStep old (P at)) → IsStep old (λ outcome new. AtPlace old outcome new text (λ at. P at outcome new))
+  at_written text P f = with_result (place_of text) P (λ fault outcome new. RefusesPlace old outcome new fault) f refuses_place
 
-  at_paths : (texts : List (List ℕ)) (P : List PlaceParts → Outcome → ScriptWorld → Type 0) → ((paths : List PlaceParts) → IsStep old (P paths)) → IsStep old (λ outcome new. AtPaths old outcome new texts (λ paths. P paths outcome new))
-  at_paths texts P f = with_result (paths_of texts) P (λ fault outcome new. RefusesPath old outcome new fault) f refuses_path
+  at_all_written : (texts : List (List ℕ)) (P : List PlaceParts → Outcome → ScriptWorld → Type 0) → ((places : List PlaceParts) → IsStep old (P places)) → IsStep old (λ outcome new. AtPlaces old outcome new texts (λ places. P places outcome new))
+  at_all_written texts P f = with_result (places_of texts) P (λ fault outcome new. RefusesPlace old outcome new fault) f refuses_place
 
   with_text : (text : List ℕ) (P : List ℕ → Outcome → ScriptWorld → Type 0) → ((bytes : List ℕ) → IsStep old (P bytes)) → IsStep old (λ outcome new. WithText old outcome new text (λ bytes. P bytes outcome new))
   with_text text P f = record { one = one; follows = follows; unspent = unspent }
@@ -236,17 +237,17 @@ module _ (old : ScriptWorld) where
       })))
       (λ k is. refuses NodeTaken refl)
   does (Put node text file) =
-      at_node node (λ k outcome new. AtPath old outcome new text (λ at. WithText old outcome new file (λ bytes. WithFile old outcome new bytes (Writes old outcome new k at))))
-      (λ k lt. at_path text (λ at outcome new. WithText old outcome new file (λ bytes. WithFile old outcome new bytes (Writes old outcome new k at)))
+      at_node node (λ k outcome new. AtPlace old outcome new text (λ at. WithText old outcome new file (λ bytes. WithFile old outcome new bytes (Writes old outcome new k at))))
+      (λ k lt. at_written text (λ at outcome new. WithText old outcome new file (λ bytes. WithFile old outcome new bytes (Writes old outcome new k at)))
       (λ at. with_text file (λ bytes outcome new. WithFile old outcome new bytes (Writes old outcome new k at))
       (λ bytes. with_file bytes (λ c outcome new. Writes old outcome new k at c) (writes k at (content.File bytes) lt))))
   does (Link node text target) =
-      at_node node (λ k outcome new. AtPath old outcome new text (λ at. WithTarget old outcome new target (Writes old outcome new k at)))
-      (λ k lt. at_path text (λ at outcome new. WithTarget old outcome new target (Writes old outcome new k at))
+      at_node node (λ k outcome new. AtPlace old outcome new text (λ at. WithTarget old outcome new target (Writes old outcome new k at)))
+      (λ k lt. at_written text (λ at outcome new. WithTarget old outcome new target (Writes old outcome new k at))
       (λ at. with_target target (λ c outcome new. Writes old outcome new k at c) (writes k at (content.Link target) lt)))
   does (Remove node text) =
-      at_node node (λ k outcome new. AtPath old outcome new text (λ at. MatchOption (visible_at (held old k) at) (Refuses old Nothing outcome new) (λ shown. Writes old outcome new k at content.Gone)))
-      (λ k lt. at_path text (λ at outcome new. MatchOption (visible_at (held old k) at) (Refuses old Nothing outcome new) (λ shown. Writes old outcome new k at content.Gone))
+      at_node node (λ k outcome new. AtPlace old outcome new text (λ at. MatchOption (visible_at (held old k) at) (Refuses old Nothing outcome new) (λ shown. Writes old outcome new k at content.Gone)))
+      (λ k lt. at_written text (λ at outcome new. MatchOption (visible_at (held old k) at) (Refuses old Nothing outcome new) (λ shown. Writes old outcome new k at content.Gone))
       (λ at. with_option (visible_at (held old k) at) (λ outcome new. Refuses old Nothing outcome new) (λ shown outcome new. Writes old outcome new k at content.Gone)
       (λ none. refuses Nothing refl) (λ shown is. writes k at content.Gone lt)))
   does (Merge from to) =
@@ -254,15 +255,15 @@ module _ (old : ScriptWorld) where
       at_node from (λ j outcome new. AtNode old outcome new to (λ k. G j k outcome new))
       (λ j lt_from. at_node to (G j) (λ k lt_to. gives (changed_line (changed_places (held old k) (held (merged old j k) k))) (merged old j k) (puts_nothing (merged old j k) (λ l. lawful_merged old j k l lt_from lt_to) refl)))
   does (Part piece from to texts) =
-      let words : ℕ → ℕ → List PlaceParts → List ℕ = λ j k paths. entries_line (length (finmap.entries (cut (held old j) (digest_of (held old k)) (if_any paths)))) in
-      let G : ℕ → ℕ → List PlaceParts → Outcome → ScriptWorld → Type 0 = λ j k paths outcome new. Gives (words j k paths) (parted old piece j k (if_any paths)) outcome new in
-      at_node from (λ j outcome new. AtNode old outcome new to (λ k. AtPaths old outcome new texts (λ paths. G j k paths outcome new)))
-      (λ j lt_from. at_node to (λ k outcome new. AtPaths old outcome new texts (λ paths. G j k paths outcome new))
-      (λ k lt_to. at_paths texts (G j k) (λ paths. gives (words j k paths) (parted old piece j k (if_any paths)) (puts_nothing (parted old piece j k (if_any paths)) (λ l. lawful_parted piece j k paths l lt_from lt_to) refl))))
+      let words : ℕ → ℕ → List PlaceParts → List ℕ = λ j k places. entries_line (length (finmap.entries (cut (held old j) (digest_of (held old k)) (if_any places)))) in
+      let G : ℕ → ℕ → List PlaceParts → Outcome → ScriptWorld → Type 0 = λ j k places outcome new. Gives (words j k places) (parted old piece j k (if_any places)) outcome new in
+      at_node from (λ j outcome new. AtNode old outcome new to (λ k. AtPlaces old outcome new texts (λ places. G j k places outcome new)))
+      (λ j lt_from. at_node to (λ k outcome new. AtPlaces old outcome new texts (λ places. G j k places outcome new))
+      (λ k lt_to. at_all_written texts (G j k) (λ places. gives (words j k places) (parted old piece j k (if_any places)) (puts_nothing (parted old piece j k (if_any places)) (λ l. lawful_parted piece j k places l lt_from lt_to) refl))))
     where
-      lawful_parted : (name : List ℕ) (j k : ℕ) (paths : List PlaceParts) → IsLawful old → j < length old.nodes → k < length old.nodes → IsLawful (parted old name j k (if_any paths))
-      lawful_parted name j k paths lawful lt_from lt_to =
-          let l = lawful_answered old j k (if_any paths) lawful lt_from lt_to in
+      lawful_parted : (name : List ℕ) (j k : ℕ) (places : List PlaceParts) → IsLawful old → j < length old.nodes → k < length old.nodes → IsLawful (parted old name j k (if_any places))
+      lawful_parted name j k places lawful lt_from lt_to =
+          let l = lawful_answered old j k (if_any places) lawful lt_from lt_to in
           record { within = l.within; apart = l.apart; own = λ e a. (let own = l.own e a in record { node = own.node; within = own.within; writer = own.writer; counter = own.counter }); honest = l.honest }
   does (Send piece node) =
       let G : ℕ → ℕ → Outcome → ScriptWorld → Type 0 = λ p k outcome new. Gives (changed_line (changed_places (held old k) (held (happened old (event.Give p k)) k))) (happened old (event.Give p k)) outcome new in
@@ -271,7 +272,7 @@ module _ (old : ScriptWorld) where
   does Sweep =
       let others = numbers_from 1 (length old.nodes - 1) in
       gives (codes "ok\n") (swept old) (puts_nothing (swept old) (lawful_swept old) (puts_merged_all old (map (λ k. (k, 0)) others ++ map (λ k. (0, k)) others)))
-  does (Files node) = reads node TellsPaths (λ s a b p q. p ∙ sym q) (λ s outcome p. ap is_spent p)
+  does (Files node) = reads node TellsPlaces (λ s a b p q. p ∙ sym q) (λ s outcome p. ap is_spent p)
   does (Cat node unit) = reads node (TellsFiles unit) (files_are_told_once unit) (files_spend_nothing unit)
   does (Show node unit) = reads node (TellsUnit unit) (questions_are_told_once (unit_asked unit)) (questions_spend_nothing (unit_asked unit))
   does (ListUnits node unit) = reads node (TellsList unit) (questions_are_told_once (pulled_asked unit)) (questions_spend_nothing (pulled_asked unit))

@@ -2,10 +2,10 @@
 -- Source: this project's own.
 use Rattle.std.specs.Prelude.{◌≡◌, ◌≢◌, ◌⊎◌, ℕ, ◌==◌, codes, List, [], ◌∷◌, length, Option, Some, None, Ok, Err, MatchOption, MatchResult, MatchBool}
 use Rattle.std.specs.FinMap as finmap
-use Rattle.load_path.specs.Paths.{path_of}
+use Rattle.load_places.specs.Texts.{place_of}
 use Rattle.load_places.specs.Places.{PlaceParts}
-use Rattle.load_path.specs.declared.paths.PathFault.{PathFault}
-use Rattle.load_path.specs.declared.paths.PathFault.TheVariants as path
+use Rattle.load_places.specs.declared.texts.PlaceFault.{PlaceFault}
+use Rattle.load_places.specs.declared.texts.PlaceFault.TheVariants as place
 use Rattle.edit_sums.specs.declared.contents.Content.{Content}
 use Rattle.edit_sums.specs.declared.contents.Content.TheVariants.{Gone, Link, File}
 use Rattle.edit_sums.specs.Limits.{is_file, is_target}
@@ -16,8 +16,8 @@ use Rattle.script_words.specs.Text.{Spells, IsBadText}
 use Rattle.script_commands.specs.declared.commands.Command.{Command}
 use Rattle.script_commands.specs.declared.commands.Command.TheVariants as command
 use Rattle.script_commands.specs.declared.commands.LineRefusal.{LineRefusal}
-use Rattle.script_commands.specs.Paths.{paths_of}
-use Rattle.script_commands.specs.declared.commands.LineRefusal.TheVariants.{UnknownNode, BadText, UnknownPiece, NodeTaken, WriterTaken, Directory, Depth, Component, FileTooLarge, BadLink, VersionsSpent, Nothing, Workers}
+use Rattle.script_commands.specs.Places.{places_of}
+use Rattle.script_commands.specs.declared.commands.LineRefusal.TheVariants.{UnknownNode, BadText, UnknownPiece, NodeTaken, WriterTaken, HostName, Directory, Depth, Component, FileTooLarge, BadLink, VersionsSpent, Nothing, Workers}
 use Rattle.script_commands.specs.Outcomes.{Outcome}
 use Rattle.worker_rounds.specs.Crews.{IsCrew}
 use Rattle.script_answers.specs.Crowds.{TellsCrowd}
@@ -42,37 +42,38 @@ pub record IsRead (Tells : Outcome → Type 0) (old : ScriptWorld) (outcome : Ou
   pub world_is : new ≡ old
 
 -- all that a store holds is told
-abbrev pub TellsPaths : EntryMap → Outcome → Type 0
-TellsPaths s outcome = outcome ≡ Ok (files_text s)
+abbrev pub TellsPlaces : EntryMap → Outcome → Type 0
+TellsPlaces s outcome = outcome ≡ Ok (files_text s)
 
--- these paths, or all where none are given
+-- these places, or all where none are given
 abbrev pub if_any : List PlaceParts → Option (List PlaceParts)
 if_any [] = None
-if_any (path ∷ paths) = Some (path ∷ paths)
+if_any (place ∷ places) = Some (place ∷ places)
 
 module _ (old : ScriptWorld) (outcome : Outcome) (new : ScriptWorld) where
   -- what holds of the node of a name, if there is one
   abbrev pub AtNode : List ℕ → (ℕ → Type 0) → Type 0
   AtNode name P = MatchOption (node_named old.nodes name) (Refuses old UnknownNode outcome new) P
 
-  -- a text that is no path is refused for the first thing wrong with it
-  abbrev pub RefusesPath : PathFault → Type 0
-  RefusesPath path.Directory = Refuses old Directory outcome new
-  RefusesPath path.Depth = Refuses old Depth outcome new
-  RefusesPath path.Component = Refuses old Component outcome new
-  RefusesPath path.Memory = ⊥
+  -- a text that is no place is refused for the first thing wrong with it
+  abbrev pub RefusesPlace : PlaceFault → Type 0
+  RefusesPlace place.HostName = Refuses old HostName outcome new
+  RefusesPlace place.Directory = Refuses old Directory outcome new
+  RefusesPlace place.Depth = Refuses old Depth outcome new
+  RefusesPlace place.Component = Refuses old Component outcome new
+  RefusesPlace place.Memory = ⊥
 
   -- what holds of the number of the piece of a name, if there is one
   abbrev pub AtPiece : List ℕ → (ℕ → Type 0) → Type 0
   AtPiece name P = MatchOption (piece_named old.pieces name) (Refuses old UnknownPiece outcome new) P
 
-  -- what holds of the path that a text writes, if it writes one
-  abbrev pub AtPath : List ℕ → (PlaceParts → Type 0) → Type 0
-  AtPath text P = MatchResult (path_of text) P RefusesPath
+  -- what holds of the place that a text writes, if it writes one
+  abbrev pub AtPlace : List ℕ → (PlaceParts → Type 0) → Type 0
+  AtPlace text P = MatchResult (place_of text) P RefusesPlace
 
-  -- what holds of the paths that some texts write, if each writes one
-  abbrev pub AtPaths : List (List ℕ) → (List PlaceParts → Type 0) → Type 0
-  AtPaths texts P = MatchResult (paths_of texts) P RefusesPath
+  -- what holds of the places that some texts write, if each writes one
+  abbrev pub AtPlaces : List (List ℕ) → (List PlaceParts → Type 0) → Type 0
+  AtPlaces texts P = MatchResult (places_of texts) P RefusesPlace
 
   -- what holds of the bytes that a text spells, if it spells some
   abbrev pub WithText : List ℕ → (List ℕ → Type 0) → Type 0
@@ -88,8 +89,8 @@ module _ (old : ScriptWorld) (outcome : Outcome) (new : ScriptWorld) where
 
   -- the node puts its next edit, unless the greatest counter is held already
   abbrev pub Writes : ℕ → PlaceParts → Content → Type 0
-  Writes k path content =
-      let edit = next_edit old k path content in
+  Writes k place content =
+      let edit = next_edit old k place content in
       MatchBool (high_of (held old k) == 18446744073709551615) (Refuses old VersionsSpent outcome new) (Gives (ok_line edit.version) (happened old (event.Put k edit)) outcome new)
 
   -- a new node; no two nodes have one name or one writer number
@@ -99,38 +100,38 @@ module _ (old : ScriptWorld) (outcome : Outcome) (new : ScriptWorld) where
       (MatchBool (has_writer old.nodes writer) (Refuses old WriterTaken outcome new) (Gives (codes "ok\n") (with_node old name writer) outcome new))
       (λ k. Refuses old NodeTaken outcome new)
 
-  -- a file is put at a path
+  -- a file is put at a place
   abbrev pub Puts : List ℕ → List ℕ → List ℕ → Type 0
-  Puts node path text = AtNode node (λ k. AtPath path (λ at. WithText text (λ bytes. WithFile bytes (Writes k at))))
+  Puts node place text = AtNode node (λ k. AtPlace place (λ at. WithText text (λ bytes. WithFile bytes (Writes k at))))
 
-  -- a link is put at a path
+  -- a link is put at a place
   abbrev pub Links : List ℕ → List ℕ → List ℕ → Type 0
-  Links node path target = AtNode node (λ k. AtPath path (λ at. WithTarget target (Writes k at)))
+  Links node place target = AtNode node (λ k. AtPlace place (λ at. WithTarget target (Writes k at)))
 
-  -- what is visible at a path of the node of a number is removed
+  -- what is visible at a place of the node of a number is removed
   abbrev pub RemovesAt : ℕ → PlaceParts → Type 0
   RemovesAt k at = MatchOption (visible_at (held old k) at) (Refuses old Nothing outcome new) (λ shown. Writes k at Gone)
 
   abbrev pub Removes : List ℕ → List ℕ → Type 0
-  Removes node path = AtNode node (λ k. AtPath path (RemovesAt k))
+  Removes node place = AtNode node (λ k. AtPlace place (RemovesAt k))
 
-  -- the node of one number is given all that it lacks of that of another, and the paths that this changes are counted
+  -- the node of one number is given all that it lacks of that of another, and the places that this changes are counted
   abbrev pub MergesInto : ℕ → ℕ → Type 0
   MergesInto j k = let next = merged old j k in Gives (changed_line (changed_places (held old k) (held next k))) next outcome new
 
   abbrev pub Merges : List ℕ → List ℕ → Type 0
   Merges from to = AtNode from (λ j. AtNode to (λ k. MergesInto j k))
 
-  -- the node of one number cuts for the ask of that of another, at these paths or at all; what is cut is kept under a name, and its entries are counted
+  -- the node of one number cuts for the ask of that of another, at these places or at all; what is cut is kept under a name, and its entries are counted
   abbrev pub PartsAt : List ℕ → ℕ → ℕ → List PlaceParts → Type 0
-  PartsAt piece j k paths =
-      let entries = cut (held old j) (digest_of (held old k)) (if_any paths) in
-      Gives (entries_line (length (finmap.entries entries))) (parted old piece j k (if_any paths)) outcome new
+  PartsAt piece j k places =
+      let entries = cut (held old j) (digest_of (held old k)) (if_any places) in
+      Gives (entries_line (length (finmap.entries entries))) (parted old piece j k (if_any places)) outcome new
 
   abbrev pub Parts : List ℕ → List ℕ → List ℕ → List (List ℕ) → Type 0
-  Parts piece from to texts = AtNode from (λ j. AtNode to (λ k. AtPaths texts (λ paths. PartsAt piece j k paths)))
+  Parts piece from to texts = AtNode from (λ j. AtNode to (λ k. AtPlaces texts (λ places. PartsAt piece j k places)))
 
-  -- the piece of a number is given to the node of a number, and the paths that this changes are counted
+  -- the piece of a number is given to the node of a number, and the places that this changes are counted
   abbrev pub SendsTo : ℕ → ℕ → Type 0
   SendsTo p k = let next = happened old (event.Give p k) in Gives (changed_line (changed_places (held old k) (held next k))) next outcome new
 
@@ -157,14 +158,14 @@ module _ (old : ScriptWorld) (outcome : Outcome) (new : ScriptWorld) where
 -- From the old world a command may have this outcome, and leave the new world.
 abbrev pub Does : ScriptWorld → Command → Outcome → ScriptWorld → Type 0
 Does old (command.Node name writer) outcome new = Names old outcome new name writer
-Does old (command.Put node path text) outcome new = Puts old outcome new node path text
-Does old (command.Link node path target) outcome new = Links old outcome new node path target
-Does old (command.Remove node path) outcome new = Removes old outcome new node path
+Does old (command.Put node place text) outcome new = Puts old outcome new node place text
+Does old (command.Link node place target) outcome new = Links old outcome new node place target
+Does old (command.Remove node place) outcome new = Removes old outcome new node place
 Does old (command.Merge from to) outcome new = Merges old outcome new from to
-Does old (command.Part piece from to paths) outcome new = Parts old outcome new piece from to paths
+Does old (command.Part piece from to places) outcome new = Parts old outcome new piece from to places
 Does old (command.Send piece node) outcome new = Sends old outcome new piece node
 Does old command.Sweep outcome new = Sweeps old outcome new
-Does old (command.Files node) outcome new = Reads old outcome new node TellsPaths
+Does old (command.Files node) outcome new = Reads old outcome new node TellsPlaces
 Does old (command.Cat node unit) outcome new = Reads old outcome new node (TellsFiles unit)
 Does old (command.Show node unit) outcome new = Reads old outcome new node (TellsUnit unit)
 Does old (command.List node unit) outcome new = Reads old outcome new node (TellsList unit)

@@ -6,7 +6,7 @@ use Rattle.std.specs.Ordering.{nat_cmp}
 use Rattle.std.specs.declared.alloc.Global.{Global}
 use Rattle.std.specs.BTreeMap as maps
 use Rattle.std.specs.BTreeSet as sets
-use Rattle.load_path.specs.Paths.{path_of}
+use Rattle.load_places.specs.Texts.{place_of}
 use Rattle.load_places.specs.Places.{PlaceParts}
 use Rattle.edit_sums.specs.Sums.{EntryMap, high_of, join}
 use Rattle.replica_store.specs.Replicas.{Replicated}
@@ -16,7 +16,7 @@ use Rattle.script_commands.specs.declared.commands.Fault.{Fault}
 use Rattle.script_commands.specs.declared.commands.Fault.TheVariants.{Refused, Memory}
 use Rattle.script_commands.specs.declared.commands.LineRefusal.TheVariants.{UnknownNode}
 use Rattle.script_commands.specs.Outcomes.{Outcome, IsSaid}
-use Rattle.script_commands.specs.Paths.{IsPathFault}
+use Rattle.script_commands.specs.Places.{IsPlaceFault}
 use Rattle.script_worlds.specs.Worlds.{ScriptWorld, state, held, has_writer, node_named, piece_named, writer_at}
 use Rattle.script_worlds.specs.Lawful.{IsLawful}
 use Rattle.fleet_script.specs.declared.states.Shell.{Shell}
@@ -92,14 +92,14 @@ pub record IsNodeNamed (shell : Keeps) (name : List ℕ) (replica : Replicated) 
 abbrev pub HasNoNode : Keeps → List ℕ → Fault → Type 0
 HasNoNode shell name fault = (fault ≡ Memory) ⊎ ((fault ≡ Refused UnknownNode) × (shell.number_of name ≡ None))
 
--- this is the number of the node of a name, and the path that a text writes
-pub record IsPlace (shell : Keeps) (name text : List ℕ) (at : ℕ) (path : PlaceParts) : Type 0 where
+-- this is the number of the node of a name, and the place that a text writes
+pub record IsSite (shell : Keeps) (name text : List ℕ) (at : ℕ) (place : PlaceParts) : Type 0 where
   pub named : shell.number_of name ≡ Some at
-  pub written : path_of text ≡ Ok path
+  pub written : place_of text ≡ Ok place
 
--- why no such place was found: there is no node of the name, or the text writes no path
-abbrev pub HasNoPlace : Keeps → List ℕ → List ℕ → Fault → Type 0
-HasNoPlace shell name text fault = HasNoNode shell name fault ⊎ ((at : ℕ) × (shell.number_of name ≡ Some at) × IsPathFault (path_of text) fault)
+-- why no such place was found: there is no node of the name, or the text writes no place
+abbrev pub HasNoSite : Keeps → List ℕ → List ℕ → Fault → Type 0
+HasNoSite shell name text fault = HasNoNode shell name fault ⊎ ((at : ℕ) × (shell.number_of name ≡ Some at) × IsPlaceFault (place_of text) fault)
 
 -- a node with the store of another joined into its own
 abbrev pub joined_with : Replicated → Replicated → Replicated

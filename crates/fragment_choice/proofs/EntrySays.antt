@@ -6,11 +6,12 @@ use Rattle.join_law.specs.declared.versions.Version.{Version}
 use Rattle.edit_sums.specs.declared.contents.Content.{Content}
 use Rattle.edit_sums.specs.declared.contents.Content.TheVariants.{Gone, Link, File}
 use Rattle.edit_sums.specs.Entries.{Entry}
-use Rattle.edit_sums.specs.Sums.{EntryMap, shown}
+use Rattle.edit_sums.specs.Sums.{shown}
+use Rattle.path_maps.specs.Views.{View}
 use Rattle.unit_name.specs.Names.{Name}
 use Rattle.fragment_choice.specs.Choices.{content_says, own_path, says}
 
-module _ (s : EntryMap) (n o : Name) (rank : ℕ) where
+module _ (s : View) (n o : Name) (rank : ℕ) where
   pub nothing_says : None ≡ finmap.get s (own_path o rank) → None ≡ says s n o rank
   nothing_says e = ap (λ x. option_and_then (content_says n o (own_path o rank)) (option_and_then shown x)) e
 

@@ -4,7 +4,7 @@ use Rattle.std.specs.BTreeSet.{insert_key}
 use Rattle.std.proofs.lemmas.Option.{same_Some, none-some}
 use Rattle.list_laws.specs.Insertions.{put_kept, put_sound, put_there}
 use Rattle.list_laws.specs.Members.{IsAmong}
-use Rattle.edit_sums.specs.Sums.{EntryMap}
+use Rattle.path_maps.specs.Views.{View}
 use Rattle.unit_name.specs.Names.{Name, name_cmp, is_name, IsName, shape, instance}
 use Rattle.unit_name.specs.Forms.{template_of, with_instance}
 use Rattle.unit_name.specs.NameLaws.{name_cmp-IsAntisymmetric, instances_have_the_template}
@@ -66,7 +66,7 @@ gathers_of P Q old new g there back = record { kept = g.kept; sound = λ n a. by
     by n (inr p) = inr (p.0, back n p.0 p.1)
 
 -- a name that a link of its template leads to another is the template with the instance of the other
-pub linked_instance : (s : EntryMap) (o n m : Name) → IsName o → IsName n → template_of n ≡ Some o → Leads s n m → with_instance o (instance m) ≡ Some n
+pub linked_instance : (s : View) (o n m : Name) → IsName o → IsName n → template_of n ≡ Some o → Leads s n m → with_instance o (instance m) ≡ Some n
 linked_instance s o n m lawful good t l =
     let keeps = alias_keeps s (instance n) n m l (record { name = good; shape_is = has_template (shape n) n o t; part = refl }) in
     (instances_have_the_template o (instance m) n lawful).1 (good, t, sym keeps.part)

@@ -18,7 +18,8 @@ use Rattle.list_laws.specs.Insertions.{put_kept, put_there}
 use Rattle.list_laws.specs.Members.{IsAmong, IsAmong-append_cases, IsAmong-append_left, IsAmong-append_right}
 use Rattle.path_maps.specs.Folders.{is_in}
 use Rattle.edit_sums.specs.Entries.{Entry}
-use Rattle.edit_sums.specs.Sums.{EntryMap, shown}
+use Rattle.edit_sums.specs.Sums.{shown}
+use Rattle.path_maps.specs.Views.{View}
 use Rattle.unit_name.specs.Names.{Name, name_cmp, IsName}
 use Rattle.unit_name.specs.NameLaws.{name_cmp-IsAntisymmetric, name_eq-Decides}
 use Rattle.fragment_choice.specs.declared.choices.Choice.{Choice}
@@ -89,7 +90,7 @@ find_own rank q (p ∷ es) o e h i lawful = by (path_cmp q p.0) refl e (λ f. fi
         first (is_in rank [] p.0) (sym (ap (is_in rank []) same) ∙ i) (record { name = lawful; at = sym (ap (λ x. x.name) same); link = ap (λ x. is_link (option_and_then shown x)) f ∙ h })
     by Greater c f more = behind (is_in rank [] p.0) (more f)
 
-pub starts_collecting : (s : EntryMap) (rank : ℕ) (es : List (PathParts × Entry)) (old : List Name) → es ≡ filter (λ p. is_in rank [] p.0) (finmap.entries s) → Collecting (IsOwnAt s rank) es old old
+pub starts_collecting : (s : View) (rank : ℕ) (es : List (PathParts × Entry)) (old : List Name) → es ≡ filter (λ p. is_in rank [] p.0) (finmap.entries s) → Collecting (IsOwnAt s rank) es old old
 starts_collecting s rank es old e = record {
   kept = λ n h. h;
   found = λ n o. inr (subst (λ x. IsAny IsOwnEntry x n) (sym e) (find_own rank (own_path n rank) (finmap.entries s) (finmap.get s (own_path n rank)) (sym (finmap.get-entries s (own_path n rank))) o.link (and_from _ _ (eq-eqb rank rank refl) refl) o.name));
@@ -116,10 +117,10 @@ collects_all P es old new e g = record { kept = g.kept; found = λ n o. by n (su
     by n (inr a) = absurd a
 
 -- links of the ranks below
-abbrev pub IsOwnBelow : EntryMap → ℕ → Name → Type 0
+abbrev pub IsOwnBelow : View → ℕ → Name → Type 0
 IsOwnBelow s end n = (rank : ℕ) × (rank < end) × IsOwnAt s rank n
 
-pub collects_rank : (s : EntryMap) (rank next : ℕ) (old mid new : List Name) → next ≡ suc rank → Collects (IsOwnBelow s rank) old mid → Collects (IsOwnAt s rank) mid new → Collects (IsOwnBelow s next) old new
+pub collects_rank : (s : View) (rank next : ℕ) (old mid new : List Name) → next ≡ suc rank → Collects (IsOwnBelow s rank) old mid → Collects (IsOwnAt s rank) mid new → Collects (IsOwnBelow s next) old new
 collects_rank s rank next old mid new q g h = collects_then (IsOwnBelow s rank) (IsOwnAt s rank) (IsOwnBelow s next) old mid new g h (λ n l. by n l)
   where
     by : (n : Name) → IsOwnBelow s next n → IsOwnBelow s rank n ⊎ IsOwnAt s rank n
@@ -129,7 +130,7 @@ collects_rank s rank next old mid new q g h = collects_then (IsOwnBelow s rank) 
         less_or true e = inr (subst (λ x. IsOwnAt s x n) (eqb-true r rank e) l)
         less_or false e = inl (r, (let differs = eqb-false r rank e in omega arith), l)
 
-pub collects_ranks : (s : EntryMap) (end : ℕ) (old new : List Name) → ((level : ℕ) → IsLevel level → level < end) → Collects (IsOwnBelow s end) old new → Collects (IsOwnLink s) old new
+pub collects_ranks : (s : View) (end : ℕ) (old new : List Name) → ((level : ℕ) → IsLevel level → level < end) → Collects (IsOwnBelow s end) old new → Collects (IsOwnLink s) old new
 collects_ranks s end old new all g = record { kept = g.kept; found = λ n o. by n o }
   where
     by : (n : Name) → IsOwnLink s n → IsAmong n new
@@ -188,13 +189,13 @@ puts_said said o t old new e p = record {
     by n k (inr (a, q)) = inr (a, e ∙ ap (λ x. Some (Alias x)) q)
 
 -- the maps have what the own links of these names make them aliases of, and nothing else
-pub record AreIndexed (s : EntryMap) (names : List Name) (choices : BTreeMap Name (Option Choice)) (owners : BTreeMap Name (Vec Name)) : Type 0 where
+pub record AreIndexed (s : View) (names : List Name) (choices : BTreeMap Name (Option Choice)) (owners : BTreeMap Name (Vec Name)) : Type 0 where
   pub known : AreOwnChoices s choices
   pub there : (o t : Name) → IsAmong o names → own_choice s o o ≡ Some (Alias t) → IsAmong o (owners_at owners t)
   pub sound : (o t : Name) → IsAmong o (owners_at owners t) → own_choice s o o ≡ Some (Alias t)
   pub lawful : (o t : Name) → IsAmong o (owners_at owners t) → IsName o
 
-pub none_indexed : (s : EntryMap) (choices : BTreeMap Name (Option Choice)) (owners : BTreeMap Name (Vec Name)) → choices.entries ≡ [] → owners.entries ≡ [] → AreIndexed s [] choices owners
+pub none_indexed : (s : View) (choices : BTreeMap Name (Option Choice)) (owners : BTreeMap Name (Vec Name)) → choices.entries ≡ [] → owners.entries ≡ [] → AreIndexed s [] choices owners
 none_indexed s choices owners f e = record {
   known = record { each = λ o said h. absurd (none-some _ (sym (ap (λ es. lookup (is_at (name_cmp o)) es) f) ∙ h)) };
   there = λ o t h q. absurd h;
@@ -206,7 +207,7 @@ none_indexed s choices owners f e = record {
     nothing o t h = subst (IsAmong o) (ap (λ es. names_in (lookup (is_at (name_cmp t)) es)) e) h
 
 -- one choice more is known
-more_known : (s : EntryMap) (k : Name) (said : Option Choice) (old new : BTreeMap Name (Option Choice)) → said ≡ own_choice s k k → AreOwnChoices s old → Updates name_cmp old new k (Some said) → AreOwnChoices s new
+more_known : (s : View) (k : Name) (said : Option Choice) (old new : BTreeMap Name (Option Choice)) → said ≡ own_choice s k k → AreOwnChoices s old → Updates name_cmp old new k (Some said) → AreOwnChoices s new
 more_known s k said old new e g u = record { each = λ o x h. by o x (is_at (name_cmp k) o) refl (sym (u.0 o) ∙ h) }
   where
     by : (o : Name) (x : Option Choice) (b : Bool) → is_at (name_cmp k) o ≡ b → cond (is_at (name_cmp k) o) (Some said) (get name_cmp old o) ≡ Some x → x ≡ own_choice s o o
@@ -214,7 +215,7 @@ more_known s k said old new e g u = record { each = λ o x h. by o x (is_at (nam
         sym (same_Some _ _ (sym (ap (λ b. cond b (Some said) (get name_cmp old o)) q) ∙ h)) ∙ e ∙ ap (λ y. own_choice s y y) ((name_eq-Decides k o).0 q)
     by o x false q h = g.each o x (sym (ap (λ b. cond b (Some said) (get name_cmp old o)) q) ∙ h)
 
-pub more_indexed : (s : EntryMap) (names : List Name) (k : Name) (said : Option Choice) (choices kept : BTreeMap Name (Option Choice)) (old new : BTreeMap Name (Vec Name))
+pub more_indexed : (s : View) (names : List Name) (k : Name) (said : Option Choice) (choices kept : BTreeMap Name (Option Choice)) (old new : BTreeMap Name (Vec Name))
     → said ≡ own_choice s k k → IsName k → AreIndexed s names choices old → PutsSaid said k old new → Updates name_cmp choices kept k (Some said) → AreIndexed s (names ++ k ∷ []) kept new
 more_indexed s names k said choices kept old new e lawful g p u = record {
   known = more_known s k said choices kept e g.known u;
@@ -237,7 +238,7 @@ more_indexed s names k said choices kept old new e lawful g p u = record {
     named o t (inr (a, q)) = subst IsName a lawful
 
 -- a name that its own links make an alias has a visible link
-pub all_indexed : (s : EntryMap) (names : List Name) (choices : BTreeMap Name (Option Choice)) (owners : BTreeMap Name (Vec Name)) → Collects (IsOwnLink s) [] names → AreIndexed s names choices owners → IsIndexOf s choices owners
+pub all_indexed : (s : View) (names : List Name) (choices : BTreeMap Name (Option Choice)) (owners : BTreeMap Name (Vec Name)) → Collects (IsOwnLink s) [] names → AreIndexed s names choices owners → IsIndexOf s choices owners
 all_indexed s names choices owners g f = record {
   known = f.known;
   each = λ t. record { there = λ o lawful e. by o t lawful e (own_link s o o t e); sound = λ o h. f.sound o t h; lawful = λ o h. f.lawful o t h };

@@ -4,7 +4,7 @@ use Rattle.std.specs.Option.{option_and_then, option_or}
 use Rattle.load_path.specs.Paths.{PathParts}
 use Rattle.edit_sums.specs.declared.contents.Content.{Content}
 use Rattle.edit_sums.specs.declared.contents.Content.TheVariants.{Gone, Link, File}
-use Rattle.edit_sums.specs.Sums.{EntryMap, visible_at}
+use Rattle.path_maps.specs.Views.{View, seen_at}
 use Rattle.unit_name.specs.declared.names.Shape.{Shape as UnitShape}
 use Rattle.unit_name.specs.declared.names.Shape.TheVariants.{Plain, Template, Instance}
 use Rattle.unit_name.specs.Names.{Name, IsName, is_name, kind, shape, instance}
@@ -20,7 +20,7 @@ use Rattle.fragment_choice.specs.Resolutions.{Leads}
 use Rattle.fragment_choice.specs.LinkLaws.{IsPassed, alias_said, has_template, passed, template_alias}
 
 -- a template's links lead it to a template of m
-pub record LeadsTemplate (s : EntryMap) (o m : Name) : Type 0 where
+pub record LeadsTemplate (s : View) (o m : Name) : Type 0 where
   pub target : Name
   pub own : own_choice s o o ≡ Some (Alias target)
   pub template : template_of m ≡ Some target
@@ -116,29 +116,29 @@ module _ (n o : Name) (lawful : IsName n) (of : template_of n ≡ Some o) where
   visible_leads p None m h = cc (h)
   visible_leads p (Some c) m h = content_leads p c m h
 
-  along : (s : EntryMap) (m : Name) (rs : List ℕ) → first_said (says s n o) rs ≡ Some (Alias m) → SaysTemplate (first_said (says s o o) rs) m
+  along : (s : View) (m : Name) (rs : List ℕ) → first_said (says s n o) rs ≡ Some (Alias m) → SaysTemplate (first_said (says s o o) rs) m
   along s m [] h = cc (h)
   along s m (r ∷ rs) h = by (says s n o r) refl (along s m rs) h
     where
       by : (x : Option Choice) → says s n o r ≡ x → (first_said (says s n o) rs ≡ Some (Alias m) → SaysTemplate (first_said (says s o o) rs) m) → option_or x (first_said (says s n o) rs) ≡ Some (Alias m) → SaysTemplate (first_said (says s o o) (r ∷ rs)) m
       by None e more k =
           let behind = more k in
-          record { target = behind.target; said = ap (λ x. option_or x (first_said (says s o o) rs)) (visible_passes (own_path o r) (visible_at s (own_path o r)) e) ∙ behind.said; template = behind.template }
+          record { target = behind.target; said = ap (λ x. option_or x (first_said (says s o o) rs)) (visible_passes (own_path o r) (seen_at s (own_path o r)) e) ∙ behind.said; template = behind.template }
       by (Some c) e more k =
-          let at = visible_leads (own_path o r) (visible_at s (own_path o r)) m (e ∙ k) in
+          let at = visible_leads (own_path o r) (seen_at s (own_path o r)) m (e ∙ k) in
           record { target = at.target; said = ap (λ x. option_or x (first_said (says s o o) rs)) at.said; template = at.template }
 
-  pub template_leads : (s : EntryMap) (m : Name) → own_choice s n o ≡ Some (Alias m) → LeadsTemplate s o m
+  pub template_leads : (s : View) (m : Name) → own_choice s n o ≡ Some (Alias m) → LeadsTemplate s o m
   template_leads s m h =
       let w = along s m levels h in
       record { target = w.target; own = w.said; template = w.template }
 
 -- a name's own links lead it
-pub own_leads : (s : EntryMap) (n m : Name) → own_choice s n n ≡ Some (Alias m) → Leads s n m
+pub own_leads : (s : View) (n m : Name) → own_choice s n n ≡ Some (Alias m) → Leads s n m
 own_leads s n m h = ap (λ c. unwrap_or (option_or c (option_and_then (own_choice s n) (template_of n))) NotFound) h
 
 -- what leads n to m
-pub leads_by : (s : EntryMap) (n m : Name) → IsName n → Leads s n m → (own_choice s n n ≡ Some (Alias m)) ⊎ ((o : Name) × (template_of n ≡ Some o) × LeadsTemplate s o m)
+pub leads_by : (s : View) (n m : Name) → IsName n → Leads s n m → (own_choice s n n ≡ Some (Alias m)) ⊎ ((o : Name) × (template_of n ≡ Some o) × LeadsTemplate s o m)
 leads_by s n m lawful h = by_own (own_choice s n n) refl h
   where
     by_template : (t : Option Name) → template_of n ≡ t → unwrap_or (option_and_then (own_choice s n) t) NotFound ≡ Alias m → (own_choice s n n ≡ Some (Alias m)) ⊎ ((o : Name) × (template_of n ≡ Some o) × LeadsTemplate s o m)

@@ -7,7 +7,7 @@ use Rattle.std.proofs.lemmas.List.{take_all}
 use Rattle.std.proofs.lemmas.Option.{same_Some, none-some}
 use Rattle.list_laws.specs.Insertions.{put_kept, put_sound, put_there}
 use Rattle.list_laws.specs.Members.{IsAmong, IsAmong-append_cases, IsAmong-append_left, IsAmong-append_right}
-use Rattle.edit_sums.specs.Sums.{EntryMap}
+use Rattle.path_maps.specs.Views.{View}
 use Rattle.unit_name.specs.Names.{Name, name_cmp, IsName, instance}
 use Rattle.unit_name.specs.Forms.{template_of, with_instance}
 use Rattle.unit_name.specs.NameLaws.{instances_have_the_template, name_cmp-IsAntisymmetric, name_eq-Decides, templates_keep_parts}
@@ -77,7 +77,7 @@ gathers_more R ms i next d x old mid new lt e f g h =
 pub gathers_each : (R : Name → Name → Type 0) (ms : List Name) (i : ℕ) (old new : List Name) → length ms ≤ i → Gathers (IsAny R (take i ms)) old new → Gathers (IsAny R ms) old new
 gathers_each R ms i old new le g = subst (λ (xs : List Name). Gathers (IsAny R xs) old new) (take_all i ms le) g
 
-module _ (s : EntryMap) (m : Name) where
+module _ (s : View) (m : Name) where
   -- what leads to a name without a template is among those whose own links do
   pub behind_name : (owners old new : List Name) → AreOwners s m owners → template_of m ≡ None → Adds owners old new → Gathers (λ n. Leads s n m) old new
   behind_name owners old new own e g =
@@ -118,7 +118,7 @@ module _ (s : EntryMap) (m : Name) where
   pub leads_if : (n a : Name) (b : Bool) → b ≡ is_same a m → Alias a ≡ choice s n → IsTrue b ↔ Leads s n m
   leads_if n a b e is = (λ h. sym is ∙ ap (λ x. Alias x) ((name_eq-Decides a m).0 (sym e ∙ h)), λ l. e ∙ (name_eq-Decides a m).1 (alias_same a m (is ∙ l)))
 
-no_step : (s : EntryMap) (n u : Name) → Chain s 0 n u → n ≡ u
+no_step : (s : View) (n u : Name) → Chain s 0 n u → n ≡ u
 no_step s n u (here _) = refl
 
 -- where no alias stands, there is none
@@ -136,7 +136,7 @@ alias_ends_not (Fragment p) h e = cc (h)
 alias_ends_not (Alias m) h e = absurd e
 alias_ends_not (Bad x) h e = cc (h)
 
-module _ (s : EntryMap) (u : Name) where
+module _ (s : View) (u : Name) where
   -- the unit, where no alias stands, is the end of the chains of its other names
   record EndsHere (n : Name) : Type 0 where
     long : ℕ

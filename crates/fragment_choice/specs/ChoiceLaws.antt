@@ -5,7 +5,7 @@ use Rattle.load_path.specs.Paths.{PathParts, path_cmp}
 use Rattle.load_path.specs.PathLaws.{path_cmp_total, path_cmp-IsAntisymmetric}
 use Rattle.edit_sums.specs.declared.contents.Content.{Content}
 use Rattle.edit_sums.specs.declared.contents.Content.TheVariants.{Gone, Link, File}
-use Rattle.edit_sums.specs.Sums.{EntryMap, visible_at}
+use Rattle.path_maps.specs.Views.{View, seen_at}
 use Rattle.unit_name.specs.Names.{Name}
 use Rattle.unit_name.specs.Forms.{template_of}
 use Rattle.list_laws.specs.Agreements.{agree_everywhere}
@@ -18,15 +18,15 @@ use Rattle.fragment_choice.specs.Choices.{choice, content_says, is_null, link_sa
 
 -- the least rank that says anything of n under its own name makes the choice
 abbrev pub LeastRankChooses : Type 0
-LeastRankChooses = (s : EntryMap) (n : Name) (r : ℕ) (c : Choice) → IsLevel r → says s n n r ≡ Some c → ((k : ℕ) → k < r → says s n n k ≡ None) → choice s n ≡ c
+LeastRankChooses = (s : View) (n : Name) (r : ℕ) (c : Choice) → IsLevel r → says s n n r ≡ Some c → ((k : ℕ) → k < r → says s n n k ≡ None) → choice s n ≡ c
 
 -- where the own name says nothing, the least rank does that says anything of n under its template's
 abbrev pub TemplatesComeLast : Type 0
-TemplatesComeLast = (s : EntryMap) (n o : Name) (r : ℕ) (c : Choice) → own_choice s n n ≡ None → template_of n ≡ Some o → IsLevel r → says s n o r ≡ Some c → ((k : ℕ) → k < r → says s n o k ≡ None) → choice s n ≡ c
+TemplatesComeLast = (s : View) (n o : Name) (r : ℕ) (c : Choice) → own_choice s n n ≡ None → template_of n ≡ Some o → IsLevel r → says s n o r ≡ Some c → ((k : ℕ) → k < r → says s n o k ≡ None) → choice s n ≡ c
 
 -- a choice that is made up to a rank is the same in each store that shows the same up to there
 abbrev pub GreaterRanksDontCount : Type 0
-GreaterRanksDontCount = (s t : EntryMap) (n : Name) (r : ℕ) (c : Choice) → IsLevel r → says s n n r ≡ Some c → ((k : ℕ) → k ≤ r → visible_at t (own_path n k) ≡ visible_at s (own_path n k)) → choice t n ≡ choice s n
+GreaterRanksDontCount = (s t : View) (n : Name) (r : ℕ) (c : Choice) → IsLevel r → says s n n r ≡ Some c → ((k : ℕ) → k ≤ r → seen_at t (own_path n k) ≡ seen_at s (own_path n k)) → choice t n ≡ choice s n
 
 -- an empty file, or a link to /dev/null
 abbrev pub IsMask : Content → Type 0
@@ -37,21 +37,21 @@ IsMask (File (b ∷ bs)) = ⊥
 
 -- a mask hides whatever stands in greater ranks and for the template
 abbrev pub MasksHide : Type 0
-MasksHide = (s : EntryMap) (n : Name) (r : ℕ) (x : Content) → IsLevel r → visible_at s (own_path n r) ≡ Some x → IsMask x → ((k : ℕ) → k < r → says s n n k ≡ None) → choice s n ≡ Masked
+MasksHide = (s : View) (n : Name) (r : ℕ) (x : Content) → IsLevel r → seen_at s (own_path n r) ≡ Some x → IsMask x → ((k : ℕ) → k < r → says s n n k ≡ None) → choice s n ≡ Masked
 
 -- stores that show the same choose the same
 abbrev pub OnlyVisibleCounts : Type 0
-OnlyVisibleCounts = (s t : EntryMap) → ((p : PathParts) → visible_at s p ≡ visible_at t p) → (n : Name) → choice s n ≡ choice t n
+OnlyVisibleCounts = (s t : View) → ((p : PathParts) → seen_at s p ≡ seen_at t p) → (n : Name) → choice s n ≡ choice t n
 
 -- stores that show the same at paths of one component choose the same, whatever their folders show
 abbrev pub OwnPathsCount : Type 0
-OwnPathsCount = (s t : EntryMap) → ((p : PathParts) → p.folder ≡ [] → visible_at s p ≡ visible_at t p) → (n : Name) → choice s n ≡ choice t n
+OwnPathsCount = (s t : View) → ((p : PathParts) → p.folder ≡ [] → seen_at s p ≡ seen_at t p) → (n : Name) → choice s n ≡ choice t n
 
 -- a removal gives back what was there: the choice is that of a store that never had anything at the path
 abbrev pub RemovalsGiveBack : Type 0
-RemovalsGiveBack = (s t : EntryMap) (p : PathParts) → visible_at s p ≡ None → visible_at t p ≡ None → ((q : PathParts) → q ≢ p → visible_at s q ≡ visible_at t q) → (n : Name) → choice s n ≡ choice t n
+RemovalsGiveBack = (s t : View) (p : PathParts) → seen_at s p ≡ None → seen_at t p ≡ None → ((q : PathParts) → q ≢ p → seen_at s q ≡ seen_at t q) → (n : Name) → choice s n ≡ choice t n
 
-own_chooses : (s : EntryMap) (n : Name) (c : Choice) → own_choice s n n ≡ Some c → choice s n ≡ c
+own_chooses : (s : View) (n : Name) (c : Choice) → own_choice s n n ≡ Some c → choice s n ≡ c
 own_chooses s n c own = ap (λ o. unwrap_or (option_or o (option_and_then (own_choice s n) (template_of n))) NotFound) own
 
 pub least_rank_chooses : LeastRankChooses
@@ -78,7 +78,7 @@ pub masks_hide : MasksHide
 masks_hide s n r x h e m none =
     least_rank_chooses s n r Masked h (ap (option_and_then (content_says n n (own_path n r))) e ∙ mask_says n n (own_path n r) x m) none
 
-own_same : (s t : EntryMap) → ((p : PathParts) → p.folder ≡ [] → visible_at s p ≡ visible_at t p) → (n o : Name) → own_choice s n o ≡ own_choice t n o
+own_same : (s t : View) → ((p : PathParts) → p.folder ≡ [] → seen_at s p ≡ seen_at t p) → (n o : Name) → own_choice s n o ≡ own_choice t n o
 own_same s t same n o = first_same (says s n o) (says t n o) (λ k. ap (option_and_then (content_says n o (own_path o k))) (same (own_path o k) refl)) levels
 
 pub own_paths_count : OwnPathsCount
@@ -94,4 +94,4 @@ pub only_visible_counts : OnlyVisibleCounts
 only_visible_counts s t same n = own_paths_count s t (λ p _. same p) n
 
 pub removals_give_back : RemovalsGiveBack
-removals_give_back s t p removed absent same = only_visible_counts s t (agree_everywhere path_cmp path_cmp_total path_cmp-IsAntisymmetric (visible_at s) (visible_at t) p (removed ∙ sym absent) same)
+removals_give_back s t p removed absent same = only_visible_counts s t (agree_everywhere path_cmp path_cmp_total path_cmp-IsAntisymmetric (seen_at s) (seen_at t) p (removed ∙ sym absent) same)

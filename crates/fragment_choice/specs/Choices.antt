@@ -9,7 +9,7 @@ use Rattle.load_path.specs.Paths.{PathParts}
 use Rattle.load_path.specs.Levels.{first_level}
 use Rattle.edit_sums.specs.declared.contents.Content.{Content}
 use Rattle.edit_sums.specs.declared.contents.Content.TheVariants.{Gone, Link, File}
-use Rattle.edit_sums.specs.Sums.{EntryMap, visible_at}
+use Rattle.path_maps.specs.Views.{View, seen_at}
 use Rattle.path_maps.specs.Folders.{path_at}
 use Rattle.unit_name.specs.declared.kinds.Kind.{Kind as UnitKind}
 use Rattle.unit_name.specs.declared.kinds.Kind.TheVariants.{Service, Socket, Device, Mount, Automount, Swap, Target as TargetKind, Path, Timer, Slice, Scope}
@@ -112,13 +112,13 @@ abbrev pub own_path : Name → ℕ → PathParts
 own_path o rank = path_at rank [] o
 
 -- what is visible of the own name o at a rank says this of n
-abbrev pub says : EntryMap → Name → Name → ℕ → Option Choice
-says s n o rank = option_and_then (content_says n o (own_path o rank)) (visible_at s (own_path o rank))
+abbrev pub says : View → Name → Name → ℕ → Option Choice
+says s n o rank = option_and_then (content_says n o (own_path o rank)) (seen_at s (own_path o rank))
 
 -- what the least level says that says anything of n under the own name o
-abbrev pub own_choice : EntryMap → Name → Name → Option Choice
+abbrev pub own_choice : View → Name → Name → Option Choice
 own_choice s n o = first_level (says s n o)
 
 -- what n's own paths say, else what its template's do
-abbrev pub choice : EntryMap → Name → Choice
+abbrev pub choice : View → Name → Choice
 choice s n = unwrap_or (option_or (own_choice s n n) (option_and_then (own_choice s n) (template_of n))) NotFound

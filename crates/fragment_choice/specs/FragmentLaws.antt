@@ -5,7 +5,7 @@ use Rattle.std.specs.Option.{option_and_then, option_or}
 use Rattle.load_path.specs.Paths.{PathParts}
 use Rattle.edit_sums.specs.declared.contents.Content.{Content}
 use Rattle.edit_sums.specs.declared.contents.Content.TheVariants as content
-use Rattle.edit_sums.specs.Sums.{EntryMap, visible_at}
+use Rattle.path_maps.specs.Views.{View, seen_at}
 use Rattle.unit_name.specs.declared.names.Shape.{Shape}
 use Rattle.unit_name.specs.declared.names.Shape.TheVariants.{Plain, Template, Instance}
 use Rattle.unit_name.specs.Names.{Name, shape, instance, kind, is_name}
@@ -22,19 +22,19 @@ use Rattle.fragment_choice.specs.Resolutions.Resolves.{ends_at, goes_on}
 use Rattle.fragment_choice.specs.ResolutionLaws.{resolution_resolves}
 
 -- a file that isn't empty is visible at the path
-abbrev pub IsFileAt : EntryMap → PathParts → Type 0
-IsFileAt s p = (b : ℕ) × (bs : List ℕ) × (visible_at s p ≡ Some (content.File (b ∷ bs)))
+abbrev pub IsFileAt : View → PathParts → Type 0
+IsFileAt s p = (b : ℕ) × (bs : List ℕ) × (seen_at s p ≡ Some (content.File (b ∷ bs)))
 
 -- the fragment that stands for a name is such a file
 abbrev pub FragmentsAreFiles : Type 0
-FragmentsAreFiles = (s : EntryMap) (n : Name) (p : PathParts) → (resolution s n).choice ≡ Fragment p → IsFileAt s p
+FragmentsAreFiles = (s : View) (n : Name) (p : PathParts) → (resolution s n).choice ≡ Fragment p → IsFileAt s p
 
 -- and its path has one component
 abbrev pub FragmentsHaveNoFolder : Type 0
-FragmentsHaveNoFolder = (s : EntryMap) (n : Name) (p : PathParts) → (resolution s n).choice ≡ Fragment p → p.folder ≡ []
+FragmentsHaveNoFolder = (s : View) (n : Name) (p : PathParts) → (resolution s n).choice ≡ Fragment p → p.folder ≡ []
 
 -- both at once
-abbrev IsOwnFile : EntryMap → PathParts → Type 0
+abbrev IsOwnFile : View → PathParts → Type 0
 IsOwnFile s p = IsFileAt s p × (p.folder ≡ [])
 
 -- an answer that is no fragment
@@ -73,16 +73,16 @@ content_file n o q p (content.Link target) e = absurd (by (is_null target) e)
     by true e = cc (e)
     by false e = link_other n o (last_component target) p e
 
-said_file : (s : EntryMap) (n o : Name) (rank : ℕ) (p : PathParts) → says s n o rank ≡ Some (Fragment p) → IsOwnFile s p
-said_file s n o rank p e = by (visible_at s (own_path o rank)) refl e
+said_file : (s : View) (n o : Name) (rank : ℕ) (p : PathParts) → says s n o rank ≡ Some (Fragment p) → IsOwnFile s p
+said_file s n o rank p e = by (seen_at s (own_path o rank)) refl e
   where
-    by : (y : Option Content) → visible_at s (own_path o rank) ≡ y → option_and_then (content_says n o (own_path o rank)) y ≡ Some (Fragment p) → IsOwnFile s p
+    by : (y : Option Content) → seen_at s (own_path o rank) ≡ y → option_and_then (content_says n o (own_path o rank)) y ≡ Some (Fragment p) → IsOwnFile s p
     by None at e = cc (e)
     by (Some c) at e =
         let file = content_file n o (own_path o rank) p c e in
-        ((file.0, file.1, ap (visible_at s) (sym file.3) ∙ at ∙ ap Some file.2), ap (λ (q : PathParts). q.folder) (sym file.3))
+        ((file.0, file.1, ap (seen_at s) (sym file.3) ∙ at ∙ ap Some file.2), ap (λ (q : PathParts). q.folder) (sym file.3))
 
-first_file : (s : EntryMap) (n o : Name) (rs : List ℕ) (p : PathParts) → first_said (says s n o) rs ≡ Some (Fragment p) → IsOwnFile s p
+first_file : (s : View) (n o : Name) (rs : List ℕ) (p : PathParts) → first_said (says s n o) rs ≡ Some (Fragment p) → IsOwnFile s p
 first_file s n o [] p e = cc (e)
 first_file s n o (r ∷ rs) p e = by (says s n o r) refl (first_file s n o rs p) e
   where
@@ -90,7 +90,7 @@ first_file s n o (r ∷ rs) p e = by (says s n o r) refl (first_file s n o rs p)
     by None at later e = later e
     by (Some c) at later e = said_file s n o r p (at ∙ e)
 
-chosen_file : (s : EntryMap) (n : Name) (p : PathParts) → choice s n ≡ Fragment p → IsOwnFile s p
+chosen_file : (s : View) (n : Name) (p : PathParts) → choice s n ≡ Fragment p → IsOwnFile s p
 chosen_file s n p e = by (own_choice s n n) refl (template_of n) e
   where
     by : (y : Option Choice) → own_choice s n n ≡ y → (t : Option Name) → unwrap_or (option_or y (option_and_then (own_choice s n) t)) NotFound ≡ Fragment p → IsOwnFile s p
@@ -102,7 +102,7 @@ chosen_file s n p e = by (own_choice s n n) refl (template_of n) e
         of_template None there e = cc (e)
         of_template (Some c) there e = first_file s n o levels p (there ∙ ap Some e)
 
-resolved_file : (s : EntryMap) (n : Name) (r : Resolution) (p : PathParts) → Resolves s n r → r.choice ≡ Fragment p → IsOwnFile s p
+resolved_file : (s : View) (n : Name) (r : Resolution) (p : PathParts) → Resolves s n r → r.choice ≡ Fragment p → IsOwnFile s p
 resolved_file s n r p (ends_at k u short chain ends) e = chosen_file s u p e
 resolved_file s n r p (goes_on u chain) e = cc (e)
 

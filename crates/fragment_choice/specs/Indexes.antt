@@ -6,7 +6,8 @@ use Rattle.std.specs.BTreeMap.{BTreeMap, get}
 use Rattle.std.specs.Global.{Vec}
 use Rattle.list_laws.specs.Members.{IsAmong}
 use Rattle.edit_sums.specs.Entries.{Entry}
-use Rattle.edit_sums.specs.Sums.{EntryMap, shown, visible_at}
+use Rattle.edit_sums.specs.Sums.{shown}
+use Rattle.path_maps.specs.Views.{View, seen_at}
 use Rattle.load_path.specs.Paths.{PathParts}
 use Rattle.load_path.specs.Levels.{IsLevel}
 use Rattle.unit_name.specs.Names.{Name, name_cmp, IsName, instance}
@@ -27,22 +28,22 @@ abbrev pub owners_at : BTreeMap Name (Vec Name) → Name → List Name
 owners_at m t = names_in (get name_cmp m t)
 
 -- just the names that their own links make aliases of t
-pub record AreOwners (s : EntryMap) (t : Name) (owners : List Name) : Type 0 where
+pub record AreOwners (s : View) (t : Name) (owners : List Name) : Type 0 where
   pub there : (o : Name) → IsName o → own_choice s o o ≡ Some (Alias t) → IsAmong o owners
   pub sound : (o : Name) → IsAmong o owners → own_choice s o o ≡ Some (Alias t)
   pub lawful : (o : Name) → IsAmong o owners → IsName o
 
 -- the map has for a name, if it has any, what the name's own paths say
-pub record AreOwnChoices (s : EntryMap) (choices : BTreeMap Name (Option Choice)) : Type 0 where
+pub record AreOwnChoices (s : View) (choices : BTreeMap Name (Option Choice)) : Type 0 where
   pub each : (o : Name) (said : Option Choice) → get name_cmp choices o ≡ Some said → said ≡ own_choice s o o
 
 -- the first map has for names what their own paths say, and the second for each name just those that their own links make aliases of it
-pub record IsIndexOf (s : EntryMap) (choices : BTreeMap Name (Option Choice)) (owners : BTreeMap Name (Vec Name)) : Type 0 where
+pub record IsIndexOf (s : View) (choices : BTreeMap Name (Option Choice)) (owners : BTreeMap Name (Vec Name)) : Type 0 where
   pub known : AreOwnChoices s choices
   pub each : (t : Name) → AreOwners s t (owners_at owners t)
 
 -- what the paths of the template of n say of n
-abbrev pub template_choice : EntryMap → Name → Choice
+abbrev pub template_choice : View → Name → Choice
 template_choice s n = unwrap_or (option_and_then (own_choice s n) (template_of n)) NotFound
 
 -- one of these has the name
@@ -51,16 +52,16 @@ IsAny R [] n = ⊥
 IsAny R (x ∷ xs) n = R x n ⊎ IsAny R xs n
 
 -- n is an alias of one of these
-abbrev pub LeadsToAny : EntryMap → List Name → Name → Type 0
+abbrev pub LeadsToAny : View → List Name → Name → Type 0
 LeadsToAny s ms n = IsAny (λ m k. Leads s k m) ms n
 
 -- n is the template t with the instance of m, and an alias of m
-pub record IsLeadingInstance (s : EntryMap) (m t n : Name) : Type 0 where
+pub record IsLeadingInstance (s : View) (m t n : Name) : Type 0 where
   pub made : with_instance t (instance m) ≡ Some n
   pub leads : Leads s n m
 
 -- the same of one of these templates
-abbrev pub IsLeadingInstanceOfAny : EntryMap → Name → List Name → Name → Type 0
+abbrev pub IsLeadingInstanceOfAny : View → Name → List Name → Name → Type 0
 IsLeadingInstanceOfAny s m ts n = IsAny (IsLeadingInstance s m) ts n
 
 abbrev pub is_alias : Choice → Bool
@@ -77,12 +78,12 @@ pub record IsOwnEntry (p : PathParts × Entry) (n : Name) : Type 0 where
   pub link : IsTrue (is_link (shown p.1))
 
 -- a unit name that has a visible link of its own at this rank
-pub record IsOwnAt (s : EntryMap) (rank : ℕ) (n : Name) : Type 0 where
+pub record IsOwnAt (s : View) (rank : ℕ) (n : Name) : Type 0 where
   pub name : IsName n
-  pub link : IsTrue (is_link (visible_at s (own_path n rank)))
+  pub link : IsTrue (is_link (seen_at s (own_path n rank)))
 
 -- the same at some rank
-abbrev pub IsOwnLink : EntryMap → Name → Type 0
+abbrev pub IsOwnLink : View → Name → Type 0
 IsOwnLink s n = (rank : ℕ) × IsLevel rank × IsOwnAt s rank n
 
 -- names were added: those that pass are all there
@@ -97,7 +98,7 @@ pub record Gathers (Passes : Name → Type 0) (old new : List Name) : Type 0 whe
   pub found : (n : Name) → IsName n → Passes n → IsAmong n new
 
 -- just the unit names that some aliases, and at most d, lead to u
-pub record AreBehind (s : EntryMap) (u : Name) (d : ℕ) (names : List Name) : Type 0 where
+pub record AreBehind (s : View) (u : Name) (d : ℕ) (names : List Name) : Type 0 where
   pub lawful : (n : Name) → IsAmong n names → IsName n
   pub sound : (n : Name) → IsAmong n names → (k : ℕ) × (0 < k) × (k ≤ d) × Chain s k n u
   pub found : (n : Name) (k : ℕ) → 0 < k → k ≤ d → IsName n → Chain s k n u → IsAmong n names

@@ -3,7 +3,7 @@ use Rattle.std.proofs.Common.{◌≡◌, ℕ, Bool, true, false, not, ◌||◌, 
 use Rattle.std.specs.Prelude.{◌⊎◌}
 use Rattle.std.specs.Str.{bytes_eq}
 use Rattle.std.proofs.lemmas.Slice.Eq.{bytes_eq-Decides}
-use Rattle.edit_sums.specs.Sums.{EntryMap}
+use Rattle.path_maps.specs.Views.{View}
 use Rattle.unit_name.specs.declared.kinds.Kind.{Kind as UnitKind}
 use Rattle.unit_name.specs.declared.names.Shape.{Shape as UnitShape}
 use Rattle.unit_name.specs.declared.names.Shape.TheVariants.{Plain, Template, Instance}
@@ -28,15 +28,15 @@ pub record IsLike (n m : Name) : Type 0 where
 
 -- what a name is an alias of is like it
 abbrev pub AliasesAreAlike : Type 0
-AliasesAreAlike = (s : EntryMap) (n m : Name) → IsName n → Leads s n m → IsLike n m
+AliasesAreAlike = (s : View) (n m : Name) → IsName n → Leads s n m → IsLike n m
 
 -- and so is the end of a chain of aliases
 abbrev pub ChainsAreAlike : Type 0
-ChainsAreAlike = (s : EntryMap) (d : ℕ) (n u : Name) → IsName n → Chain s d n u → IsLike n u
+ChainsAreAlike = (s : View) (d : ℕ) (n u : Name) → IsName n → Chain s d n u → IsLike n u
 
 -- and the main name
 abbrev pub MainsAreAlike : Type 0
-MainsAreAlike = (s : EntryMap) (n : Name) → IsName n → IsLike n (main s n)
+MainsAreAlike = (s : View) (n : Name) → IsName n → IsLike n (main s n)
 
 -- the same of an alias that a link to t makes: of the kind of t, and of this shape
 record IsMade (t m : Name) (x : UnitShape) : Type 0 where

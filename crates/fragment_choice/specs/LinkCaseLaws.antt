@@ -7,7 +7,7 @@ use Rattle.std.proofs.lemmas.Bool.{true≢false, cases_lt, leb-true, false_from_
 use Rattle.std.proofs.lemmas.Option.{none-some, same_Some, cond_some}
 use Rattle.std.proofs.lemmas.Slice.Eq.{bytes_eq-Decides}
 use Rattle.edit_sums.specs.declared.contents.Content.TheVariants.{Link}
-use Rattle.edit_sums.specs.Sums.{EntryMap, visible_at}
+use Rattle.path_maps.specs.Views.{View, seen_at}
 use Rattle.unit_name.specs.declared.kinds.Kind.{Kind as UnitKind}
 use Rattle.unit_name.specs.declared.kinds.Kind.TheVariants.{Service, Socket, Device, Mount, Automount, Swap, Target as TargetKind, Path, Timer, Slice, Scope}
 use Rattle.unit_name.specs.declared.names.Shape.{Shape as UnitShape}
@@ -23,9 +23,9 @@ use Rattle.fragment_choice.specs.Choices.{alias_of, alias_to, content_says, has_
 use Rattle.fragment_choice.specs.SilenceLaws.{told, leads_to_itself, itself_leads}
 
 -- a link is visible under the name o at a rank, and its target, which isn't /dev/null, ends in the component t
-pub record LinkStands (s : EntryMap) (o : Name) (rank : ℕ) (t : List ℕ) : Type 0 where
+pub record LinkStands (s : View) (o : Name) (rank : ℕ) (t : List ℕ) : Type 0 where
   pub target : List ℕ
-  pub there : visible_at s (own_path o rank) ≡ Some (Link target)
+  pub there : seen_at s (own_path o rank) ≡ Some (Link target)
   pub no_mask : target ≢ codes "/dev/null"
   pub component : last_component target ≡ t
 
@@ -61,15 +61,15 @@ pub record GrowsTooLong (n o t : Name) : Type 0 where
 
 -- a link is bad by its kind just where it is heeded and the kinds clash, whatever the shapes
 abbrev pub KindsMakeBad : Type 0
-KindsMakeBad = (s : EntryMap) (n o t : Name) (rank : ℕ) → IsName o → LinkStands s o rank t → (says s n o rank ≡ Some (Bad Kind)) ↔ (IsHeeded o t × KindsClash o t)
+KindsMakeBad = (s : View) (n o t : Name) (rank : ℕ) → IsName o → LinkStands s o rank t → (says s n o rank ≡ Some (Bad Kind)) ↔ (IsHeeded o t × KindsClash o t)
 
 -- and by its shape just where the kinds don't clash and the shapes do
 abbrev pub ShapesMakeBad : Type 0
-ShapesMakeBad = (s : EntryMap) (n o t : Name) (rank : ℕ) → IsName o → LinkStands s o rank t → (says s n o rank ≡ Some (Bad Shape)) ↔ (IsHeeded o t × (KindsClash o t → ⊥) × ShapesClash o t)
+ShapesMakeBad = (s : View) (n o t : Name) (rank : ℕ) → IsName o → LinkStands s o rank t → (says s n o rank ≡ Some (Bad Shape)) ↔ (IsHeeded o t × (KindsClash o t → ⊥) × ShapesClash o t)
 
 -- and by its target just where that ends in no unit's name, or makes a name that is too long
 abbrev pub TargetsMakeBad : Type 0
-TargetsMakeBad = (s : EntryMap) (n o t : Name) (rank : ℕ) → IsName n → IsName o → LinkStands s o rank t → (says s n o rank ≡ Some (Bad Target)) ↔ ((IsName t → ⊥) ⊎ GrowsTooLong n o t)
+TargetsMakeBad = (s : View) (n o t : Name) (rank : ℕ) → IsName n → IsName o → LinkStands s o rank t → (says s n o rank ≡ Some (Bad Target)) ↔ ((IsName t → ⊥) ⊎ GrowsTooLong n o t)
 
 -- what a good link to t makes of n: a template with the part of the instance n, else t itself
 pub data IsAliasOf (n t m : Name) : Type 0 where
@@ -78,15 +78,15 @@ pub data IsAliasOf (n t m : Name) : Type 0 where
 
 -- a link makes an alias just where it is heeded and neither the kinds nor the shapes clash
 abbrev pub GoodLinksMakeAliases : Type 0
-GoodLinksMakeAliases = (s : EntryMap) (n o t m : Name) (rank : ℕ) → IsName n → IsName o → LinkStands s o rank t → (says s n o rank ≡ Some (Alias m)) ↔ (IsHeeded o t × (KindsClash o t → ⊥) × (ShapesClash o t → ⊥) × IsAliasOf n t m)
+GoodLinksMakeAliases = (s : View) (n o t m : Name) (rank : ℕ) → IsName n → IsName o → LinkStands s o rank t → (says s n o rank ≡ Some (Alias m)) ↔ (IsHeeded o t × (KindsClash o t → ⊥) × (ShapesClash o t → ⊥) × IsAliasOf n t m)
 
 -- no single link is a loop
 abbrev pub NoLinkIsALoop : Type 0
-NoLinkIsALoop = (s : EntryMap) (n o t : Name) (rank : ℕ) → LinkStands s o rank t → says s n o rank ≢ Some (Bad Loop)
+NoLinkIsALoop = (s : View) (n o t : Name) (rank : ℕ) → LinkStands s o rank t → says s n o rank ≢ Some (Bad Loop)
 
 -- ---- the four tests in words
 
-said_link : (s : EntryMap) (n o t : Name) (rank : ℕ) → LinkStands s o rank t → says s n o rank ≡ link_says n o t
+said_link : (s : View) (n o t : Name) (rank : ℕ) → LinkStands s o rank t → says s n o rank ≡ link_says n o t
 said_link s n o t rank k =
     ap (option_and_then (content_says n o (own_path o rank))) k.there
     ∙ by (is_null k.target) refl

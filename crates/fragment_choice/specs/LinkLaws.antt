@@ -5,7 +5,7 @@ use Rattle.std.proofs.lemmas.Slice.Eq.{bytes_eq-Decides}
 use Rattle.std.proofs.lemmas.Option.{same_Some, none-some}
 use Rattle.edit_sums.specs.declared.contents.Content.{Content}
 use Rattle.edit_sums.specs.declared.contents.Content.TheVariants.{Gone, Link, File}
-use Rattle.edit_sums.specs.Sums.{EntryMap, visible_at}
+use Rattle.path_maps.specs.Views.{View, seen_at}
 use Rattle.unit_name.specs.declared.names.Shape.{Shape as UnitShape}
 use Rattle.unit_name.specs.declared.names.Shape.TheVariants.{Plain, Template, Instance}
 use Rattle.unit_name.specs.Names.{Name, IsName, is_name, kind, shape, instance}
@@ -26,18 +26,18 @@ use Rattle.fragment_choice.specs.LinkedNames.{is_link, IsLinkedAt}
 
 -- a name that is an alias has a visible link of its own name or of its template's
 abbrev pub AliasesHaveLinks : Type 0
-AliasesHaveLinks = (s : EntryMap) (n m : Name) → Leads s n m → (rank : ℕ) × IsLevel rank × IsLinkedAt s rank n
+AliasesHaveLinks = (s : View) (n m : Name) → Leads s n m → (rank : ℕ) × IsLevel rank × IsLinkedAt s rank n
 
 -- an instance's main name is an instance too, of the same instance part
 abbrev pub InstancesKeepTheirPart : Type 0
-InstancesKeepTheirPart = (s : EntryMap) (n : Name) → IsName n → shape n ≡ Instance → IsName (main s n) × (shape (main s n) ≡ Instance) × (instance (main s n) ≡ instance n)
+InstancesKeepTheirPart = (s : View) (n : Name) → IsName n → shape n ≡ Instance → IsName (main s n) × (shape (main s n) ≡ Instance) × (instance (main s n) ≡ instance n)
 
 -- the link that made a name an alias
-pub record ByLink (s : EntryMap) (n o m : Name) : Type 0 where
+pub record ByLink (s : View) (n o m : Name) : Type 0 where
   pub rank : ℕ
   pub within : IsLevel rank
   pub target : List ℕ
-  pub there : visible_at s (own_path o rank) ≡ Some (Link target)
+  pub there : seen_at s (own_path o rank) ≡ Some (Link target)
   pub said : target_says n o (last_component target) ≡ Some (Alias m)
   pub lawful : IsName (last_component target)
 
@@ -49,7 +49,7 @@ null_or false n o t m h = by (is_name t) refl h
     by true e k = (e, k)
     by false e k = cc (k)
 
-by_link : (s : EntryMap) (n o m : Name) (r : ℕ) → IsLevel r → (v : Option Content) → visible_at s (own_path o r) ≡ v → option_and_then (content_says n o (own_path o r)) v ≡ Some (Alias m) → ByLink s n o m
+by_link : (s : View) (n o m : Name) (r : ℕ) → IsLevel r → (v : Option Content) → seen_at s (own_path o r) ≡ v → option_and_then (content_says n o (own_path o r)) v ≡ Some (Alias m) → ByLink s n o m
 by_link s n o m r within None e h = cc (h)
 by_link s n o m r within (Some Gone) e h = cc (h)
 by_link s n o m r within (Some (File [])) e h = cc (h)
@@ -58,13 +58,13 @@ by_link s n o m r within (Some (Link t)) e h =
     let k = null_or (is_null t) n o (last_component t) m h in
     record { rank = r; within = within; target = t; there = e; said = k.1; lawful = k.0 }
 
-pub own_link : (s : EntryMap) (n o m : Name) → own_choice s n o ≡ Some (Alias m) → ByLink s n o m
+pub own_link : (s : View) (n o m : Name) → own_choice s n o ≡ Some (Alias m) → ByLink s n o m
 own_link s n o m h =
     let w = said_by (says s n o) (Alias m) h in
-    by_link s n o m w.0 w.1 (visible_at s (own_path o w.0)) refl w.2
+    by_link s n o m w.0 w.1 (seen_at s (own_path o w.0)) refl w.2
 
 -- the link's name is the name's own, or its template's
-pub record HasLink (s : EntryMap) (n m : Name) : Type 0 where
+pub record HasLink (s : View) (n m : Name) : Type 0 where
   pub owner : Name
   pub owns : (owner ≡ n) ⊎ (template_of n ≡ Some owner)
   pub link : ByLink s n owner m
@@ -73,7 +73,7 @@ pub alias_said : (c : Option Choice) (m : Name) → unwrap_or c NotFound ≡ Ali
 alias_said None m h = cc (h)
 alias_said (Some c) m h = ap (λ x. Some x) h
 
-pub has_link : (s : EntryMap) (n m : Name) → Leads s n m → HasLink s n m
+pub has_link : (s : View) (n m : Name) → Leads s n m → HasLink s n m
 has_link s n m h = by_own (own_choice s n n) refl h
   where
     by_template : (t : Option Name) → template_of n ≡ t → unwrap_or (option_and_then (own_choice s n) t) NotFound ≡ Alias m → HasLink s n m
@@ -165,18 +165,18 @@ keeps n o t m h e lawful owner p =
     by Instance q (inr a) k g = cc (agreed Template Instance a q g)
 
 -- an instance's alias is an instance of the same part
-pub alias_keeps : (s : EntryMap) (i n m : Name) → Leads s n m → IsInstance i n → IsInstance i m
+pub alias_keeps : (s : View) (i n m : Name) → Leads s n m → IsInstance i n → IsInstance i m
 alias_keeps s i n m h k =
     let l = has_link s n m h in
     let p = passed n l.owner (last_component l.link.target) m l.link.said in
     let r = keeps n l.owner (last_component l.link.target) m k.name k.shape_is l.link.lawful (owner_shape n l.owner k.name k.shape_is l.owns) p in
     record { name = r.name; shape_is = r.shape_is; part = r.part ∙ k.part }
 
-chain_keeps : (s : EntryMap) (i n u : Name) (d : ℕ) → Chain s d n u → IsInstance i n → IsInstance i u
+chain_keeps : (s : View) (i n u : Name) (d : ℕ) → Chain s d n u → IsInstance i n → IsInstance i u
 chain_keeps s i n u d (here _) k = k
 chain_keeps s i n u d (step _ m _ e l rest) k = chain_keeps s i m u e rest (alias_keeps s i n m l k)
 
-resolves_keeps : (s : EntryMap) (i n : Name) (r : Resolution) → Resolves s n r → IsInstance i n → IsInstance i r.main
+resolves_keeps : (s : View) (i n : Name) (r : Resolution) → Resolves s n r → IsInstance i n → IsInstance i r.main
 resolves_keeps s i n r (ends_at d u le chain ends) k = chain_keeps s i n u d chain k
 resolves_keeps s i n r (goes_on u chain) k = k
 

@@ -3,7 +3,7 @@
 use Rattle.std.specs.Prelude.{◌≡◌, ℕ, Bool, true, false, Option, Some, None, List, ◌⊎◌, IsTrue, if◌then◌else◌}
 use Rattle.edit_sums.specs.declared.contents.Content.{Content}
 use Rattle.edit_sums.specs.declared.contents.Content.TheVariants.{Gone, Link, File}
-use Rattle.edit_sums.specs.Sums.{EntryMap, visible_at}
+use Rattle.path_maps.specs.Views.{View, seen_at}
 use Rattle.unit_name.specs.Names.{Name, is_name}
 use Rattle.unit_name.specs.Forms.{template_of}
 use Rattle.fragment_choice.specs.Choices.{own_path}
@@ -19,10 +19,10 @@ is_link (Some (Link target)) = true
 is_link (Some (File bytes)) = false
 
 -- n or its template is o, and at this rank a visible link has this name
-pub record IsLinkedBy (s : EntryMap) (rank : ℕ) (o n : Name) : Type 0 where
-  pub link : IsTrue (is_link (visible_at s (own_path o rank)))
+pub record IsLinkedBy (s : View) (rank : ℕ) (o n : Name) : Type 0 where
+  pub link : IsTrue (is_link (seen_at s (own_path o rank)))
   pub owner : (o ≡ n) ⊎ (template_of n ≡ Some o)
 
 -- a link at this rank gives the name n
-abbrev pub IsLinkedAt : EntryMap → ℕ → Name → Type 0
+abbrev pub IsLinkedAt : View → ℕ → Name → Type 0
 IsLinkedAt s rank n = (o : Name) × IsLinkedBy s rank o n

@@ -13,7 +13,8 @@ use Rattle.load_path.specs.Paths.{PathParts}
 use Rattle.edit_sums.specs.declared.contents.Content.{Content}
 use Rattle.edit_sums.specs.declared.contents.Content.TheVariants as content
 use Rattle.edit_sums.specs.Entries.{Entry}
-use Rattle.edit_sums.specs.Sums.{EntryMap, shown, visible_at}
+use Rattle.edit_sums.specs.Sums.{shown}
+use Rattle.path_maps.specs.Views.{View, seen_at}
 use Rattle.std.specs.FinMap as finmap
 use Rattle.unit_name.specs.declared.names.Shape.{Shape}
 use Rattle.unit_name.specs.declared.names.Shape.TheVariants.{Plain, Template, Instance}
@@ -35,12 +36,12 @@ pub record IsPassedOver (o : Name) (x : Content) : Type 0 where
   pub itself : (last_component target ≡ o) ⊎ (template_of o ≡ Some (last_component target))
 
 -- nothing speaks under the name o: whatever is visible of it in the four directories is passed over
-abbrev pub NothingSpeaks : EntryMap → Name → Type 0
-NothingSpeaks s o = (rank : ℕ) (x : Content) → IsLevel rank → visible_at s (own_path o rank) ≡ Some x → IsPassedOver o x
+abbrev pub NothingSpeaks : View → Name → Type 0
+NothingSpeaks s o = (rank : ℕ) (x : Content) → IsLevel rank → seen_at s (own_path o rank) ≡ Some x → IsPassedOver o x
 
 -- a name is not found just where nothing speaks under it, nor under its template
 abbrev pub SilenceIsNotFound : Type 0
-SilenceIsNotFound = (s : EntryMap) (n : Name) → (choice s n ≡ NotFound) ↔ (NothingSpeaks s n × ((o : Name) → template_of n ≡ Some o → NothingSpeaks s o))
+SilenceIsNotFound = (s : View) (n : Name) → (choice s n ≡ NotFound) ↔ (NothingSpeaks s n × ((o : Name) → template_of n ≡ Some o → NothingSpeaks s o))
 
 -- ---- links to themselves
 
@@ -111,14 +112,14 @@ content_found n o p (content.Link target) e = by (is_null target) e
         (shapes_agree (shape o) (instance o) (shape (last_component target)) (instance (last_component target))) (alias_of (shape n) n (shape (last_component target)) (last_component target))
         (alias_found (shape n) n (shape (last_component target)) (last_component target)) h
 
-said_found : (s : EntryMap) (n o : Name) (rank : ℕ) → says s n o rank ≡ Some NotFound → ⊥
-said_found s n o rank e = by (visible_at s (own_path o rank)) e
+said_found : (s : View) (n o : Name) (rank : ℕ) → says s n o rank ≡ Some NotFound → ⊥
+said_found s n o rank e = by (seen_at s (own_path o rank)) e
   where
     by : (y : Option Content) → option_and_then (content_says n o (own_path o rank)) y ≡ Some NotFound → ⊥
     by None h = cc (h)
     by (Some x) h = content_found n o (own_path o rank) x h
 
-own_found : (s : EntryMap) (n o : Name) → own_choice s n o ≡ Some NotFound → ⊥
+own_found : (s : View) (n o : Name) → own_choice s n o ≡ Some NotFound → ⊥
 own_found s n o e = let w = said_by (says s n o) NotFound e in said_found s n o w.0 w.2
 
 -- ---- what is passed over
@@ -169,15 +170,15 @@ gone_hidden : (o : Option Entry) → option_and_then shown o ≡ Some content.Go
 gone_hidden None e = cc (e)
 gone_hidden (Some x) e = shown_content x e
 
-silent : (s : EntryMap) (n o : Name) → own_choice s n o ≡ None → NothingSpeaks s o
+silent : (s : View) (n o : Name) → own_choice s n o ≡ None → NothingSpeaks s o
 silent s n o e rank x h v =
     passed_over n o (own_path o rank) x (λ g. gone_hidden (finmap.get s (own_path o rank)) (v ∙ ap (λ y. Some y) g))
     (sym (ap (option_and_then (content_says n o (own_path o rank))) v) ∙ none_said (says s n o) e rank h)
 
-speechless : (s : EntryMap) (n o : Name) → NothingSpeaks s o → own_choice s n o ≡ None
-speechless s n o quiet = all_none (says s n o) (λ rank h. by rank h (visible_at s (own_path o rank)) refl)
+speechless : (s : View) (n o : Name) → NothingSpeaks s o → own_choice s n o ≡ None
+speechless s n o quiet = all_none (says s n o) (λ rank h. by rank h (seen_at s (own_path o rank)) refl)
   where
-    by : (rank : ℕ) → IsLevel rank → (y : Option Content) → visible_at s (own_path o rank) ≡ y → option_and_then (content_says n o (own_path o rank)) y ≡ None
+    by : (rank : ℕ) → IsLevel rank → (y : Option Content) → seen_at s (own_path o rank) ≡ y → option_and_then (content_says n o (own_path o rank)) y ≡ None
     by rank h None e = refl
     by rank h (Some x) e = nothing_said n o (own_path o rank) x (quiet rank x h e)
 

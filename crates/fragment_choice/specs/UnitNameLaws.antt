@@ -3,26 +3,26 @@ use Rattle.std.proofs.Common.{◌≡◌, ap, sym, ◌∙◌, subst, ◌∷◌, i
 use Rattle.std.specs.Cmp.Lexicographic.{nat_list_cmp_total}
 use Rattle.list_laws.specs.Members.{IsAmong}
 use Rattle.list_laws.specs.Rising.{one_rising_list}
-use Rattle.edit_sums.specs.Sums.{EntryMap}
+use Rattle.path_maps.specs.Views.{View}
 use Rattle.unit_name.specs.Names.{Name, name_cmp}
 use Rattle.fragment_choice.specs.Resolutions.{main}
 use Rattle.fragment_choice.specs.UnitNames.{AreNames}
 
 -- each name of a unit has the unit as its main
 abbrev pub NamesHaveTheMain : Type 0
-NamesHaveTheMain = (s : EntryMap) (u n : Name) (names : List Name) → main s u ≡ u → AreNames s u names → IsAmong n names → main s n ≡ u
+NamesHaveTheMain = (s : View) (u n : Name) (names : List Name) → main s u ≡ u → AreNames s u names → IsAmong n names → main s n ≡ u
 
 -- the names of two units don't meet: units that share a name are one
 abbrev pub NamesDontMeet : Type 0
-NamesDontMeet = (s : EntryMap) (u v n : Name) (names others : List Name) → main s u ≡ u → main s v ≡ v → AreNames s u names → AreNames s v others → IsAmong n names → IsAmong n others → u ≡ v
+NamesDontMeet = (s : View) (u v n : Name) (names others : List Name) → main s u ≡ u → main s v ≡ v → AreNames s u names → AreNames s v others → IsAmong n names → IsAmong n others → u ≡ v
 
 -- a unit has one list of names
 abbrev pub OneListOfNames : Type 0
-OneListOfNames = (s : EntryMap) (u : Name) (names others : List Name) → AreNames s u names → AreNames s u others → names ≡ others
+OneListOfNames = (s : View) (u : Name) (names others : List Name) → AreNames s u names → AreNames s u others → names ≡ others
 
 -- where each name has the same main in two stores, a unit has the same names in both
 abbrev pub MainsDecide : Type 0
-MainsDecide = (s t : EntryMap) → ((n : Name) → main s n ≡ main t n) → (u : Name) (names : List Name) → AreNames s u names → AreNames t u names
+MainsDecide = (s t : View) → ((n : Name) → main s n ≡ main t n) → (u : Name) (names : List Name) → AreNames s u names → AreNames t u names
 
 pub names_have_the_main : NamesHaveTheMain
 names_have_the_main s u n names own are h = by (subst (IsAmong n) are.first h)

@@ -2,6 +2,7 @@
 ghost use Rattle.std.specs.Prelude.{◌≡◌, [], Some, IfOk, OnOk};
 ghost use Rattle.std.specs.BTreeMap.{Updates};
 ghost use Rattle.edit_sums.specs.Sums.{shown};
+ghost use Rattle.path_maps.specs.Views.{fleet_of};
 ghost use Rattle.unit_name.specs.Names.{name_cmp};
 ghost use Rattle.fragment_choice.specs.Choices.{own_choice};
 ghost use Rattle.fragment_choice.specs.Indexes.{AreOwners, Collects, IsIndexOf, IsOwnAt, IsOwnEntry, IsOwnLink, Puts, PutsSaid};
@@ -10,7 +11,7 @@ ghost use Rattle.fragment_choice.specs.LinkedNames.{is_link, unit_of};
 use crate::choices::{Choice, Chooses, own_choice, template_choice};
 use crate::names::put;
 use load_path::LEVELS;
-use replica_store::{Content, Placed, Store};
+use replica_store::{Content, Seen, SeenEntry, Store};
 use std::alloc::{AllocError, Global};
 use std::collections::{BTreeMap, BTreeSet};
 use std::marker::Model;
@@ -24,10 +25,10 @@ type OwnChoices = BTreeMap<UnitName, Option<Choice>>;
 
 /// The aliases of a store by what they are aliases of, and what each name chooses that has a link
 /// of its own. Made once, it resolves the names of the store, which it borrows, and finds those of
-/// each unit: in contracts it is the store.
+/// each unit: in contracts it is what is seen of the store.
 #[derive(Drop)]
 pub struct AliasIndex<'a> {
-    store: &'a Store,
+    seen: Seen<'a>,
     choices: OwnChoices,
     owners: Owners,
 }
@@ -36,16 +37,16 @@ impl<'a> Model for AliasIndex<'a> {
     ghost use Rattle.std.specs.FinMap as finmap;
     ghost use Rattle.load_path.specs.PathLaws.{coded_path};
     ghost use Rattle.edit_sums.specs.EntryCodes.{coded_entry};
-    ghost use Rattle.edit_sums.specs.Sums.{EntryMap};
+    ghost use Rattle.path_maps.specs.Views.{View};
     ghost use Rattle.fragment_choice.specs.Indexes.{IsIndexOf};
 
-    ghost Value = { EntryMap };
+    ghost Value = { View };
 
     ghost coded = { finmap.code coded_path coded_entry };
 
-    ghost view = { λ index. index.store.now };
+    ghost view = { λ index. index.seen };
 
-    ghost invariant = { λ index. IsIndexOf index.store.now index.choices index.owners };
+    ghost invariant = { λ index. IsIndexOf index.seen index.choices index.owners };
 }
 
 impl<'a> AliasIndex<'a> {
@@ -53,21 +54,22 @@ impl<'a> AliasIndex<'a> {
     /// has a link there one choice, which is kept, and places for it are found. It fails for want of
     /// memory alone.
     pub fn of(alloc: Global, store: &'a Store) -> Result<AliasIndex<'a>, AllocError>
-        ensures store { IfOk result (λ index. index ≡ store.now) }
+        ensures seen { IfOk result (λ index. index ≡ fleet_of store.now) }
     {
-        let (choices, owners) = indexed(alloc, store)?;
+        let seen = store.fleet();
+        let (choices, owners) = indexed(alloc, &seen)?;
         Ok(AliasIndex {
-            store,
+            seen,
             choices,
             owners,
         })
     }
 
-    /// The store that it is of.
-    pub fn store(&self) -> &'a Store
-        ensures store { result.now ≡ self.now }
+    /// What is seen of the store. It takes no memory.
+    pub fn seen(&self) -> &Seen<'a>
+        ensures seen { result.now ≡ self.now }
     {
-        self.store
+        &self.seen
     }
 
     // The names whose own links make them aliases of this one.
@@ -87,31 +89,31 @@ impl<'a> AliasIndex<'a> {
         match self.choices.get(name) {
             Some(Some(said)) => Ok(Some(said.try_clone()?)),
             Some(None) => Ok(None),
-            None => own_choice(alloc, self.store, name, name),
+            None => own_choice(alloc, &self.seen, name, name),
         }
     }
 }
 
 impl<'a> Chooses for AliasIndex<'a> {
-    ghost in_store = { λ index. index };
+    ghost in_view = { λ index. index };
 
     fn choose(&self, alloc: Global, name: &UnitName) -> Result<Choice, AllocError> {
         match self.own_choice_of(alloc, name)? {
             Some(said) => Ok(said),
-            None => template_choice(alloc, self.store(), name),
+            None => template_choice(alloc, &self.seen, name),
         }
     }
 }
 
 // What each name chooses that has a link of its own, and those that are aliases so by what they are
 // aliases of.
-fn indexed(alloc: Global, store: &Store) -> Result<(OwnChoices, Owners), AllocError>
-    ensures index { IfOk result (λ it. IsIndexOf store.now it.0 it.1) }
+fn indexed(alloc: Global, seen: &Seen) -> Result<(OwnChoices, Owners), AllocError>
+    ensures index { IfOk result (λ it. IsIndexOf seen.now it.0 it.1) }
 {
     let mut choices = BTreeMap::new(alloc);
     let mut owners = BTreeMap::new(alloc);
-    for own in linked_names(alloc, store)? {
-        let said = own_choice(alloc, store, &own, &own)?;
+    for own in linked_names(alloc, seen)? {
+        let said = own_choice(alloc, seen, &own, &own)?;
         put_owner(alloc, &mut owners, &own, &said)?;
         put_choice(&mut choices, own, said)?;
     }
@@ -167,12 +169,12 @@ fn put_under(
 }
 
 // The unit names that have a visible link of their own at some level.
-fn linked_names(alloc: Global, store: &Store) -> Result<BTreeSet<UnitName>, AllocError>
-    ensures linked { IfOk result (λ names. Collects (IsOwnLink store.now) [] names.keys) }
+fn linked_names(alloc: Global, seen: &Seen) -> Result<BTreeSet<UnitName>, AllocError>
+    ensures linked { IfOk result (λ names. Collects (IsOwnLink seen.now) [] names.keys) }
 {
     let mut names = BTreeSet::new(alloc);
     for level in 0..LEVELS {
-        add_linked(alloc, &mut names, store, level)?;
+        add_linked(alloc, &mut names, seen, level)?;
     }
     Ok(names)
 }
@@ -181,12 +183,12 @@ fn linked_names(alloc: Global, store: &Store) -> Result<BTreeSet<UnitName>, Allo
 fn add_linked(
     alloc: Global,
     names: &mut BTreeSet<UnitName>,
-    store: &Store,
+    seen: &Seen,
     level: u8,
 ) -> Result<(), AllocError>
-    ensures added { OnOk result (Collects (IsOwnAt store.now level) names.old.keys names.new.keys) }
+    ensures added { OnOk result (Collects (IsOwnAt seen.now level) names.old.keys names.new.keys) }
 {
-    let mut entries = store.entries_in(level, b"");
+    let mut entries = seen.entries_in(level, b"");
     while let Some(placed) = entries.next_entry() {
         add_own(alloc, names, &placed)?;
     }
@@ -194,7 +196,11 @@ fn add_linked(
 }
 
 // Adds an entry's name if it is a unit name and the entry is a link.
-fn add_own(alloc: Global, names: &mut BTreeSet<UnitName>, placed: &Placed) -> Result<(), AllocError>
+fn add_own(
+    alloc: Global,
+    names: &mut BTreeSet<UnitName>,
+    placed: &SeenEntry,
+) -> Result<(), AllocError>
     ensures added { OnOk result (Collects (IsOwnEntry placed.now) names.old.keys names.new.keys) }
 {
     if !is_link(placed) {
@@ -207,7 +213,7 @@ fn add_own(alloc: Global, names: &mut BTreeSet<UnitName>, placed: &Placed) -> Re
 }
 
 // Whether an entry is a link.
-fn is_link(placed: &Placed) -> bool
+fn is_link(placed: &SeenEntry) -> bool
     ensures test { result ≡ is_link (shown placed.now.1) }
 {
     matches!(placed.visible(), Some(Content::Link(_)))

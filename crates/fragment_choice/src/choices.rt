@@ -1,13 +1,13 @@
 //! The choice of a unit's main file.
 ghost use Rattle.std.specs.Prelude.{◌≡◌, IfOk};
-ghost use Rattle.edit_sums.specs.Sums.{EntryMap};
+ghost use Rattle.path_maps.specs.Views.{View, fleet_of};
 ghost use Rattle.unit_name.specs.Names.{IsName};
 ghost use Rattle.fragment_choice.specs.Choices.{choice, own_choice, says, content_says, link_says};
 ghost use Rattle.fragment_choice.specs.Indexes.{template_choice};
 
 use crate::links::{last_component, target_says};
 use load_path::LEVELS;
-use replica_store::{Content, Path, Placed, Store};
+use replica_store::{Content, Path, Seen, SeenEntry, Store};
 use std::alloc::{AllocError, Global};
 use thiserror::Error;
 use unit_name::{NameFault, UnitName};
@@ -59,21 +59,24 @@ impl Choice {
     }
 }
 
-// What chooses for the names of a store.
+// What chooses for names.
 pub(crate) trait Chooses {
-    // The store.
-    ghost in_store: { Self → EntryMap };
+    // What is seen of a store.
+    ghost in_view: { Self → View };
 
     // What stands for a name.
     fn choose(&self, alloc: Global, name: &UnitName) -> Result<Choice, AllocError>
-        ensures choice { IfOk result (λ chosen. chosen ≡ choice (in_store self.now) name.now) };
+        ensures choice { IfOk result (λ chosen. chosen ≡ choice (in_view self.now) name.now) };
 }
 
-impl Chooses for Store {
-    ghost in_store = { λ store. store };
+impl<'a> Chooses for Seen<'a> {
+    ghost in_view = { λ seen. seen };
 
     fn choose(&self, alloc: Global, name: &UnitName) -> Result<Choice, AllocError> {
-        choose(alloc, self, name)
+        match own_choice(alloc, self, name, name)? {
+            Some(said) => Ok(said),
+            None => template_choice(alloc, self, name),
+        }
     }
 }
 
@@ -84,41 +87,38 @@ impl Chooses for Store {
 /// It asks the store at most eight times, at four ranks for the name and for its template. Each
 /// is a search for which no path is built. It fails for want of memory alone.
 pub fn choose(alloc: Global, store: &Store, name: &UnitName) -> Result<Choice, AllocError>
-    ensures choice { IfOk result (λ chosen. chosen ≡ choice store.now name.now) }
+    ensures choice { IfOk result (λ chosen. chosen ≡ choice (fleet_of store.now) name.now) }
 {
-    match own_choice(alloc, store, name, name)? {
-        Some(said) => Ok(said),
-        None => template_choice(alloc, store, name),
-    }
+    store.fleet().choose(alloc, name)
 }
 
 /// What the visible paths of a name's template say of the name: nothing stands for it where there
 /// is no template.
 pub(crate) fn template_choice(
     alloc: Global,
-    store: &Store,
+    seen: &Seen,
     name: &UnitName,
 ) -> Result<Choice, AllocError>
-    ensures choice { IfOk result (λ chosen. chosen ≡ template_choice store.now name.now) }
+    ensures choice { IfOk result (λ chosen. chosen ≡ template_choice seen.now name.now) }
 {
     let Some(template) = name.template_of()? else {
         return Ok(Choice::NotFound);
     };
-    Ok(own_choice(alloc, store, name, &template)?.unwrap_or(Choice::NotFound))
+    Ok(own_choice(alloc, seen, name, &template)?.unwrap_or(Choice::NotFound))
 }
 
 /// What the visible paths of one own name say, the least level first.
 pub(crate) fn own_choice(
     alloc: Global,
-    store: &Store,
+    seen: &Seen,
     name: &UnitName,
     own: &UnitName,
 ) -> Result<Option<Choice>, AllocError>
-    ensures choice { IfOk result (λ said. said ≡ own_choice store.now name.now own.now) }
+    ensures choice { IfOk result (λ said. said ≡ own_choice seen.now name.now own.now) }
     ensures lawful { IsName own.now }
 {
     for level in 0..LEVELS {
-        if let Some(said) = says(alloc, store, name, own, level)? {
+        if let Some(said) = says(alloc, seen, name, own, level)? {
             return Ok(Some(said));
         }
     }
@@ -128,15 +128,15 @@ pub(crate) fn own_choice(
 // What the own name says at one level.
 fn says(
     alloc: Global,
-    store: &Store,
+    seen: &Seen,
     name: &UnitName,
     own: &UnitName,
     level: u8,
 ) -> Result<Option<Choice>, AllocError>
-    ensures said { IfOk result (λ said. said ≡ says store.now name.now own.now level) }
+    ensures said { IfOk result (λ said. said ≡ says seen.now name.now own.now level) }
     ensures lawful { IsName own.now }
 {
-    match store.placed_at(level, b"", own.bytes()) {
+    match seen.entry_at(level, b"", own.bytes()) {
         None => Ok(None),
         Some(placed) => entry_says(alloc, name, own, &placed),
     }
@@ -147,7 +147,7 @@ fn entry_says(
     alloc: Global,
     name: &UnitName,
     own: &UnitName,
-    placed: &Placed,
+    placed: &SeenEntry,
 ) -> Result<Option<Choice>, AllocError>
     ensures said { IfOk result (λ said. said ≡ content_says name.now own.now placed.now.0 placed.now.1.content) }
 {
@@ -157,7 +157,7 @@ fn entry_says(
             if file.bytes().is_empty() {
                 return Ok(Some(Choice::Masked));
             }
-            Ok(Some(Choice::Fragment(placed.place()?)))
+            Ok(Some(Choice::Fragment(placed.path()?)))
         }
         Content::Link(target) => {
             if target.bytes() == b"/dev/null".as_slice() {

@@ -3,6 +3,7 @@ ghost use Rattle.std.specs.Prelude.{◌≡◌, Some, [], ◌∷◌, ◌↔◌, I
 ghost use Rattle.std.specs.BTreeSet.{insert_key};
 ghost use Rattle.std.specs.List.Sorted.{IsStrictlySortedBy};
 ghost use Rattle.list_laws.specs.Members.{IsAmong};
+ghost use Rattle.path_maps.specs.Views.{fleet_of};
 ghost use Rattle.unit_name.specs.Names.{name_cmp};
 ghost use Rattle.fragment_choice.specs.Choices.{choice};
 ghost use Rattle.fragment_choice.specs.Resolutions.{Leads, main};
@@ -23,8 +24,8 @@ use unit_name::UnitName;
 /// It makes an index of the whole store; for the names of several units make one and ask it. It
 /// fails for want of memory alone.
 pub fn names_of(alloc: Global, store: &Store, name: &UnitName) -> Result<Vec<UnitName>, AllocError>
-    requires main { main store.now name.now ≡ name.now }
-    ensures names { IfOk result (λ names. AreNames store.now name.now names.items) }
+    requires main { main (fleet_of store.now) name.now ≡ name.now }
+    ensures names { IfOk result (λ names. AreNames (fleet_of store.now) name.now names.items) }
 {
     AliasIndex::of(alloc, store)?.names_of(alloc, name)
 }

@@ -1,5 +1,6 @@
 //! The end of a unit's aliases.
 ghost use Rattle.std.specs.Prelude.{◌≡◌, IfOk};
+ghost use Rattle.path_maps.specs.Views.{fleet_of};
 ghost use Rattle.fragment_choice.specs.Resolutions.{IsEnd, Resolves, resolution};
 
 use crate::aliases::AliasIndex;
@@ -21,11 +22,11 @@ pub struct Resolution {
 ///
 /// It makes at most nine choices, and fails for want of memory alone.
 pub fn resolve(alloc: Global, store: &Store, name: &UnitName) -> Result<Resolution, AllocError>
-    ensures resolution { IfOk result (λ it. it ≡ resolution store.now name.now) }
-    ensures chain { IfOk result (Resolves store.now name.now) }
+    ensures resolution { IfOk result (λ it. it ≡ resolution (fleet_of store.now) name.now) }
+    ensures chain { IfOk result (Resolves (fleet_of store.now) name.now) }
     ensures no_alias { IfOk result (λ it. IsEnd it.choice) }
 {
-    follow_aliases(alloc, store, name)
+    follow_aliases(alloc, &store.fleet(), name)
 }
 
 impl<'a> AliasIndex<'a> {
@@ -48,8 +49,8 @@ fn follow_aliases<C: Chooses>(
     chooser: &C,
     name: &UnitName,
 ) -> Result<Resolution, AllocError>
-    ensures resolution { IfOk result (λ it. it ≡ resolution (C.in_store chooser.now) name.now) }
-    ensures chain { IfOk result (Resolves (C.in_store chooser.now) name.now) }
+    ensures resolution { IfOk result (λ it. it ≡ resolution (C.in_view chooser.now) name.now) }
+    ensures chain { IfOk result (Resolves (C.in_view chooser.now) name.now) }
     ensures no_alias { IfOk result (λ it. IsEnd it.choice) }
 {
     let mut main = name.try_clone()?;

@@ -2,7 +2,7 @@
 use Rattle.std.proofs.Common.{◌≡◌, ◌⊎◌, ◌↔◌, List, Some, inl, inr, refl, sym, subst}
 use Rattle.std.specs.Cmp.Lexicographic.{nat_list_cmp_total}
 use Rattle.list_laws.specs.Rising.{one_rising_list}
-use Rattle.edit_sums.specs.Sums.{EntryMap}
+use Rattle.path_maps.specs.Views.{View}
 use Rattle.unit_name.specs.Names.{Name, name_cmp}
 use Rattle.setting_rules.specs.declared.kinds.DepKind.{DepKind}
 use Rattle.setting_rules.specs.declared.kinds.DepKind.TheVariants.{Before, After, Wants, WantedBy, Requires, RequiredBy, Requisite, RequisiteOf, BindsTo, BoundBy, PartOf, ConsistsOf, Conflicts, ConflictedBy, OnFailure, OnFailureOf, PropagatesReloadTo, ReloadPropagatedFrom}
@@ -27,12 +27,12 @@ OneListOfEdges = (load : LoadMap) (a b : EdgeMap) → AreEdges load a → AreEdg
 
 -- In a load of a store all dependencies of its units are edges.
 abbrev pub DependenciesAreEdges : Type 0
-DependenciesAreEdges = (s : EntryMap) (extra : List Name) (load : LoadMap) (dep : DepKind) (u v : Name) (unit : LoadedUnit) → IsLoad s extra load
+DependenciesAreEdges = (s : View) (extra : List Name) (load : LoadMap) (dep : DepKind) (u v : Name) (unit : LoadedUnit) → IsLoad s extra load
     → unit_in load u ≡ Some unit → IsListed unit.deps dep v → IsEdge load dep u v
 
 -- And there an edge leads from a unit to another where one names the other in the store, by the kind or by its inverse.
 abbrev pub EdgesComeFromNames : Type 0
-EdgesComeFromNames = (s : EntryMap) (extra : List Name) (load : LoadMap) (dep : DepKind) (u v : Name) → IsLoad s extra load
+EdgesComeFromNames = (s : View) (extra : List Name) (load : LoadMap) (dep : DepKind) (u v : Name) → IsLoad s extra load
     → IsEdge load dep u v ↔ (IsUnitIn load u × IsUnitIn load v × (IsDependency s u dep v ⊎ IsDependency s v (inverse dep) u))
 
 -- the inverse of the inverse is the kind
@@ -81,7 +81,7 @@ dependencies_are_edges s extra load dep u v unit l e h =
     let there = dependencies_are_loaded s extra load u unit dep v l e h in
     inl (record { unit = unit; unit_is = e; listed = h; other = (there.unit, there.there) })
 
-module _ (s : EntryMap) (extra : List Name) (load : LoadMap) (l : IsLoad s extra load) where
+module _ (s : View) (extra : List Name) (load : LoadMap) (l : IsLoad s extra load) where
   dependency : (dep : DepKind) (u v : Name) → DependsOn load dep u v → IsDependency s u dep v
   dependency dep u v d = (dependencies_are_mains s extra load u d.unit dep v l d.unit_is).0 d.listed
 

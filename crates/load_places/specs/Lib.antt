@@ -1,2 +1,5 @@
+pub mod Hosts
 pub mod Places
 pub mod PlaceLaws
+pub mod Texts
+pub mod TextLaws

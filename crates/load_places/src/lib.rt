@@ -1,9 +1,14 @@
-//! Places: where the content of an edit stands. Today each is the whole fleet's, and so a path.
+//! Places: a path of the load path, for the whole fleet or for one host. An edit's content stands at a place.
 //!
-//! Promise: none of its own; what lies above speaks of places alone.
+//! Promise: places are their texts.
 #![tactic(auto)]
 
-use load_path::Path;
+mod hosts;
+mod laws;
+mod places;
+mod texts;
 
-/// Where the content of an edit stands: a path of the load path, for the whole fleet.
-pub type Place = Path;
+pub use hosts::{HOST_LIMIT, HostFault, HostName};
+pub use laws::places_are_their_texts;
+pub use places::{Place, Scope};
+pub use texts::PlaceFault;

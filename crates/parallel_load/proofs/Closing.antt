@@ -3,7 +3,7 @@ use Rattle.std.proofs.Common.{◌≡◌, List, refl, sym, ◌∙◌, subst, inl,
 use Rattle.std.specs.Prelude.{◌↔◌, ◌⊎◌}
 use Rattle.std.specs.Map.{keys_of}
 use Rattle.list_laws.specs.Members.{IsAmong, among_from_contains, contains_from_among}
-use Rattle.edit_sums.specs.Sums.{EntryMap}
+use Rattle.path_maps.specs.Views.{View}
 use Rattle.unit_name.specs.Names.{Name, name_cmp}
 use Rattle.setting_rules.specs.declared.dependency_lists.DependencyList.{DependencyList}
 use Rattle.setting_rules.specs.declared.kinds.DepKind.{DepKind}
@@ -38,7 +38,7 @@ in_lists : (lists : List DependencyList) (dep : DepKind) (m : Name) → IsListed
 in_lists lists dep m l =
     flat_map_among (λ (list : DependencyList). list.names) lists l.list m (among_from_contains l.list lists l.there) (among_from_contains m l.list.names l.has_name)
 
-module _ (s : EntryMap) where
+module _ (s : View) where
   -- what is named where something is loaded is what the name leads to
   pub step_leads : (n : Name) (one : NameLoad) (m : Name) → IsLoadAlone s n one → IsAmong m (named_in one) → LeadsTo s n m
   step_leads n (OfUnit u) m p h =

@@ -10,7 +10,8 @@ use Rattle.list_laws.specs.Members.{IsAmong, IsAmong-append_cases, IsAmong-appen
 use Rattle.load_path.specs.Paths.{PathParts, path_cmp}
 use Rattle.load_path.specs.PathLaws.{path_cmp-IsAntisymmetric, path_cmp_total}
 use Rattle.edit_sums.specs.Entries.{Entry}
-use Rattle.edit_sums.specs.Sums.{EntryMap, shown, visible_at}
+use Rattle.edit_sums.specs.Sums.{shown}
+use Rattle.path_maps.specs.Views.{View, seen_at}
 use Rattle.path_maps.specs.Folders.{is_in}
 use Rattle.unit_name.specs.declared.names.Shape.{Shape as UnitShape}
 use Rattle.unit_name.specs.declared.names.Shape.TheVariants.{Plain, Template, Instance}
@@ -22,11 +23,11 @@ use Rattle.parallel_load.specs.Sources.{is_template, visible_name, visible_names
 use Rattle.parallel_load.specs.Universe.{IsSource, IsVisibleAt}
 
 -- those of the ranks below this one
-abbrev pub names_below : EntryMap → ℕ → List Name
+abbrev pub names_below : View → ℕ → List Name
 names_below s zero = []
 names_below s (suc rank) = names_below s rank ++ visible_names s rank
 
-pub one_rank_more : (s : EntryMap) (rank : ℕ) (extra old new : List Name) → old ≡ extra ++ names_below s rank → new ≡ old ++ visible_names s rank → new ≡ extra ++ names_below s (rank + 1)
+pub one_rank_more : (s : View) (rank : ℕ) (extra old new : List Name) → old ≡ extra ++ names_below s rank → new ≡ old ++ visible_names s rank → new ≡ extra ++ names_below s (rank + 1)
 one_rank_more s rank extra old new e f =
     f ∙ ap (λ (ns : List Name). ns ++ visible_names s rank) e ∙ append_assoc extra (names_below s rank) (visible_names s rank)
     ∙ ap (λ (r : ℕ). extra ++ names_below s r) (sym (succ_is rank))
@@ -78,7 +79,7 @@ own_is rank p n h e =
     no_bytes [] k = refl
     no_bytes (x ∷ f) k = cc (k)
 
-some_shown : (s : EntryMap) (q : PathParts) → IsSome (visible_at s q) → (x : Entry) × (finmap.get s q ≡ Some x) × (is_some (shown x) ≡ true)
+some_shown : (s : View) (q : PathParts) → IsSome (seen_at s q) → (x : Entry) × (finmap.get s q ≡ Some x) × (is_some (shown x) ≡ true)
 some_shown s q h = by (finmap.get s q) refl h
   where
     by : (o : Option Entry) → finmap.get s q ≡ o → IsSome (option_and_then shown o) → (x : Entry) × (finmap.get s q ≡ Some x) × (is_some (shown x) ≡ true)
@@ -105,7 +106,7 @@ visible_to : (p : PathParts × Entry) → is_some (shown p.1) ≡ true → IsNam
 visible_to p shown_is name whole =
     to_if (is_some (shown p.1)) (is_name p.0.name) (not (is_template (shape p.0.name))) p.0.name shown_is name (template_not (shape p.0.name) whole)
 
-module _ (s : EntryMap) (rank : ℕ) where
+module _ (s : View) (rank : ℕ) where
   pub visible_is : (n : Name) → IsAmong n (visible_names s rank) → IsVisibleAt s rank n
   visible_is n h =
       let r = among_filter_map visible_name (filter (λ p. is_in rank [] p.0) (finmap.entries s)) n h in
@@ -131,7 +132,7 @@ module _ (s : EntryMap) (rank : ℕ) where
       (filter_among (λ (p : PathParts × Entry). is_in rank [] p.0) (finmap.entries s) (own_path n rank, x.0) there (and_from _ _ (eq-eqb rank rank refl) refl))
       (visible_to (own_path n rank, x.0) x.2 v.name v.whole)
 
-below_is : (s : EntryMap) (k : ℕ) (n : Name) → IsAmong n (names_below s k) → (rank : ℕ) × (rank < k) × IsVisibleAt s rank n
+below_is : (s : View) (k : ℕ) (n : Name) → IsAmong n (names_below s k) → (rank : ℕ) × (rank < k) × IsVisibleAt s rank n
 below_is s zero n h = absurd h
 below_is s (suc k) n h = by (below_is s k n) (IsAmong-append_cases n (names_below s k) (visible_names s k) h)
   where
@@ -146,7 +147,7 @@ less_or_is zero (suc b) l = inl (omega arith)
 less_or_is (suc a) zero l = absurd (omega arith)
 less_or_is (suc a) (suc b) l = elim (less_or_is a b (omega arith)) [ inl k ↦ inl (omega arith) | inr e ↦ inr (ap suc e) ]
 
-is_below : (s : EntryMap) (k rank : ℕ) (n : Name) → rank < k → IsVisibleAt s rank n → IsAmong n (names_below s k)
+is_below : (s : View) (k rank : ℕ) (n : Name) → rank < k → IsVisibleAt s rank n → IsAmong n (names_below s k)
 is_below s zero rank n lt v = absurd (omega arith)
 is_below s (suc k) rank n lt v = by (λ l. is_below s k rank n l v) (less_or_is rank k (omega arith))
   where
@@ -155,7 +156,7 @@ is_below s (suc k) rank n lt v = by (λ l. is_below s k rank n l v) (less_or_is 
     by more (inr e) = IsAmong-append_right n (names_below s k) (visible_names s k) (is_visible s k n (subst (λ (r : ℕ). IsVisibleAt s r n) e v))
 
 -- the names that are asked for and those of all ranks are the sources
-pub sources_are : (s : EntryMap) (extra names : List Name) (rank : ℕ) → names ≡ extra ++ names_below s rank → rank ≡ 4 → (n : Name) → IsAmong n names ↔ IsSource s extra n
+pub sources_are : (s : View) (extra names : List Name) (rank : ℕ) → names ≡ extra ++ names_below s rank → rank ≡ 4 → (n : Name) → IsAmong n names ↔ IsSource s extra n
 sources_are s extra names rank e f n = (λ h. there (IsAmong-append_cases n extra (names_below s 4) (subst (λ (ns : List Name). IsAmong n ns) all h)), λ h. subst (λ (ns : List Name). IsAmong n ns) (sym all) (back h))
   where
     all : names ≡ extra ++ names_below s 4

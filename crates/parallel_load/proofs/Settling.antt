@@ -10,7 +10,7 @@ use Rattle.std.specs.Result.{IfErr, IsErrAnd}
 use Rattle.std.proofs.lemmas.List.{length-map}
 use Rattle.std.proofs.lemmas.List.Elements.{All-nil, All-cons}
 use Rattle.list_laws.specs.Members.{IsAmong}
-use Rattle.edit_sums.specs.Sums.{EntryMap}
+use Rattle.path_maps.specs.Views.{View}
 use Rattle.unit_name.specs.Names.{Name, name_cmp}
 use Rattle.setting_rules.specs.declared.dependency_lists.DependencyList.{DependencyList}
 use Rattle.setting_rules.specs.Dependencies.{in_byte_order}
@@ -83,7 +83,7 @@ unit_same ms main_of unit h =
 
 -- ---- what was found
 
-module _ (s : EntryMap) (found : List (Name × NameLoad)) (loaded : AreLoaded (IsLoadAlone s) found) where
+module _ (s : View) (found : List (Name × NameLoad)) (loaded : AreLoaded (IsLoadAlone s) found) where
   alone : (n : Name) (one : NameLoad) → IsAmong {X = Name × NameLoad} (n, one) found → IsLoadAlone s n one
   alone n one a = all_among (λ (p : Name × NameLoad). IsLoadAlone s p.0 p.1) found (n, one) loaded a
 
@@ -134,7 +134,7 @@ module _ (s : EntryMap) (found : List (Name × NameLoad)) (loaded : AreLoaded (I
 
 -- ---- the load
 
-module _ (s : EntryMap) (extra : List Name) (found : List (Name × NameLoad)) (f : IsFound s extra found) where
+module _ (s : View) (extra : List Name) (found : List (Name × NameLoad)) (f : IsFound s extra found) where
   next : (n : Name) (one : NameLoad) (m : Name) → IsAmong {X = Name × NameLoad} (n, one) found → IsAmong m (named_in one)
       → (x : NameLoad) × IsAmong {X = Name × NameLoad} (m, x) found
   next n one m there h =
@@ -169,13 +169,13 @@ both P x y u v e f h = subst (λ b. P y b) f (subst (λ a. P a u) e h)
 
 -- ---- what a loader of the store finds from these names, which are the sources
 
-module _ (s index : EntryMap) (is : index ≡ s) (extra sources names : List Name)
+module _ (s index : View) (is : index ≡ s) (extra sources names : List Name)
     (same : (n : Name) → IsAmong n sources ↔ IsSource s extra n) (named : names ≡ sources) where
   pub found_from : (found : List (Name × NameLoad))
       → IsClosure (Listed names) (LeadsByLoad (IsLoadAlone index) named_in) name_cmp (keys_of found)
       → AreLoaded (IsLoadAlone index) found → length found ≤ 4096 → IsFound s extra found
   found_from found closure loaded room =
-      let here = subst (λ (t : EntryMap). AreLoaded (IsLoadAlone t) found) is loaded in
+      let here = subst (λ (t : View). AreLoaded (IsLoadAlone t) found) is loaded in
       record {
         universe = universe_is s extra sources same found
             (both (λ ns t. IsClosure (Listed ns) (LeadsByLoad (IsLoadAlone t) named_in) name_cmp (keys_of found))
@@ -202,6 +202,10 @@ module _ (s index : EntryMap) (is : index ≡ s) (extra sources names : List Nam
   over_there there.Workers over = tt
   over_there there.TooMany over = over_from over
   over_there there.Memory over = tt
+
+-- the sources of what is seen
+pub seen_sources : (v w : View) (extra names : List Name) → v ≡ w → ((n : Name) → IsAmong n names ↔ IsSource v extra n) → (n : Name) → IsAmong n names ↔ IsSource w extra n
+seen_sources v w extra names e h = subst (λ (u : View). (n : Name) → IsAmong n names ↔ IsSource u extra n) e h
 
 -- the refusal of a closure is told of the load
 pub refused_over : {T : Type 0} (r : Result T LoadFault) (f : LoadFault) (P : Type 0) → IsErrAnd r (λ e. e ≡ f) → OnTooMany f P

@@ -2,7 +2,7 @@
 -- Source: this project's own.
 use Rattle.std.specs.Prelude.{List, [], ◌∷◌}
 use Rattle.std.specs.List.{flat_map}
-use Rattle.edit_sums.specs.Sums.{EntryMap}
+use Rattle.path_maps.specs.Views.{View}
 use Rattle.unit_name.specs.Names.{Name}
 use Rattle.setting_rules.specs.declared.dependency_lists.DependencyList.{DependencyList}
 use Rattle.unit_loads.specs.Units.{IsUnit}
@@ -11,7 +11,7 @@ use Rattle.parallel_load.specs.declared.loaded.NameLoad.TheVariants.{Unit as OfU
 use Rattle.parallel_load.specs.Loads.{IsAliasOf}
 
 -- a unit as it is loaded alone, or what a name is an alias of
-abbrev pub IsLoadAlone : EntryMap → Name → NameLoad → Type 0
+abbrev pub IsLoadAlone : View → Name → NameLoad → Type 0
 IsLoadAlone s name (OfUnit unit) = IsUnit s name unit
 IsLoadAlone s name (OfAlias of) = IsAliasOf s name of
 

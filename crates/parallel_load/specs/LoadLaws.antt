@@ -3,7 +3,7 @@ use Rattle.std.specs.Prelude.{◌≡◌, List}
 use Rattle.std.specs.Map.{keys_of}
 use Rattle.std.specs.Cmp.Lexicographic.{nat_list_cmp_total}
 use Rattle.std.proofs.Common.{ap, sym, ◌∙◌}
-use Rattle.edit_sums.specs.Sums.{EntryMap}
+use Rattle.path_maps.specs.Views.{View}
 use Rattle.unit_name.specs.Names.{Name, name_cmp}
 use Rattle.fragment_choice.specs.Resolutions.{main}
 use Rattle.name_closure.specs.ClosureLaws.{one_closure}
@@ -16,10 +16,10 @@ use Rattle.parallel_load.specs.Universe.{IsSource, LeadsTo}
 
 -- A store and names that are asked for have one load.
 abbrev pub OneLoad : Type 0
-OneLoad = (s : EntryMap) (extra : List Name) (a b : LoadMap) → IsLoad s extra a → IsLoad s extra b → a ≡ b
+OneLoad = (s : View) (extra : List Name) (a b : LoadMap) → IsLoad s extra a → IsLoad s extra b → a ≡ b
 
 -- and a name stands for one thing
-pub one_name_load : (s : EntryMap) (name : Name) (x y : NameLoad) → IsNameLoad s name x → IsNameLoad s name y → x ≡ y
+pub one_name_load : (s : View) (name : Name) (x y : NameLoad) → IsNameLoad s name x → IsNameLoad s name y → x ≡ y
 one_name_load s name (OfUnit u) (OfUnit v) p q =
     ap OfUnit (p.by_mains_is ∙ ap (by_mains (main s)) (one_unit s name p.alone q.alone p.is_unit q.is_unit) ∙ sym q.by_mains_is)
 one_name_load s name (OfUnit u) (OfAlias m) p q = absurd (q.other (sym q.main_is ∙ p.is_unit.main_is))

@@ -6,7 +6,7 @@ use Rattle.std.specs.List.{filter_map}
 use Rattle.std.specs.FinMap.{find}
 use Rattle.std.specs.Map.{keys_of}
 use Rattle.std.specs.Option.{option_and_then, option_map}
-use Rattle.edit_sums.specs.Sums.{EntryMap}
+use Rattle.path_maps.specs.Views.{View}
 use Rattle.unit_name.specs.Names.{Name, name_cmp}
 use Rattle.setting_rules.specs.declared.dependency_lists.DependencyList.{DependencyList}
 use Rattle.setting_rules.specs.Dependencies.{in_byte_order}
@@ -36,18 +36,18 @@ by_mains main_of unit = record unit { deps = map (list_by_mains main_of unit.nam
 -- ---- what a name stands for
 
 -- This is the unit of a main name in a load: as it is loaded alone, but that its dependencies are main names.
-pub record IsLoadedUnit (s : EntryMap) (name : Name) (unit : LoadedUnit) : Type 0 where
+pub record IsLoadedUnit (s : View) (name : Name) (unit : LoadedUnit) : Type 0 where
   pub alone : LoadedUnit
   pub is_unit : IsUnit s name alone
   pub by_mains_is : unit ≡ by_mains (main s) alone
 
 -- the name is an alias of this main name
-pub record IsAliasOf (s : EntryMap) (name of : Name) : Type 0 where
+pub record IsAliasOf (s : View) (name of : Name) : Type 0 where
   pub main_is : main s name ≡ of
   pub other : of ≢ name
 
 -- This is what a name stands for.
-abbrev pub IsNameLoad : EntryMap → Name → NameLoad → Type 0
+abbrev pub IsNameLoad : View → Name → NameLoad → Type 0
 IsNameLoad s name (OfUnit unit) = IsLoadedUnit s name unit
 IsNameLoad s name (OfAlias of) = IsAliasOf s name of
 
@@ -67,7 +67,7 @@ coded_load =
     (λ l. (l.extra, l.names)) (λ p. record { extra = p.0; names = p.1 }) (λ _. refl)
 
 -- This is the load of a store with the names that are asked for.
-pub record IsLoad (s : EntryMap) (extra : List Name) (load : LoadMap) : Type 0 where
+pub record IsLoad (s : View) (extra : List Name) (load : LoadMap) : Type 0 where
   pub extra_is : load.extra ≡ extra
   pub universe : AreUniverse s extra (keys_of load.names)
   pub loaded : AreLoaded (IsNameLoad s) load.names

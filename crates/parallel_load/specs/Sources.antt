@@ -5,7 +5,8 @@ use Rattle.std.specs.List.{filter_map}
 use Rattle.std.specs.FinMap as finmap
 use Rattle.load_path.specs.Paths.{PathParts}
 use Rattle.edit_sums.specs.Entries.{Entry}
-use Rattle.edit_sums.specs.Sums.{EntryMap, shown}
+use Rattle.edit_sums.specs.Sums.{shown}
+use Rattle.path_maps.specs.Views.{View}
 use Rattle.path_maps.specs.Folders.{is_in}
 use Rattle.unit_name.specs.declared.names.Shape.{Shape as UnitShape}
 use Rattle.unit_name.specs.declared.names.Shape.TheVariants.{Plain, Template, Instance}
@@ -21,5 +22,5 @@ abbrev pub visible_name : PathParts × Entry → Option Name
 visible_name p = if is_some (shown p.1) && is_name p.0.name && not (is_template (shape p.0.name)) then Some p.0.name else None
 
 -- those of a rank
-abbrev pub visible_names : EntryMap → ℕ → List Name
+abbrev pub visible_names : View → ℕ → List Name
 visible_names s rank = filter_map visible_name (filter (λ p. is_in rank [] p.0) (finmap.entries s))

@@ -3,7 +3,7 @@
 use Rattle.std.specs.Prelude.{◌≡◌, ◌≢◌, ◌⊎◌, ℕ, IsSome, List}
 use Rattle.list_laws.specs.Members.{IsAmong}
 use Rattle.load_path.specs.Levels.{IsLevel}
-use Rattle.edit_sums.specs.Sums.{EntryMap, visible_at}
+use Rattle.path_maps.specs.Views.{View, seen_at}
 use Rattle.unit_name.specs.declared.names.Shape.TheVariants.{Template}
 use Rattle.unit_name.specs.Names.{Name, name_cmp, IsName, shape}
 use Rattle.setting_rules.specs.declared.kinds.DepKind.{DepKind}
@@ -13,37 +13,37 @@ use Rattle.name_closure.specs.Chains.{IsReached, IsClosure, HasOver}
 use Rattle.unit_loads.specs.NamedUnits.{IsNamed}
 
 -- a unit name, no template, at whose path of this rank something is visible
-pub record IsVisibleAt (s : EntryMap) (rank : ℕ) (n : Name) : Type 0 where
+pub record IsVisibleAt (s : View) (rank : ℕ) (n : Name) : Type 0 where
   pub name : IsName n
   pub whole : shape n ≢ Template
-  pub shown : IsSome (visible_at s (own_path n rank))
+  pub shown : IsSome (seen_at s (own_path n rank))
 
 -- the same at some level
-abbrev pub IsVisibleName : EntryMap → Name → Type 0
+abbrev pub IsVisibleName : View → Name → Type 0
 IsVisibleName s n = (rank : ℕ) × IsLevel rank × IsVisibleAt s rank n
 
 -- a name that is asked for, or one at which something is visible
-abbrev pub IsSource : EntryMap → List Name → Name → Type 0
+abbrev pub IsSource : View → List Name → Name → Type 0
 IsSource s extra n = IsAmong n extra ⊎ IsVisibleName s n
 
 -- the unit of this main name names the other in some way
-pub record Names (s : EntryMap) (unit name : Name) : Type 0 where
+pub record Names (s : View) (unit name : Name) : Type 0 where
   pub own : main s unit ≡ unit
   pub dep : DepKind
   pub named : IsNamed s unit dep name
 
 -- a name leads to its main name, and a main name to what its unit names
-abbrev pub LeadsTo : EntryMap → Name → Name → Type 0
+abbrev pub LeadsTo : View → Name → Name → Type 0
 LeadsTo s n m = (main s n ≡ m) ⊎ Names s n m
 
 -- the name is in the universe
-abbrev pub IsInUniverse : EntryMap → List Name → Name → Type 0
+abbrev pub IsInUniverse : View → List Name → Name → Type 0
 IsInUniverse s extra n = IsReached (IsSource s extra) (LeadsTo s) n
 
 -- these are all names of the universe, each once, in byte order
-abbrev pub AreUniverse : EntryMap → List Name → List Name → Type 0
+abbrev pub AreUniverse : View → List Name → List Name → Type 0
 AreUniverse s extra names = IsClosure (IsSource s extra) (LeadsTo s) name_cmp names
 
 -- the universe has more than 4,096 names
-abbrev pub IsTooLarge : EntryMap → List Name → Type 0
+abbrev pub IsTooLarge : View → List Name → Type 0
 IsTooLarge s extra = HasOver (IsSource s extra) (LeadsTo s) name_cmp 4096

@@ -14,7 +14,7 @@ use Rattle.std.proofs.lemmas.Bool.{and_from}
 use Rattle.std.proofs.lemmas.List.Elements.{All-head, All-tail}
 use Rattle.std.proofs.lemmas.Map.Keys.{sorted_head, sorted_tail}
 use Rattle.list_laws.specs.Members.{IsAmong, among_from_contains, contains_from_among}
-use Rattle.edit_sums.specs.Sums.{EntryMap}
+use Rattle.path_maps.specs.Views.{View}
 use Rattle.unit_name.specs.Names.{Name, name_cmp}
 use Rattle.unit_name.specs.NameLaws.{name_eq-Decides}
 use Rattle.setting_rules.specs.declared.dependency_lists.DependencyList.{DependencyList}
@@ -34,13 +34,13 @@ use Rattle.parallel_load.specs.PairLaws.{among_find, find_among}
 use Rattle.parallel_load.specs.Universe.{IsInUniverse}
 
 -- this is the unit of a main name of the load
-pub record HasUnit (s : EntryMap) (load : LoadMap) (name : Name) : Type 0 where
+pub record HasUnit (s : View) (load : LoadMap) (name : Name) : Type 0 where
   pub unit : LoadedUnit
   pub there : unit_in load name ≡ Some unit
   pub is_unit : IsLoadedUnit s name unit
 
 -- the unit names v in a way of this kind, by a name of v, and is another unit
-pub record IsDependency (s : EntryMap) (name : Name) (dep : DepKind) (v : Name) : Type 0 where
+pub record IsDependency (s : View) (name : Name) (dep : DepKind) (v : Name) : Type 0 where
   pub word : Name
   pub named : IsNamed s name dep word
   pub main_is : main s word ≡ v
@@ -48,24 +48,24 @@ pub record IsDependency (s : EntryMap) (name : Name) (dep : DepKind) (v : Name) 
 
 -- Each name of the universe has its main name in the load, whose unit is there, and no other name has one.
 abbrev pub NamesHaveMains : Type 0
-NamesHaveMains = (s : EntryMap) (extra : List Name) (load : LoadMap) (n m : Name) → IsLoad s extra load → (main_in load n ≡ Some m) ↔ (IsInUniverse s extra n × (main s n ≡ m))
+NamesHaveMains = (s : View) (extra : List Name) (load : LoadMap) (n m : Name) → IsLoad s extra load → (main_in load n ≡ Some m) ↔ (IsInUniverse s extra n × (main s n ≡ m))
 
 abbrev pub MainsHaveUnits : Type 0
-MainsHaveUnits = (s : EntryMap) (extra : List Name) (load : LoadMap) (n : Name) → IsLoad s extra load → IsInUniverse s extra n → HasUnit s load (main s n)
+MainsHaveUnits = (s : View) (extra : List Name) (load : LoadMap) (n : Name) → IsLoad s extra load → IsInUniverse s extra n → HasUnit s load (main s n)
 
 -- The units of a load are those of its names that are their own mains.
 abbrev pub UnitsAreTheirOwnMains : Type 0
-UnitsAreTheirOwnMains = (s : EntryMap) (extra : List Name) (load : LoadMap) (n : Name) (unit : LoadedUnit) → IsLoad s extra load → unit_in load n ≡ Some unit
+UnitsAreTheirOwnMains = (s : View) (extra : List Name) (load : LoadMap) (n : Name) (unit : LoadedUnit) → IsLoad s extra load → unit_in load n ≡ Some unit
     → IsInUniverse s extra n × (main s n ≡ n) × IsLoadedUnit s n unit
 
 -- A unit's dependencies in a load are the main names of what it names, without itself.
 abbrev pub DependenciesAreMains : Type 0
-DependenciesAreMains = (s : EntryMap) (extra : List Name) (load : LoadMap) (n : Name) (unit : LoadedUnit) (dep : DepKind) (v : Name) → IsLoad s extra load → unit_in load n ≡ Some unit
+DependenciesAreMains = (s : View) (extra : List Name) (load : LoadMap) (n : Name) (unit : LoadedUnit) (dep : DepKind) (v : Name) → IsLoad s extra load → unit_in load n ≡ Some unit
     → IsListed unit.deps dep v ↔ IsDependency s n dep v
 
 -- And their units are in the load.
 abbrev pub DependenciesAreLoaded : Type 0
-DependenciesAreLoaded = (s : EntryMap) (extra : List Name) (load : LoadMap) (n : Name) (unit : LoadedUnit) (dep : DepKind) (v : Name) → IsLoad s extra load → unit_in load n ≡ Some unit
+DependenciesAreLoaded = (s : View) (extra : List Name) (load : LoadMap) (n : Name) (unit : LoadedUnit) (dep : DepKind) (v : Name) → IsLoad s extra load → unit_in load n ≡ Some unit
     → IsListed unit.deps dep v → HasUnit s load v
 
 -- ---- what stands in a load
@@ -85,11 +85,11 @@ all_among P (y ∷ ys) x a (inl e) = subst P e (All-head P y ys a)
 all_among P (y ∷ ys) x a (inr h) = all_among P ys x (All-tail P y ys a) h
 
 -- what a name of the load stands for
-record StandsFor (s : EntryMap) (load : LoadMap) (n : Name) (one : NameLoad) : Type 0 where
+record StandsFor (s : View) (load : LoadMap) (n : Name) (one : NameLoad) : Type 0 where
   at : load_at load n ≡ Some one
   is : IsNameLoad s n one
 
-module _ (s : EntryMap) (extra : List Name) (load : LoadMap) (l : IsLoad s extra load) where
+module _ (s : View) (extra : List Name) (load : LoadMap) (l : IsLoad s extra load) where
   sorted : IsTrue (is_sorted name_cmp load.names)
   sorted = sorted_from load.names l.universe.rising
 
@@ -160,7 +160,7 @@ module _ (s : EntryMap) (extra : List Name) (load : LoadMap) (l : IsLoad s extra
 
 -- ---- dependencies
 
-module _ (s : EntryMap) (n : Name) where
+module _ (s : View) (n : Name) where
   not_same : (m : Name) → not (is_same m n) ≡ true → m ≢ n
   not_same m h e = differ (sym (ap not ((name_eq-Decides m n).1 e)) ∙ h)
     where
@@ -211,7 +211,7 @@ module _ (s : EntryMap) (n : Name) where
         (contains_from_among v _ (to_mains l.list.names w v (among_from_contains w l.list.names l.has_name) e d));
   }
 
-dependencies_of : (s : EntryMap) (n : Name) (unit : LoadedUnit) (dep : DepKind) (v : Name) → IsLoadedUnit s n unit → IsListed unit.deps dep v ↔ IsDependency s n dep v
+dependencies_of : (s : View) (n : Name) (unit : LoadedUnit) (dep : DepKind) (v : Name) → IsLoadedUnit s n unit → IsListed unit.deps dep v ↔ IsDependency s n dep v
 dependencies_of s n unit dep v p = (there, back)
   where
     lists : List DependencyList

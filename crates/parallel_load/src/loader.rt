@@ -1,5 +1,6 @@
 //! What is loaded for one name.
 ghost use Rattle.std.specs.Prelude.{◌≡◌, ◌++◌, ◌∷◌, [], IfOk, OnOk};
+ghost use Rattle.path_maps.specs.Views.{fleet_of};
 ghost use Rattle.parallel_load.specs.Alone.{names_in_lists};
 
 use crate::kept::Kept;
@@ -21,7 +22,7 @@ pub(crate) struct UnitLoader<'a> {
 impl<'a> UnitLoader<'a> {
     /// The loader of a store. It fails for want of memory alone.
     pub fn of(alloc: Global, store: &'a Store) -> Result<UnitLoader<'a>, AllocError>
-        ensures store { IfOk result (λ loader. loader.index ≡ store.now) }
+        ensures seen { IfOk result (λ loader. loader.index ≡ fleet_of store.now) }
     {
         let index = AliasIndex::of(alloc, store)?;
         Ok(UnitLoader { index })

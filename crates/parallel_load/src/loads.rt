@@ -1,5 +1,6 @@
 //! Loads of a store.
 ghost use Rattle.std.specs.Prelude.{◌≡◌, ◌↔◌, ◌⊎◌, ◌<◌, Err, IfOk, IfErr};
+ghost use Rattle.path_maps.specs.Views.{fleet_of};
 ghost use Rattle.parallel_load.specs.Loads.{IsLoad};
 ghost use Rattle.parallel_load.specs.Refusals.{OnTooMany, OnWorkers};
 ghost use Rattle.parallel_load.specs.Universe.{IsTooLarge};
@@ -26,12 +27,12 @@ pub const MOST_NAMES: usize = 4096;
 /// `TooManyUnits` exactly where these names are more than 4,096, aliases counted; or `Memory` for want of memory, and
 /// `Workers` never. Linear in the bytes of the units' files, beside the logarithm of the number of names and of paths.
 pub fn load_here(alloc: Global, store: &Store, extra: &[UnitName]) -> Result<Loaded, LoadFault>
-    ensures load { IfOk result (IsLoad store.now extra.now) }
-    ensures over { IfErr result (λ fault. OnTooMany fault (IsTooLarge store.now extra.now)) }
-    ensures not_over { IfOk result (λ _. ¬ IsTooLarge store.now extra.now) }
+    ensures load { IfOk result (IsLoad (fleet_of store.now) extra.now) }
+    ensures over { IfErr result (λ fault. OnTooMany fault (IsTooLarge (fleet_of store.now) extra.now)) }
+    ensures not_over { IfOk result (λ _. ¬ IsTooLarge (fleet_of store.now) extra.now) }
     ensures no_workers { IfErr result (λ fault. OnWorkers fault ⊥) }
 {
-    let sources = sources(alloc, store, extra)?;
+    let sources = sources(alloc, &store.fleet(), extra)?;
     let loader = UnitLoader::of(alloc, store)?;
     let found = close_loaded(alloc, &loader, &sources, MOST_NAMES)?;
     Ok(settled(alloc, extra, found)?)
@@ -52,14 +53,14 @@ pub fn load_fleet<R: Threads + Sync, G: Gate + Sync>(
     gate: &G,
 ) -> Result<Loaded, LoadFault>
     ensures workers { (result ≡ Err Workers) ↔ ((workers ≡ 0) ⊎ (64 < workers)) }
-    ensures load { IfOk result (IsLoad store.now extra.now) }
-    ensures over { IfErr result (λ fault. OnTooMany fault (IsTooLarge store.now extra.now)) }
-    ensures not_over { IfOk result (λ _. ¬ IsTooLarge store.now extra.now) }
+    ensures load { IfOk result (IsLoad (fleet_of store.now) extra.now) }
+    ensures over { IfErr result (λ fault. OnTooMany fault (IsTooLarge (fleet_of store.now) extra.now)) }
+    ensures not_over { IfOk result (λ _. ¬ IsTooLarge (fleet_of store.now) extra.now) }
 {
     if !is_crew(workers) {
         return Err(LoadFault::Workers);
     }
-    let sources = sources(alloc, store, extra)?;
+    let sources = sources(alloc, &store.fleet(), extra)?;
     let loader = UnitLoader::of(alloc, store)?;
     let found = close_loaded_by_workers(rt, alloc, &loader, &sources, MOST_NAMES, workers, gate)?;
     Ok(settled_by_workers(rt, alloc, extra, found, workers)?)

@@ -9,7 +9,7 @@ ghost use Rattle.parallel_load.specs.Universe.{IsSource};
 
 use crate::loader::add_names;
 use load_path::LEVELS;
-use replica_store::{Placed, Store};
+use replica_store::{Seen, SeenEntry};
 use std::alloc::{AllocError, Global};
 use unit_name::{NameFault, UnitName};
 
@@ -17,26 +17,26 @@ use unit_name::{NameFault, UnitName};
 /// paths of one component. It fails for want of memory alone.
 pub(crate) fn sources(
     alloc: Global,
-    store: &Store,
+    seen: &Seen,
     extra: &[UnitName],
 ) -> Result<Vec<UnitName>, AllocError>
-    ensures sources { IfOk result (λ names. (n : _) → IsAmong n names.items ↔ IsSource store.now extra.now n) }
+    ensures sources { IfOk result (λ names. (n : _) → IsAmong n names.items ↔ IsSource seen.now extra.now n) }
 {
     let mut names = Vec::new(alloc);
     add_names(&mut names, extra)?;
     for level in 0..LEVELS {
-        add_visible(&mut names, store, level)?;
+        add_visible(&mut names, seen, level)?;
     }
     Ok(names)
 }
 
 // Adds the names at which something is visible at this level.
-fn add_visible(names: &mut Vec<UnitName>, store: &Store, level: u8) -> Result<(), AllocError>
-    ensures added { OnOk result (names.new.items ≡ names.old.items ++ visible_names store.now level) }
+fn add_visible(names: &mut Vec<UnitName>, seen: &Seen, level: u8) -> Result<(), AllocError>
+    ensures added { OnOk result (names.new.items ≡ names.old.items ++ visible_names seen.now level) }
 {
-    let mut entries = store.entries_in(level, b"");
+    let mut entries = seen.entries_in(level, b"");
     while let Some(placed) = entries.next_entry() {
-        if let Some(name) = visible_name(store.allocator(), &placed)? {
+        if let Some(name) = visible_name(seen.allocator(), &placed)? {
             names.push(name)?;
         }
     }
@@ -44,7 +44,7 @@ fn add_visible(names: &mut Vec<UnitName>, store: &Store, level: u8) -> Result<()
 }
 
 // The name of an entry that is visible, if it is a unit name and no template.
-fn visible_name(alloc: Global, placed: &Placed) -> Result<Option<UnitName>, AllocError>
+fn visible_name(alloc: Global, placed: &SeenEntry) -> Result<Option<UnitName>, AllocError>
     ensures name { IfOk result (λ name. name ≡ visible_name placed.now) }
 {
     if placed.visible().is_none() {

@@ -1,7 +1,7 @@
 -- One edit more.
 use Rattle.std.proofs.Common.{◌≡◌, ℕ, Bool, true, false, cond, [], ◌∷◌, Option, Some, None, IsSome, refl, sym, ap, subst, ◌∙◌, arith}
 use Rattle.std.specs.Prelude.{max, length, ◌+◌, ◌-◌, ◌^◌, ◌≤◌}
-use Rattle.std.specs.Ordering.{nat_cmp, eq_by_cmp}
+use Rattle.std.specs.Ordering.{eq_by_cmp, nat_cmp}
 use Rattle.std.specs.Cmp.{nat_cmp_total}
 use Rattle.std.specs.Cmp.Lexicographic.{nat_list_cmp_total}
 use Rattle.std.specs.FinMap as finmap
@@ -10,8 +10,9 @@ use Rattle.join_law.specs.Order.{IsJoin}
 use Rattle.join_law.specs.Maps.{IsHeld}
 use Rattle.join_law.specs.VersionedLaws.{not_least}
 use Rattle.join_law.specs.MapLaws.{entry_held}
-use Rattle.load_path.specs.Paths.{PathParts, IsPath, path_cmp}
-use Rattle.load_path.specs.PathLaws.{path_cmp_total}
+use Rattle.load_path.specs.Paths.{IsPath}
+use Rattle.load_places.specs.Places.{PlaceParts, place_cmp, scope_cmp}
+use Rattle.load_places.specs.PlaceLaws.{place_cmp_total, scope_cmp_total}
 use Rattle.edit_sums.specs.Contents.{content_cmp}
 use Rattle.edit_sums.specs.Entries.{Entry, larger}
 use Rattle.join_law.specs.VersionOrder.{IsUpTo}
@@ -20,22 +21,23 @@ use Rattle.edit_sums.specs.Sums.{EntryMap, entry_of, with_edit, sum_of, join, hi
 use Rattle.edit_sums.specs.SumLaws.{same_store, with_edit-join}
 use Rattle.edit_sums.specs.GreatestLaws.{get-with_edit, get-sum_of, tied}
 use Rattle.edit_sums.specs.CounterLaws.{high_of-join, high_of-sum_of}
-use Rattle.path_maps.specs.PathMaps.{RankMap, bytes_cmp, NamesBelow, FoldersBelow, RanksBelow, AreNames, AreFolders, AreRanks, flat}
-use Rattle.path_maps.specs.PathMapLaws.{flat-join}
+use Rattle.path_maps.specs.PathMaps.{bytes_cmp, NamesBelow, FoldersBelow, RanksBelow, AreNames, AreFolders, AreRanks}
+use Rattle.path_maps.specs.PlaceMaps.{ScopeMap, ScopesBelow, AreScopes, all_held}
+use Rattle.path_maps.specs.PlaceMapLaws.{held-join}
 use Rattle.path_maps.specs.Kept.{IsCounted, IsKept}
 
-pub nothing_is_empty : flat [] ≡ finmap.empty
-nothing_is_empty = finmap.empty_of_len _ (finmap.len-entries _ ∙ ap length (finmap.entries-from_sorted path_cmp [] tt))
+pub nothing_is_empty : all_held [] ≡ finmap.empty
+nothing_is_empty = finmap.empty_of_len _ (finmap.len-entries _ ∙ ap length (finmap.entries-from_sorted place_cmp [] tt))
 
 none_held : (x : Option Entry) → x ≡ None → IsSome x → ⊥
 none_held x e h = let wrong = subst (λ (y : Option Entry). IsSome y) e h in cc (wrong)
 
 pub nothing_kept : IsKept [] 0 0
 nothing_kept = record {
-  ranks = record { sorted = refl; held = tt };
+  scopes = record { sorted = refl; held = tt };
   counted = record {
-    paths = λ q h. absurd (none_held _ (ap (λ (s : EntryMap). finmap.get s q) nothing_is_empty ∙ finmap.get-empty path_cmp q) h);
-    counted = sym (ap (λ (s : EntryMap). finmap.len s) nothing_is_empty ∙ finmap.len-empty path_cmp Entry);
+    paths = λ q h. absurd (none_held _ (ap (λ (s : EntryMap). finmap.get s q) nothing_is_empty ∙ finmap.get-empty place_cmp q) h);
+    counted = sym (ap (λ (s : EntryMap). finmap.len s) nothing_is_empty ∙ finmap.len-empty place_cmp Entry);
     greatest = sym (ap high_of nothing_is_empty ∙ high_of-sum_of []);
   };
   fits = omega arith;
@@ -43,45 +45,47 @@ nothing_kept = record {
 
 -- ---- the maps of one edit
 
-abbrev pub one_edit : Edit → RankMap
-one_edit e = (e.place.rank, (e.place.folder, (e.place.name, At (entry_of e)) ∷ []) ∷ []) ∷ []
+abbrev pub one_edit : Edit → ScopeMap
+one_edit e = (e.place.scope, (e.place.path.rank, (e.place.path.folder, (e.place.path.name, At (entry_of e)) ∷ []) ∷ []) ∷ []) ∷ []
 
-pub one_held : (e : Edit) → IsHeld RanksBelow AreRanks (one_edit e)
+pub one_held : (e : Edit) → IsHeld ScopesBelow AreScopes (one_edit e)
 one_held e =
-    entry_held nat_cmp FoldersBelow nat_cmp_total e.place.rank AreFolders ((e.place.folder, (e.place.name, At (entry_of e)) ∷ []) ∷ [])
-    (entry_held bytes_cmp NamesBelow nat_list_cmp_total e.place.folder AreNames ((e.place.name, At (entry_of e)) ∷ [])
-    (entry_held bytes_cmp (IsUpTo content_cmp) nat_list_cmp_total e.place.name (λ _. Unit {0}) (At (entry_of e)) (record { not_least = not_least content_cmp (entry_of e); lawful = tt })))
+    let path = e.place.path in
+    entry_held scope_cmp RanksBelow scope_cmp_total e.place.scope AreRanks ((path.rank, (path.folder, (path.name, At (entry_of e)) ∷ []) ∷ []) ∷ [])
+    (entry_held nat_cmp FoldersBelow nat_cmp_total path.rank AreFolders ((path.folder, (path.name, At (entry_of e)) ∷ []) ∷ [])
+    (entry_held bytes_cmp NamesBelow nat_list_cmp_total path.folder AreNames ((path.name, At (entry_of e)) ∷ [])
+    (entry_held bytes_cmp (IsUpTo content_cmp) nat_list_cmp_total path.name (λ _. Unit {0}) (At (entry_of e)) (record { not_least = not_least content_cmp (entry_of e); lawful = tt }))))
 
-pub flat-one : (e : Edit) → flat (one_edit e) ≡ sum_of (e ∷ [])
-flat-one e = same_store (flat (one_edit e)) (sum_of (e ∷ []))
-    (λ q. finmap.get-from_sorted path_cmp ((e.place, entry_of e) ∷ []) q tt ∙ sym (get-sum_of (e ∷ []) q))
+pub held-one : (e : Edit) → all_held (one_edit e) ≡ sum_of (e ∷ [])
+held-one e = same_store (all_held (one_edit e)) (sum_of (e ∷ []))
+    (λ q. finmap.get-from_sorted place_cmp ((e.place, entry_of e) ∷ []) q tt ∙ sym (get-sum_of (e ∷ []) q))
 
--- what joins the maps of one edit, whose path is told by its parts, has one edit more
-pub joined_edit : (m n : RankMap) (s : EntryMap) (e : Edit) (p : PathParts) → p ≡ e.place → flat m ≡ s → AreRanks m → AreRanks n → IsJoin RanksBelow m (one_edit (record e { place = p })) n → flat n ≡ with_edit s e
+-- what joins the maps of one edit, whose place is told by its parts, has one edit more
+pub joined_edit : (m n : ScopeMap) (s : EntryMap) (e : Edit) (p : PlaceParts) → p ≡ e.place → all_held m ≡ s → AreScopes m → AreScopes n → IsJoin ScopesBelow m (one_edit (record e { place = p })) n → all_held n ≡ with_edit s e
 joined_edit m n s e p parts is is_m is_n j =
     let e' : Edit = record e { place = p } in
-    flat-join m (one_edit e') n is_m (one_held e').lawful is_n j ∙ ap (join (flat m)) (flat-one e') ∙ sym (with_edit-join (flat m) e')
-    ∙ ap (λ (t : EntryMap). with_edit t e') is ∙ ap (λ (q : PathParts). with_edit s (record e { place = q })) parts
+    held-join m (one_edit e') n is_m (one_held e').lawful is_n j ∙ ap (join (all_held m)) (held-one e') ∙ sym (with_edit-join (all_held m) e')
+    ∙ ap (λ (t : EntryMap). with_edit t e') is ∙ ap (λ (q : PlaceParts). with_edit s (record e { place = q })) parts
 
-pub counted_edit : (s : EntryMap) (len high len' : ℕ) (e : Edit) → IsPath e.place → IsCounted s len high → len' ≡ cond (finmap.contains_key s e.place) (finmap.len s) (finmap.len s + 1) → IsCounted (with_edit s e) len' (max high e.version.counter)
+pub counted_edit : (s : EntryMap) (len high len' : ℕ) (e : Edit) → IsPath e.place.path → IsCounted s len high → len' ≡ cond (finmap.contains_key s e.place) (finmap.len s) (finmap.len s + 1) → IsCounted (with_edit s e) len' (max high e.version.counter)
 counted_edit s len high len' e lawful c is = record {
-  paths = λ q h. path q (larger (Some (entry_of e)) (finmap.get s q)) (eq_by_cmp path_cmp q e.place) refl (subst (λ (x : Option Entry). IsSome x) (get-with_edit s e q) h);
-  counted = is ∙ sym (finmap.len-insert path_cmp_total s e.place _);
+  paths = λ q h. path q (larger (Some (entry_of e)) (finmap.get s q)) (eq_by_cmp place_cmp q e.place) refl (subst (λ (x : Option Entry). IsSome x) (get-with_edit s e q) h);
+  counted = is ∙ sym (finmap.len-insert place_cmp_total s e.place _);
   greatest = (λ i. max (c.greatest i) (one i)) ∙ sym (high_of-join s (sum_of (e ∷ []))) ∙ ap high_of (sym (with_edit-join s e));
 }
   where
     one : e.version.counter ≡ high_of (sum_of (e ∷ []))
     one = let m : max e.version.counter 0 ≡ e.version.counter = omega arith in sym (high_of-sum_of (e ∷ []) ∙ m)
 
-    path : (q : PathParts) (x : Option Entry) (b : Bool) → eq_by_cmp path_cmp q e.place ≡ b → IsSome (cond b x (finmap.get s q)) → IsPath q
-    path q x true t h = subst IsPath (sym (tied q e.place t)) lawful
+    path : (q : PlaceParts) (x : Option Entry) (b : Bool) → eq_by_cmp place_cmp q e.place ≡ b → IsSome (cond b x (finmap.get s q)) → IsPath q.path
+    path q x true t h = subst (λ (p : PlaceParts). IsPath p.path) (sym (tied q e.place t)) lawful
     path q x false t h = c.paths q h
 
-pub kept_edit : (m n : RankMap) (s : EntryMap) (len high len' : ℕ) (e : Edit) (p : PathParts) → p ≡ e.place → IsPath e.place → flat m ≡ s → IsKept m len high → AreRanks n → IsJoin RanksBelow m (one_edit (record e { place = p })) n → len' ≡ cond (finmap.contains_key s e.place) (finmap.len s) (finmap.len s + 1) → len' ≤ 2 ^ 64 - 1 → IsKept n len' (max high e.version.counter)
+pub kept_edit : (m n : ScopeMap) (s : EntryMap) (len high len' : ℕ) (e : Edit) (p : PlaceParts) → p ≡ e.place → IsPath e.place.path → all_held m ≡ s → IsKept m len high → AreScopes n → IsJoin ScopesBelow m (one_edit (record e { place = p })) n → len' ≡ cond (finmap.contains_key s e.place) (finmap.len s) (finmap.len s + 1) → len' ≤ 2 ^ 64 - 1 → IsKept n len' (max high e.version.counter)
 kept_edit m n s len high len' e p parts lawful is k is_n j counted fits = record {
-  ranks = is_n;
+  scopes = is_n;
   counted =
-      subst (λ (t : EntryMap). IsCounted t len' (max high e.version.counter)) (sym (joined_edit m n s e p parts is k.ranks is_n j))
+      subst (λ (t : EntryMap). IsCounted t len' (max high e.version.counter)) (sym (joined_edit m n s e p parts is k.scopes is_n j))
       (counted_edit s len high len' e lawful (subst (λ (t : EntryMap). IsCounted t len high) is k.counted) counted);
   fits = fits;
 }

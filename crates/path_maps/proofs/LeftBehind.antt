@@ -13,9 +13,12 @@ use Rattle.edit_sums.specs.Contents.{content_cmp}
 use Rattle.edit_sums.specs.Entries.{Entry}
 use Rattle.load_path.specs.Paths.{PathParts, IsPath}
 use Rattle.path_maps.specs.Spread.{AllKeys}
-use Rattle.path_maps.specs.PathMaps.{NameMap, FolderMap, RankMap, NamesBelow, FoldersBelow, AreNames, AreFolders, at_name, in_folder, in_rank, listed}
-use Rattle.path_maps.specs.Cursors.{AreNamesLeft, AreFoldersLeft, AreRanksLeft, by_folder, by_rank}
-use Rattle.path_maps.proofs.Sames.{no_names, no_folders}
+use Rattle.load_places.specs.Places.{PlaceParts}
+use Rattle.load_places.specs.declared.places.Scope.{Scope}
+use Rattle.path_maps.specs.PathMaps.{NameMap, FolderMap, RankMap, NamesBelow, FoldersBelow, RanksBelow, AreNames, AreFolders, AreRanks, at_name, in_folder, in_rank, listed}
+use Rattle.path_maps.specs.PlaceMaps.{ScopeMap, all_listed, in_scope, placed}
+use Rattle.path_maps.specs.Cursors.{AreNamesLeft, AreFoldersLeft, AreRanksLeft, by_folder, by_rank, by_scope}
+use Rattle.path_maps.proofs.Sames.{no_names, no_folders, no_ranks}
 
 pub front_keys : {A E : Type 0} (P : A → Type 0) (xs ys : List (A × E)) → AllKeys P (xs ++ ys) → AllKeys P xs
 front_keys P [] ys h = tt
@@ -47,6 +50,18 @@ in_folder_some rank folder (n ∷ ns) h is = some_front (at_name rank folder n.0
 pub in_rank_some : (rank : ℕ) (folders : FolderMap) → ¬ IsLeast FoldersBelow folders → AreFolders folders → in_rank rank folders ≢ []
 in_rank_some rank [] h is = absurd (h no_folders)
 in_rank_some rank (f ∷ fs) h is = some_front (in_folder rank f.0 f.1) (in_rank rank fs) (in_folder_some rank f.0 f.1 is.held.0.not_least is.held.0.lawful)
+
+-- a scope that is held has a rank
+listed_some : (ranks : RankMap) → ¬ IsLeast RanksBelow ranks → AreRanks ranks → listed ranks ≢ []
+listed_some [] h is = absurd (h no_ranks)
+listed_some (r ∷ rs) h is = some_front (in_rank r.0 r.1) (listed rs) (in_rank_some r.0 r.1 is.held.0.not_least is.held.0.lawful)
+
+placed_some : (scope : Scope) (es : List (PathParts × Entry)) → es ≢ [] → placed scope es ≢ []
+placed_some scope [] h = absurd (h refl)
+placed_some scope (e ∷ es) h = λ w. cc (w)
+
+pub in_scope_some : (scope : Scope) (ranks : RankMap) → ¬ IsLeast RanksBelow ranks → AreRanks ranks → in_scope scope ranks ≢ []
+in_scope_some scope ranks h is = placed_some scope (listed ranks) (listed_some ranks h is)
 
 -- ---- the first folder of a rank, and the rest
 
@@ -93,3 +108,7 @@ ranks_listed [] = refl
 ranks_listed (r ∷ rs) =
     flat_map-append (λ xs. xs) (by_folder r.0 r.1) (flat_map (λ xs. xs) (by_rank rs))
     ∙ (λ i. folders_listed r.0 r.1 i ++ ranks_listed rs i)
+
+pub scopes_listed : (m : ScopeMap) → flat_map (λ xs. xs) (by_scope m) ≡ all_listed m
+scopes_listed [] = refl
+scopes_listed (s ∷ ss) = ap (λ (es : List (PlaceParts × Entry)). in_scope s.0 s.1 ++ es) (scopes_listed ss)

@@ -13,6 +13,8 @@ use Rattle.join_law.specs.declared.versions.Versioned.TheVariants.{Never, At}
 use Rattle.join_law.specs.VersionOrder.{written, written_at}
 use Rattle.join_law.specs.Maps.{or_empty}
 use Rattle.load_path.specs.Paths.{PathParts, IsPath}
+use Rattle.load_places.specs.Places.{PlaceParts}
+use Rattle.load_places.specs.declared.places.Scope.{Scope}
 use Rattle.edit_sums.specs.declared.contents.Content.{Content}
 use Rattle.edit_sums.specs.Entries.{Entry}
 use Rattle.path_maps.specs.Spread.{AllKeys}
@@ -20,12 +22,15 @@ use Rattle.path_maps.specs.SpreadLaws.{all_keys-append}
 use Rattle.path_maps.specs.Folders.{path_at}
 use Rattle.path_maps.specs.PathMaps.{NameMap, FolderMap, RankMap, bytes_cmp, at_name, in_folder, in_rank, listed, look_up}
 use Rattle.path_maps.specs.PathMapLaws.{IsInFolder, IsInRank, of_folder, of_rank}
-use Rattle.path_maps.specs.Beside.{beside, held_in_names, held_in_folders, names_beside, folders_beside, ranks_beside, by_folder_beside, by_rank_beside}
+use Rattle.path_maps.specs.PlaceMaps.{ScopeMap, all_listed, in_scope, look_up_place, placed, ranks_of}
+use Rattle.path_maps.specs.PlaceMapLaws.{IsInScope, of_scope}
+use Rattle.path_maps.specs.Views.{within}
+use Rattle.path_maps.specs.Beside.{Compared, beside, by_scope_beside, placed_compared, scopes_beside, held_in_names, held_in_folders, names_beside, folders_beside, ranks_beside, by_folder_beside, by_rank_beside}
 use Rattle.path_maps.specs.Cursors.{AreNamesLeft}
 use Rattle.path_maps.proofs.LeftBehind.{back_keys}
 
--- two that hold the same at the paths of some entries
-same_beside : (f g : PathParts → Option Entry) (P : PathParts → Type 0) → ((q : PathParts) → P q → f q ≡ g q) → (es : List (PathParts × Entry)) → AllKeys P es → beside f es ≡ beside g es
+-- two that hold the same at the keys of some entries
+same_beside : {K : Type 0} (f g : K → Option Entry) (P : K → Type 0) → ((q : K) → P q → f q ≡ g q) → (es : List (K × Entry)) → AllKeys P es → beside f es ≡ beside g es
 same_beside f g P alike [] h = refl
 same_beside f g P alike (x ∷ xs) h = λ i. (x, alike x.0 h.0 i) ∷ same_beside f g P alike xs h.1 i
 
@@ -119,3 +124,19 @@ ranks_compared (r ∷ rs) others =
     flat_map-append (λ xs. xs) (by_folder_beside r.0 r.1 held) (flat_map (λ xs. xs) (by_rank_beside rs others))
     ∙ (λ i. (folders_compared r.0 r.1 held ∙ sym first) i ++ ranks_compared rs others i)
     ∙ sym (map-append _ (in_rank r.0 r.1) (listed rs))
+
+-- ---- scope by scope
+
+placed_beside : (scope : Scope) (ranks others : RankMap) → placed_compared scope (ranks_beside ranks others) ≡ beside (λ q. look_up others q.path) (in_scope scope ranks)
+placed_beside scope ranks others = by (listed ranks)
+  where
+    by : (es : List (PathParts × Entry)) → placed_compared scope (beside (look_up others) es) ≡ beside (λ q. look_up others q.path) (placed scope es)
+    by [] = refl
+    by (e ∷ es) = ap (λ (l : List (Compared PlaceParts)). ((within scope e.0, e.1), look_up others e.0) ∷ l) (by es)
+
+pub scopes_compared : (scopes others : ScopeMap) → flat_map (λ xs. xs) (by_scope_beside scopes others) ≡ scopes_beside scopes others
+scopes_compared [] others = refl
+scopes_compared (s ∷ ss) others =
+    let first = same_beside (λ (q : PlaceParts). look_up (ranks_of others s.0) q.path) (look_up_place others) (IsInScope s.0) (λ q at. ap (λ (x : Scope). look_up (ranks_of others x) q.path) (sym at)) (in_scope s.0 s.1) (of_scope s.0 (listed s.1)) in
+    (λ i. (placed_beside s.0 s.1 (ranks_of others s.0) ∙ first) i ++ scopes_compared ss others i)
+    ∙ sym (map-append _ (in_scope s.0 s.1) (all_listed ss))

@@ -11,3 +11,4 @@ pub mod Sizes
 pub mod Merges
 pub mod Singles
 pub mod Removals
+pub mod Scopes

@@ -1,45 +1,75 @@
 -- The list of all entries, and what is held.
-use Rattle.std.proofs.Common.{◌≡◌, ◌⊎◌, inl, inr, Bool, true, false, cond, List, [], ◌∷◌, Option, Some, IsSome, refl, sym, ap, subst, ◌∙◌, ℕ}
-use Rattle.std.specs.Ordering.{eq_by_cmp}
+use Rattle.std.proofs.Common.{◌≡◌, ◌⊎◌, inl, inr, Bool, true, false, cond, List, [], ◌∷◌, ◌++◌, Option, Some, IsSome, refl, sym, ap, subst, ◌∙◌, ℕ}
+use Rattle.std.specs.Cmp.{IsTotalOrder, tied_itself}
+use Rattle.std.specs.Ordering.{eq_by_cmp, is_eq}
+use Rattle.std.specs.declared.cmp.Ordering.{Ordering}
 use Rattle.std.specs.FinMap as finmap
 use Rattle.std.specs.FinMap.Entries.{find}
 use Rattle.list_laws.specs.Truths.{to_T}
 use Rattle.load_path.specs.Paths.{PathParts, IsPath, path_cmp}
+use Rattle.load_path.specs.PathLaws.{path_cmp_total}
+use Rattle.load_places.specs.Places.{PlaceParts, place_cmp}
+use Rattle.load_places.specs.PlaceLaws.{place_cmp_total}
+use Rattle.load_places.specs.declared.places.Scope.{Scope}
 use Rattle.edit_sums.specs.Entries.{Entry}
 use Rattle.edit_sums.specs.Sums.{EntryMap}
-use Rattle.edit_sums.specs.GreatestLaws.{same_place}
 use Rattle.path_maps.specs.Spread.{AllKeys}
 use Rattle.path_maps.specs.PathMaps.{RankMap, AreRanks, flat, listed}
-use Rattle.path_maps.specs.PathMapLaws.{listed_sorted, entries-flat}
-use Rattle.path_maps.specs.Kept.{IsKept}
+use Rattle.path_maps.specs.PathMapLaws.{listed_sorted}
+use Rattle.path_maps.specs.PlaceMaps.{ScopeMap, AreScopes, all_held, all_listed, in_scope, placed}
+use Rattle.path_maps.specs.PlaceMapLaws.{all_sorted, entries-held}
+use Rattle.path_maps.specs.Kept.{HasLawfulPaths, IsKept}
+use Rattle.path_maps.proofs.LeftBehind.{back_keys, front_keys}
 
-abbrev IsKeyOf : PathParts → List (PathParts × Entry) → Type 0
-IsKeyOf q [] = ⊥
-IsKeyOf q (e ∷ es) = (q ≡ e.0) ⊎ IsKeyOf q es
+-- what holds of all keys at which something is found holds of all keys
+module _ {K E : Type 0} (R : K → K → Ordering) (o : IsTotalOrder R) where
+  abbrev IsKeyOf : K → List (K × E) → Type 0
+  IsKeyOf q [] = ⊥
+  IsKeyOf q (e ∷ es) = (q ≡ e.0) ⊎ IsKeyOf q es
 
-found_by : (q : PathParts) (e : PathParts × Entry) (es : List (PathParts × Entry)) (b : Bool) → eq_by_cmp path_cmp q e.0 ≡ b → (q ≡ e.0) ⊎ IsSome (find path_cmp q es) → IsSome (cond b (Some e.1) (find path_cmp q es))
-found_by q e es true t h = refl
-found_by q e es false t (inl is) = let wrong = sym (ap (λ (p : PathParts). eq_by_cmp path_cmp q p) (sym is) ∙ same_place q) ∙ t in cc (wrong)
-found_by q e es false t (inr is) = is
+  found_by : (q : K) (e : K × E) (es : List (K × E)) (b : Bool) → eq_by_cmp R q e.0 ≡ b → (q ≡ e.0) ⊎ IsSome (find R q es) → IsSome (cond b (Some e.1) (find R q es))
+  found_by q e es true t h = refl
+  found_by q e es false t (inl is) = let wrong = sym (ap (λ (p : K). eq_by_cmp R q p) (sym is) ∙ ap is_eq (tied_itself o q)) ∙ t in cc (wrong)
+  found_by q e es false t (inr is) = is
 
-found_in : (q : PathParts) (es : List (PathParts × Entry)) → IsKeyOf q es → IsSome (find path_cmp q es)
-found_in q [] h = absurd h
-found_in q (e ∷ es) (inl is) = found_by q e es (eq_by_cmp path_cmp q e.0) refl (inl is)
-found_in q (e ∷ es) (inr is) = found_by q e es (eq_by_cmp path_cmp q e.0) refl (inr (found_in q es is))
+  found_in : (q : K) (es : List (K × E)) → IsKeyOf q es → IsSome (find R q es)
+  found_in q [] h = absurd h
+  found_in q (e ∷ es) (inl is) = found_by q e es (eq_by_cmp R q e.0) refl (inl is)
+  found_in q (e ∷ es) (inr is) = found_by q e es (eq_by_cmp R q e.0) refl (inr (found_in q es is))
 
-all_of : (P : PathParts → Type 0) (es : List (PathParts × Entry)) → ((q : PathParts) → IsKeyOf q es → P q) → AllKeys P es
-all_of P [] h = tt
-all_of P (e ∷ es) h = (h e.0 (inl refl), all_of P es (λ q is. h q (inr is)))
+  all_of : (P : K → Type 0) (es : List (K × E)) → ((q : K) → IsKeyOf q es → P q) → AllKeys P es
+  all_of P [] h = tt
+  all_of P (e ∷ es) h = (h e.0 (inl refl), all_of P es (λ q is. h q (inr is)))
+
+  all_found : (P : K → Type 0) (es : List (K × E)) → ((q : K) → IsSome (find R q es) → P q) → AllKeys P es
+  all_found P es h = all_of P es (λ q is. h q (found_in q es is))
 
 -- where something is held at lawful paths alone, all that is listed has one
 pub paths_listed : (m : RankMap) → AreRanks m → ((q : PathParts) → IsSome (finmap.get (flat m) q) → IsPath q) → AllKeys IsPath (listed m)
 paths_listed m is paths =
-    all_of IsPath (listed m)
-    (λ q h. paths q (subst (λ (x : Option Entry). IsSome x) (sym (finmap.get-from_sorted path_cmp (listed m) q (to_T _ (listed_sorted m is)))) (found_in q (listed m) h)))
+    all_found path_cmp path_cmp_total IsPath (listed m)
+    (λ q h. paths q (subst (λ (x : Option Entry). IsSome x) (sym (finmap.get-from_sorted path_cmp (listed m) q (to_T _ (listed_sorted m is)))) h))
 
-pub listed_paths : (m : RankMap) (len high : ℕ) → IsKept m len high → AllKeys IsPath (listed m)
-listed_paths m len high k = paths_listed m k.ranks k.counted.paths
+-- the same of places, scope by scope
+paths_of_placed : (scope : Scope) (es : List (PathParts × Entry)) → AllKeys (λ q. IsPath q.path) (placed scope es) → AllKeys IsPath es
+paths_of_placed scope [] h = tt
+paths_of_placed scope (e ∷ es) h = (h.0, paths_of_placed scope es h.1)
 
--- all entries in path order
-pub listed_entries : (m : RankMap) (s : EntryMap) → AreRanks m → flat m ≡ s → listed m ≡ finmap.entries s
-listed_entries m s is e = sym (entries-flat m is) ∙ ap (λ (t : EntryMap). finmap.entries t) e
+by_scopes : (m : ScopeMap) → AllKeys (λ q. IsPath q.path) (all_listed m) → HasLawfulPaths m
+by_scopes [] h = tt
+by_scopes (e ∷ es) h = (
+  paths_of_placed e.0 (listed e.1) (front_keys (λ (q : PlaceParts). IsPath q.path) (in_scope e.0 e.1) (all_listed es) h),
+  by_scopes es (back_keys (λ (q : PlaceParts). IsPath q.path) (in_scope e.0 e.1) (all_listed es) h),
+)
+
+pub places_lawful : (m : ScopeMap) → AreScopes m → ((q : PlaceParts) → IsSome (finmap.get (all_held m) q) → IsPath q.path) → HasLawfulPaths m
+places_lawful m is paths =
+    by_scopes m (all_found place_cmp place_cmp_total (λ q. IsPath q.path) (all_listed m)
+    (λ q h. paths q (subst (λ (x : Option Entry). IsSome x) (sym (finmap.get-from_sorted place_cmp (all_listed m) q (to_T _ (all_sorted m is)))) h)))
+
+pub kept_lawful : (m : ScopeMap) (len high : ℕ) → IsKept m len high → HasLawfulPaths m
+kept_lawful m len high k = places_lawful m k.scopes k.counted.paths
+
+-- all entries in place order
+pub all_entries : (m : ScopeMap) (s : EntryMap) → AreScopes m → all_held m ≡ s → all_listed m ≡ finmap.entries s
+all_entries m s is e = sym (entries-held m is) ∙ ap (λ (t : EntryMap). finmap.entries t) e

@@ -9,13 +9,14 @@ use Rattle.join_law.specs.declared.versions.Versioned.{Versioned}
 use Rattle.join_law.specs.declared.versions.Versioned.TheVariants.{Never, At}
 use Rattle.join_law.specs.VersionOrder.{written_at, has_other}
 use Rattle.join_law.specs.Maps.{is_some_and, or_empty}
-use Rattle.load_path.specs.Paths.{PathParts}
+use Rattle.load_places.specs.Places.{PlaceParts, scope_cmp}
 use Rattle.edit_sums.specs.declared.contents.Content.{Content}
 use Rattle.edit_sums.specs.declared.contents.Content.TheVariants.{Gone, Link, File}
 use Rattle.edit_sums.specs.Contents.{content_cmp}
 use Rattle.edit_sums.specs.Entries.{Entry}
 use Rattle.edit_sums.specs.Sums.{EntryMap, shown, visible_at}
-use Rattle.path_maps.specs.PathMaps.{NameMap, FolderMap, RankMap, AreRanks, bytes_cmp, flat, look_up}
+use Rattle.path_maps.specs.PathMaps.{NameMap, FolderMap, RankMap, bytes_cmp, look_up}
+use Rattle.path_maps.specs.PlaceMaps.{ScopeMap, AreScopes, all_held, look_up_place}
 use Rattle.path_maps.proofs.LookUps.{held_is}
 
 -- what is no removal is visible
@@ -29,34 +30,41 @@ other_visible None = refl
 other_visible (Some Never) = refl
 other_visible (Some (At x)) = other_shown x.version x.content
 
-module _ (q : PathParts) (content : Content) where
-  -- a write of this content is made at the path in maps of maps
+module _ (q : PlaceParts) (content : Content) where
+  -- a write of this content is made at the place in maps of maps
   abbrev pub is_made_in_names : NameMap → Bool
-  is_made_in_names names = is_some_and (has_other content_cmp content) (find bytes_cmp q.name names)
+  is_made_in_names names = is_some_and (has_other content_cmp content) (find bytes_cmp q.path.name names)
 
   abbrev pub is_made_in_folders : FolderMap → Bool
-  is_made_in_folders folders = is_some_and is_made_in_names (find bytes_cmp q.folder folders)
+  is_made_in_folders folders = is_some_and is_made_in_names (find bytes_cmp q.path.folder folders)
 
-  abbrev pub is_made : RankMap → Bool
-  is_made m = is_some_and is_made_in_folders (find nat_cmp q.rank m)
+  abbrev pub is_made_in_ranks : RankMap → Bool
+  is_made_in_ranks m = is_some_and is_made_in_folders (find nat_cmp q.path.rank m)
+
+  abbrev pub is_made : ScopeMap → Bool
+  is_made m = is_some_and is_made_in_ranks (find scope_cmp q.scope m)
 
 -- one of a removal just where a content is visible
-made_visible : (q : PathParts) (m : RankMap) → is_made q Gone m ≡ is_some (option_and_then shown (look_up m q))
-made_visible q m = by_rank (find nat_cmp q.rank m)
+made_visible : (q : PlaceParts) (m : ScopeMap) → is_made q Gone m ≡ is_some (option_and_then shown (look_up_place m q))
+made_visible q m = by_scope (find scope_cmp q.scope m)
   where
-    by_folder : (names : Option NameMap) → is_some_and (is_made_in_names q Gone) names ≡ is_some (option_and_then shown (written_at (find bytes_cmp q.name (or_empty names))))
+    by_folder : (names : Option NameMap) → is_some_and (is_made_in_names q Gone) names ≡ is_some (option_and_then shown (written_at (find bytes_cmp q.path.name (or_empty names))))
     by_folder None = refl
-    by_folder (Some names) = other_visible (find bytes_cmp q.name names)
+    by_folder (Some names) = other_visible (find bytes_cmp q.path.name names)
 
-    by_rank : (folders : Option FolderMap) → is_some_and (is_made_in_folders q Gone) folders ≡ is_some (option_and_then shown (written_at (find bytes_cmp q.name (or_empty (find bytes_cmp q.folder (or_empty folders))))))
+    by_rank : (folders : Option FolderMap) → is_some_and (is_made_in_folders q Gone) folders ≡ is_some (option_and_then shown (written_at (find bytes_cmp q.path.name (or_empty (find bytes_cmp q.path.folder (or_empty folders))))))
     by_rank None = refl
-    by_rank (Some folders) = by_folder (find bytes_cmp q.folder folders)
+    by_rank (Some folders) = by_folder (find bytes_cmp q.path.folder folders)
 
-pub removal_visible : (m : RankMap) → AreRanks m → (s : EntryMap) → flat m ≡ s → (q p : PathParts) → q ≡ p → (content : Content) → content ≡ Gone → is_made q content m ≡ is_some (visible_at s p)
+    by_scope : (ranks : Option RankMap) → is_some_and (is_made_in_ranks q Gone) ranks ≡ is_some (option_and_then shown (look_up (or_empty ranks) q.path))
+    by_scope None = refl
+    by_scope (Some ranks) = by_rank (find nat_cmp q.path.rank ranks)
+
+pub removal_visible : (m : ScopeMap) → AreScopes m → (s : EntryMap) → all_held m ≡ s → (q p : PlaceParts) → q ≡ p → (content : Content) → content ≡ Gone → is_made q content m ≡ is_some (visible_at s p)
 removal_visible m is s e q p at content gone =
     (λ i. is_made q (gone i) m) ∙ made_visible q m
-    ∙ ap (λ (x : Option Entry). is_some (option_and_then shown x)) (held_is m is s e q (look_up m q) refl)
-    ∙ ap (λ (r : PathParts). is_some (visible_at s r)) at
+    ∙ ap (λ (x : Option Entry). is_some (option_and_then shown x)) (held_is m is s e q (look_up_place m q) refl)
+    ∙ ap (λ (r : PlaceParts). is_some (visible_at s r)) at
 
 -- what is visible is held
 pub visible_held : (x : Option Entry) → is_some (option_and_then shown x) ≡ true → is_some x ≡ true

@@ -1,4 +1,4 @@
--- A join changes the paths of greater entries, and has as many more as there was nothing at.
+-- A join changes the places of greater entries, and has as many more as there was nothing at.
 use Rattle.std.proofs.Common.{◌≡◌, ◌⊎◌, inl, inr, ℕ, ◌+◌, ◌≤◌, Bool, true, false, cond, List, [], ◌∷◌, Option, Some, None, IsTrue, refl, sym, ap, ◌∙◌, arith, map, length}
 use Rattle.std.specs.Prelude.{not, is_some, unwrap_or, count_by}
 use Rattle.std.proofs.lemmas.List.Sums.{sum_by-cons, count_by-le-length}
@@ -11,8 +11,8 @@ use Rattle.std.specs.FinMap as finmap
 use Rattle.std.specs.FinMap.Entries.{find, put, is_sorted, below_all, by_order}
 use Rattle.list_laws.specs.Truths.{to_T, from_T}
 use Rattle.list_laws.specs.Orderings.{is_less}
-use Rattle.load_path.specs.Paths.{PathParts, path_cmp}
-use Rattle.load_path.specs.PathLaws.{path_cmp_total, path_cmp-IsAntisymmetric}
+use Rattle.load_places.specs.Places.{PlaceParts, place_cmp}
+use Rattle.load_places.specs.PlaceLaws.{place_cmp_total, place_cmp-IsAntisymmetric}
 use Rattle.edit_sums.specs.Entries.{Entry, entry_cmp, larger}
 use Rattle.edit_sums.specs.EntryLaws.{entry_cmp_total, larger-None}
 use Rattle.edit_sums.specs.Sums.{EntryMap, is_other, changed_places, edit_of, with_edit, sum_of, join}
@@ -31,28 +31,28 @@ nothing_more n = omega arith
 itself_no_other : (x : Entry) → is_other (Some x) x ≡ false
 itself_no_other x = ap (λ r. not (is_eq r)) (tied_itself entry_cmp_total x)
 
--- ---- one entry put in its place changes its path alone
+-- ---- one entry put in its place changes its place alone
 
-module _ (first : PathParts → Option Entry) (k : PathParts) (v : Entry) where
-  abbrev others : List (PathParts × Entry) → ℕ
-  others es = count_by (λ (p : PathParts × Entry). is_other (first p.0) p.1) es
+module _ (first : PlaceParts → Option Entry) (k : PlaceParts) (v : Entry) where
+  abbrev others : List (PlaceParts × Entry) → ℕ
+  others es = count_by (λ (p : PlaceParts × Entry). is_other (first p.0) p.1) es
 
-  put_changes : (es : List (PathParts × Entry)) → first k ≡ find path_cmp k es → others (put path_cmp k v es) ≡ cond (is_other (first k) v) 1 0 + others es
-  put_changes [] f = count_cons (λ (p : PathParts × Entry). is_other (first p.0) p.1) (k, v) []
-  put_changes (e ∷ es) f = by (path_cmp k e.0) refl (put_changes es)
+  put_changes : (es : List (PlaceParts × Entry)) → first k ≡ find place_cmp k es → others (put place_cmp k v es) ≡ cond (is_other (first k) v) 1 0 + others es
+  put_changes [] f = count_cons (λ (p : PlaceParts × Entry). is_other (first p.0) p.1) (k, v) []
+  put_changes (e ∷ es) f = by (place_cmp k e.0) refl (put_changes es)
     where
-      by : (r : Ordering) → path_cmp k e.0 ≡ r → (first k ≡ find path_cmp k es → others (put path_cmp k v es) ≡ cond (is_other (first k) v) 1 0 + others es) → others (by_order r ((k, v) ∷ e ∷ es) ((e.0, v) ∷ es) (e ∷ put path_cmp k v es)) ≡ cond (is_other (first k) v) 1 0 + others (e ∷ es)
-      by Less o more = count_cons (λ (p : PathParts × Entry). is_other (first p.0) p.1) (k, v) (e ∷ es)
+      by : (r : Ordering) → place_cmp k e.0 ≡ r → (first k ≡ find place_cmp k es → others (put place_cmp k v es) ≡ cond (is_other (first k) v) 1 0 + others es) → others (by_order r ((k, v) ∷ e ∷ es) ((e.0, v) ∷ es) (e ∷ put place_cmp k v es)) ≡ cond (is_other (first k) v) 1 0 + others (e ∷ es)
+      by Less o more = count_cons (λ (p : PlaceParts × Entry). is_other (first p.0) p.1) (k, v) (e ∷ es)
       by Equal o more =
-          let here : k ≡ e.0 = path_cmp-IsAntisymmetric k e.0 o in
-          let was : first e.0 ≡ Some e.1 = ap first (sym here) ∙ f ∙ ap (λ r. cond (is_eq r) (Some e.1) (find path_cmp k es)) o in
+          let here : k ≡ e.0 = place_cmp-IsAntisymmetric k e.0 o in
+          let was : first e.0 ≡ Some e.1 = ap first (sym here) ∙ f ∙ ap (λ r. cond (is_eq r) (Some e.1) (find place_cmp k es)) o in
           let none : is_other (first e.0) e.1 ≡ false = ap (λ y. is_other y e.1) was ∙ itself_no_other e.1 in
-          let old : others (e ∷ es) ≡ others es = count_cons (λ (p : PathParts × Entry). is_other (first p.0) p.1) e es ∙ ap (λ b. cond b 1 0 + others es) none ∙ nothing_more (others es) in
-          count_cons (λ (p : PathParts × Entry). is_other (first p.0) p.1) (e.0, v) es ∙ (λ i. cond (is_other (first (sym here i)) v) 1 0 + sym old i)
+          let old : others (e ∷ es) ≡ others es = count_cons (λ (p : PlaceParts × Entry). is_other (first p.0) p.1) e es ∙ ap (λ b. cond b 1 0 + others es) none ∙ nothing_more (others es) in
+          count_cons (λ (p : PlaceParts × Entry). is_other (first p.0) p.1) (e.0, v) es ∙ (λ i. cond (is_other (first (sym here i)) v) 1 0 + sym old i)
       by Greater o more =
-          let rest = more (f ∙ ap (λ r. cond (is_eq r) (Some e.1) (find path_cmp k es)) o) in
-          let one = count_cons (λ (p : PathParts × Entry). is_other (first p.0) p.1) e (put path_cmp k v es) in
-          let two = count_cons (λ (p : PathParts × Entry). is_other (first p.0) p.1) e es in
+          let rest = more (f ∙ ap (λ r. cond (is_eq r) (Some e.1) (find place_cmp k es)) o) in
+          let one = count_cons (λ (p : PlaceParts × Entry). is_other (first p.0) p.1) e (put place_cmp k v es) in
+          let two = count_cons (λ (p : PlaceParts × Entry). is_other (first p.0) p.1) e es in
           one ∙ ap (λ n. cond (is_other (first e.0) e.1) 1 0 + n) rest ∙ omega (arith, two)
 
 -- what is written is another entry just where it is greater
@@ -67,25 +67,25 @@ written_other (Some x) y = by (entry_cmp y x) refl
         let turned = entry_cmp_total.antisymm x y ∙ ap ordering_reverse e in
         ap (λ r. not (is_eq r)) turned ∙ sym (ap is_lt turned)
 
-pub found_entry : (m : EntryMap) (q : PathParts) → finmap.get m q ≡ find path_cmp q (finmap.entries m)
+pub found_entry : (m : EntryMap) (q : PlaceParts) → finmap.get m q ≡ find place_cmp q (finmap.entries m)
 found_entry m q =
-    ap (λ (x : EntryMap). finmap.get x q) (sym (finmap.same_entries_map _ m (finmap.entries-from_sorted path_cmp (finmap.entries m) (finmap.entries_sorted m))))
-    ∙ finmap.get-from_sorted path_cmp (finmap.entries m) q (finmap.entries_sorted m)
+    ap (λ (x : EntryMap). finmap.get x q) (sym (finmap.same_entries_map _ m (finmap.entries-from_sorted place_cmp (finmap.entries m) (finmap.entries_sorted m))))
+    ∙ finmap.get-from_sorted place_cmp (finmap.entries m) q (finmap.entries_sorted m)
 
 -- ---- entry by entry
 
 module _ (s : EntryMap) where
-  abbrev joined : List (PathParts × Entry) → EntryMap
+  abbrev joined : List (PlaceParts × Entry) → EntryMap
   joined es = join s (sum_of (map edit_of es))
 
-  greatest_none : (q : PathParts) (es : List (PathParts × Entry)) → IsTrue (below_all path_cmp q es) → IsTrue (is_sorted path_cmp es) → finmap.get (sum_of (map edit_of es)) q ≡ None
+  greatest_none : (q : PlaceParts) (es : List (PlaceParts × Entry)) → IsTrue (below_all place_cmp q es) → IsTrue (is_sorted place_cmp es) → finmap.get (sum_of (map edit_of es)) q ≡ None
   greatest_none q es b t =
-      ap (λ (x : EntryMap). finmap.get x q) (sum_of_sorted es t) ∙ finmap.get-from_sorted path_cmp es q (to_T _ t) ∙ find_below path_cmp q es b
+      ap (λ (x : EntryMap). finmap.get x q) (sum_of_sorted es t) ∙ finmap.get-from_sorted place_cmp es q (to_T _ t) ∙ find_below place_cmp q es b
     where
-      sum_of_sorted : (es : List (PathParts × Entry)) → IsTrue (is_sorted path_cmp es) → sum_of (map edit_of es) ≡ finmap.from_sorted es
-      sum_of_sorted es t = ap (λ (x : List (PathParts × Entry)). sum_of (map edit_of x)) (sym (finmap.entries-from_sorted path_cmp es (to_T _ t))) ∙ sum_of-edits_of (finmap.from_sorted es)
+      sum_of_sorted : (es : List (PlaceParts × Entry)) → IsTrue (is_sorted place_cmp es) → sum_of (map edit_of es) ≡ finmap.from_sorted es
+      sum_of_sorted es t = ap (λ (x : List (PlaceParts × Entry)). sum_of (map edit_of x)) (sym (finmap.entries-from_sorted place_cmp es (to_T _ t))) ∙ sum_of-edits_of (finmap.from_sorted es)
 
-  module _ (e : PathParts × Entry) (es : List (PathParts × Entry)) (t : IsTrue (is_sorted path_cmp (e ∷ es))) where
+  module _ (e : PlaceParts × Entry) (es : List (PlaceParts × Entry)) (t : IsTrue (is_sorted place_cmp (e ∷ es))) where
     untouched : finmap.get (joined es) e.0 ≡ finmap.get s e.0
     untouched =
         let p = and_parts _ _ t in
@@ -97,16 +97,16 @@ module _ (s : EntryMap) where
     pub more_changed : changed_places s (joined (e ∷ es)) ≡ cond (is_rise (finmap.get s e.0) e.1) 1 0 + changed_places s (joined es)
     more_changed =
         ap (changed_places s) more
-        ∙ ap (λ (x : List (PathParts × Entry)). others (finmap.get s) e.0 e.1 x) (finmap.entries-insert path_cmp_total (joined es) e.0 _)
+        ∙ ap (λ (x : List (PlaceParts × Entry)). others (finmap.get s) e.0 e.1 x) (finmap.entries-insert place_cmp_total (joined es) e.0 _)
         ∙ put_changes (finmap.get s) e.0 _ (finmap.entries (joined es)) (sym untouched ∙ found_there)
         ∙ ap (λ b. cond b 1 0 + changed_places s (joined es)) (ap (λ y. is_other (finmap.get s e.0) (unwrap_or (larger (Some e.1) y) e.1)) untouched ∙ written_other (finmap.get s e.0) e.1)
       where
-        found_there : finmap.get (joined es) e.0 ≡ find path_cmp e.0 (finmap.entries (joined es))
+        found_there : finmap.get (joined es) e.0 ≡ find place_cmp e.0 (finmap.entries (joined es))
         found_there = found_entry (joined es) e.0
 
     pub more_held : finmap.len (joined (e ∷ es)) ≡ cond (not (is_some (finmap.get s e.0))) 1 0 + finmap.len (joined es)
     more_held =
-        ap (λ (x : EntryMap). finmap.len x) more ∙ finmap.len-insert path_cmp_total (joined es) e.0 _
+        ap (λ (x : EntryMap). finmap.len x) more ∙ finmap.len-insert place_cmp_total (joined es) e.0 _
         ∙ ap (λ y. cond (is_some y) (finmap.len (joined es)) (finmap.len (joined es) + 1)) untouched
         ∙ one (is_some (finmap.get s e.0)) (finmap.len (joined es))
       where
@@ -116,41 +116,41 @@ module _ (s : EntryMap) where
 
 -- ---- all of them
 
-abbrev IsOneOf : PathParts × Entry → List (PathParts × Entry) → Type 0
+abbrev IsOneOf : PlaceParts × Entry → List (PlaceParts × Entry) → Type 0
 IsOneOf p [] = ⊥
 IsOneOf p (e ∷ es) = (e ≡ p) ⊎ IsOneOf p es
 
-own_below : (k : PathParts) (es : List (PathParts × Entry)) → IsTrue (below_all path_cmp k es) → (p : PathParts × Entry) → IsOneOf p es → eq_by_cmp path_cmp p.0 k ≡ false
+own_below : (k : PlaceParts) (es : List (PlaceParts × Entry)) → IsTrue (below_all place_cmp k es) → (p : PlaceParts × Entry) → IsOneOf p es → eq_by_cmp place_cmp p.0 k ≡ false
 own_below k [] b p h = absurd h
-own_below k (e ∷ es) b p (inl h) = ap (λ (r : PathParts × Entry). eq_by_cmp path_cmp r.0 k) (sym h) ∙ ap is_eq (path_cmp_total.antisymm e.0 k ∙ ap ordering_reverse (is_less _ (and_parts _ _ b).0))
+own_below k (e ∷ es) b p (inl h) = ap (λ (r : PlaceParts × Entry). eq_by_cmp place_cmp r.0 k) (sym h) ∙ ap is_eq (place_cmp_total.antisymm e.0 k ∙ ap ordering_reverse (is_less _ (and_parts _ _ b).0))
 own_below k (e ∷ es) b p (inr h) = own_below k es (and_parts _ _ b).1 p h
 
-find_own : (es : List (PathParts × Entry)) → IsTrue (is_sorted path_cmp es) → (p : PathParts × Entry) → IsOneOf p es → find path_cmp p.0 es ≡ Some p.1
+find_own : (es : List (PlaceParts × Entry)) → IsTrue (is_sorted place_cmp es) → (p : PlaceParts × Entry) → IsOneOf p es → find place_cmp p.0 es ≡ Some p.1
 find_own [] s p h = absurd h
-find_own (e ∷ es) s p (inl h) = ap (λ (r : PathParts × Entry). cond (eq_by_cmp path_cmp r.0 e.0) (Some e.1) (find path_cmp r.0 es)) (sym h) ∙ ap (λ b. cond b (Some e.1) (find path_cmp e.0 es)) (same_place e.0) ∙ ap (λ (r : PathParts × Entry). Some r.1) h
-find_own (e ∷ es) s p (inr h) = ap (λ b. cond b (Some e.1) (find path_cmp p.0 es)) (own_below e.0 es (and_parts _ _ s).0 p h) ∙ find_own es (and_parts (below_all path_cmp e.0 es) _ s).1 p h
+find_own (e ∷ es) s p (inl h) = ap (λ (r : PlaceParts × Entry). cond (eq_by_cmp place_cmp r.0 e.0) (Some e.1) (find place_cmp r.0 es)) (sym h) ∙ ap (λ b. cond b (Some e.1) (find place_cmp e.0 es)) (same_place e.0) ∙ ap (λ (r : PlaceParts × Entry). Some r.1) h
+find_own (e ∷ es) s p (inr h) = ap (λ b. cond b (Some e.1) (find place_cmp p.0 es)) (own_below e.0 es (and_parts _ _ s).0 p h) ∙ find_own es (and_parts (below_all place_cmp e.0 es) _ s).1 p h
 
-none_other : (first : PathParts → Option Entry) (es : List (PathParts × Entry)) → ((p : PathParts × Entry) → IsOneOf p es → first p.0 ≡ Some p.1) → count_by (λ (p : PathParts × Entry). is_other (first p.0) p.1) es ≡ 0
+none_other : (first : PlaceParts → Option Entry) (es : List (PlaceParts × Entry)) → ((p : PlaceParts × Entry) → IsOneOf p es → first p.0 ≡ Some p.1) → count_by (λ (p : PlaceParts × Entry). is_other (first p.0) p.1) es ≡ 0
 none_other first [] h = refl
 none_other first (e ∷ es) h =
-    count_cons _ e es ∙ ap (λ b. cond b 1 0 + count_by (λ (p : PathParts × Entry). is_other (first p.0) p.1) es) (ap (λ y. is_other y e.1) (h e (inl refl)) ∙ itself_no_other e.1)
+    count_cons _ e es ∙ ap (λ b. cond b 1 0 + count_by (λ (p : PlaceParts × Entry). is_other (first p.0) p.1) es) (ap (λ y. is_other y e.1) (h e (inl refl)) ∙ itself_no_other e.1)
     ∙ nothing_more _ ∙ none_other first es (λ p a. h p (inr a))
 
 pub nothing_changed : (s : EntryMap) → changed_places s s ≡ 0
 nothing_changed s = none_other (finmap.get s) (finmap.entries s) (λ p is. found_entry s p.0 ∙ find_own (finmap.entries s) (from_T _ (finmap.entries_sorted s)) p is)
 
 module _ (s : EntryMap) where
-  changed_by : (es : List (PathParts × Entry)) → IsTrue (is_sorted path_cmp es) → changed_places s (joined s es) ≡ rises s es
+  changed_by : (es : List (PlaceParts × Entry)) → IsTrue (is_sorted place_cmp es) → changed_places s (joined s es) ≡ rises s es
   changed_by [] t = ap (changed_places s) (join-nothing s) ∙ nothing_changed s
   changed_by (e ∷ es) t =
-      more_changed s e es t ∙ ap (λ n. cond (is_rise (finmap.get s e.0) e.1) 1 0 + n) (changed_by es (and_parts (below_all path_cmp e.0 es) _ t).1)
+      more_changed s e es t ∙ ap (λ n. cond (is_rise (finmap.get s e.0) e.1) 1 0 + n) (changed_by es (and_parts (below_all place_cmp e.0 es) _ t).1)
       ∙ sym (count_cons _ e es)
 
-  held_by : (es : List (PathParts × Entry)) → IsTrue (is_sorted path_cmp es) → finmap.len (joined s es) ≡ additions s es + finmap.len s
+  held_by : (es : List (PlaceParts × Entry)) → IsTrue (is_sorted place_cmp es) → finmap.len (joined s es) ≡ additions s es + finmap.len s
   held_by [] t = ap (λ (x : EntryMap). finmap.len x) (join-nothing s) ∙ sym (nothing_more (finmap.len s))
   held_by (e ∷ es) t =
-      let rest = held_by es (and_parts (below_all path_cmp e.0 es) _ t).1 in
-      let one = count_cons (λ (p : PathParts × Entry). not (is_some (finmap.get s p.0))) e es in
+      let rest = held_by es (and_parts (below_all place_cmp e.0 es) _ t).1 in
+      let one = count_cons (λ (p : PlaceParts × Entry). not (is_some (finmap.get s p.0))) e es in
       more_held s e es t ∙ omega (arith, rest, one)
 
   module _ (t : EntryMap) where
@@ -177,18 +177,18 @@ module _ (s : EntryMap) where
       by Equal e = refl
       by Greater e = let wrong = sym (ap is_lt (entry_cmp_total.antisymm x y ∙ ap ordering_reverse e)) ∙ h in cc (wrong)
 
-  edit_known : (e : PathParts × Entry) → is_rise (finmap.get s e.0) e.1 ≡ false → with_edit s (edit_of e) ≡ s
-  edit_known e h = same_store _ _ (λ q. get-with_edit s (edit_of e) q ∙ by q (eq_by_cmp path_cmp q e.0) refl)
+  edit_known : (e : PlaceParts × Entry) → is_rise (finmap.get s e.0) e.1 ≡ false → with_edit s (edit_of e) ≡ s
+  edit_known e h = same_store _ _ (λ q. get-with_edit s (edit_of e) q ∙ by q (eq_by_cmp place_cmp q e.0) refl)
     where
-      by : (q : PathParts) (b : Bool) → eq_by_cmp path_cmp q e.0 ≡ b → cond (eq_by_cmp path_cmp q e.0) (larger (Some e.1) (finmap.get s q)) (finmap.get s q) ≡ finmap.get s q
+      by : (q : PlaceParts) (b : Bool) → eq_by_cmp place_cmp q e.0 ≡ b → cond (eq_by_cmp place_cmp q e.0) (larger (Some e.1) (finmap.get s q)) (finmap.get s q) ≡ finmap.get s q
       by q true t =
           ap (λ b. cond b (larger (Some e.1) (finmap.get s q)) (finmap.get s q)) t
-          ∙ not_greater (finmap.get s q) e.1 (ap (λ (k : PathParts). is_rise (finmap.get s k) e.1) (tied q e.0 t) ∙ h)
+          ∙ not_greater (finmap.get s q) e.1 (ap (λ (k : PlaceParts). is_rise (finmap.get s k) e.1) (tied q e.0 t) ∙ h)
       by q false t = ap (λ b. cond b (larger (Some e.1) (finmap.get s q)) (finmap.get s q)) t
 
-  known_all : (es : List (PathParts × Entry)) → IsTrue (is_sorted path_cmp es) → rises s es ≡ 0 → joined s es ≡ s
+  known_all : (es : List (PlaceParts × Entry)) → IsTrue (is_sorted place_cmp es) → rises s es ≡ 0 → joined s es ≡ s
   known_all [] t none = join-nothing s
-  known_all (e ∷ es) t none = by (is_rise (finmap.get s e.0) e.1) refl (known_all es (and_parts (below_all path_cmp e.0 es) _ t).1)
+  known_all (e ∷ es) t none = by (is_rise (finmap.get s e.0) e.1) refl (known_all es (and_parts (below_all place_cmp e.0 es) _ t).1)
     where
       one : rises s (e ∷ es) ≡ cond (is_rise (finmap.get s e.0) e.1) 1 0 + rises s es
       one = count_cons _ e es
@@ -206,26 +206,26 @@ module _ (s : EntryMap) where
 -- ---- entries beside what the other store has
 
 -- how many are greater than what stands beside them, and beside how many there is nothing
-abbrev pub rises_beside : List Compared → ℕ
+abbrev pub rises_beside : List (Compared PlaceParts) → ℕ
 rises_beside bs = count_by (λ b. is_rise b.1 b.0.1) bs
 
-abbrev pub additions_beside : List Compared → ℕ
+abbrev pub additions_beside : List (Compared PlaceParts) → ℕ
 additions_beside bs = count_by (λ b. not (is_some b.1)) bs
 
 -- ---- counts that can't run over
 
-module _ (n : ℕ) (b : Compared) (rest : List Compared) where
-  module _ (s : EntryMap) (all : List (PathParts × Entry)) where
+module _ (n : ℕ) (b : Compared PlaceParts) (rest : List (Compared PlaceParts)) where
+  module _ (s : EntryMap) (all : List (PlaceParts × Entry)) where
     pub room_changed : is_rise b.1 b.0.1 ≡ true → n + rises_beside (b ∷ rest) ≡ rises s all → n + 1 ≤ length all
     room_changed h e =
-        let one = count_cons (λ (x : Compared). is_rise x.1 x.0.1) b rest ∙ ap (λ c. cond c 1 0 + rises_beside rest) h in
-        let most = count_by-le-length (λ (x : PathParts × Entry). is_rise (finmap.get s x.0) x.1) all in
+        let one = count_cons (λ (x : Compared PlaceParts). is_rise x.1 x.0.1) b rest ∙ ap (λ c. cond c 1 0 + rises_beside rest) h in
+        let most = count_by-le-length (λ (x : PlaceParts × Entry). is_rise (finmap.get s x.0) x.1) all in
         omega (arith, one, e, most)
 
     pub room_added : b.1 ≡ None → n + additions_beside (b ∷ rest) ≡ additions s all → n + 1 ≤ length all
     room_added h e =
-        let one = count_cons (λ (x : Compared). not (is_some x.1)) b rest ∙ ap (λ (y : Option Entry). cond (not (is_some y)) 1 0 + additions_beside rest) h in
-        let most = count_by-le-length (λ (x : PathParts × Entry). not (is_some (finmap.get s x.0))) all in
+        let one = count_cons (λ (x : Compared PlaceParts). not (is_some x.1)) b rest ∙ ap (λ (y : Option Entry). cond (not (is_some y)) 1 0 + additions_beside rest) h in
+        let most = count_by-le-length (λ (x : PlaceParts × Entry). not (is_some (finmap.get s x.0))) all in
         omega (arith, one, e, most)
 
 pub rise_none : (x : Option Entry) (y : Entry) → x ≡ None → is_rise x y ≡ true

@@ -10,9 +10,9 @@ use Rattle.std.specs.declared.cmp.Ordering.TheVariants.{Equal}
 use Rattle.join_law.specs.declared.versions.Versioned.{Versioned}
 use Rattle.join_law.specs.declared.versions.Versioned.TheVariants.{Never, At}
 use Rattle.join_law.specs.VersionOrder.{IsUpTo, written_at}
-use Rattle.join_law.specs.VersionedLaws.{never_least, up_to_itself, up_to_chain, both_up}
+use Rattle.join_law.specs.VersionedLaws.{never_least, both_up}
 use Rattle.join_law.specs.Maps.{OptionBelow, or_empty}
-use Rattle.join_law.specs.MapLaws.{map_itself, map_chain}
+use Rattle.join_law.specs.MapLaws.{map_chain}
 use Rattle.join_law.specs.MapOneLaws.{maps_one}
 use Rattle.edit_sums.specs.declared.contents.Content.{Content}
 use Rattle.edit_sums.specs.Contents.{content_cmp}
@@ -21,20 +21,16 @@ use Rattle.edit_sums.specs.Entries.{IsBelow}
 use Rattle.edit_sums.specs.EntryLaws.{below_refl}
 use Rattle.edit_sums.specs.Sums.{EntryMap}
 use Rattle.load_path.specs.Paths.{PathParts}
-use Rattle.path_maps.specs.PathMaps.{NameMap, FolderMap, RankMap, bytes_cmp, NamesBelow, FoldersBelow, RanksBelow, AreNames, AreFolders, AreRanks, look_up, flat}
-use Rattle.path_maps.specs.PathMapLaws.{get-flat}
+use Rattle.load_places.specs.Places.{PlaceParts, scope_cmp}
+use Rattle.load_places.specs.PlaceLaws.{scope_cmp_total, scope_cmp-IsAntisymmetric}
+use Rattle.path_maps.specs.PathMaps.{NameMap, FolderMap, RankMap, bytes_cmp, NamesBelow, FoldersBelow, RanksBelow, AreNames, AreFolders, AreRanks, look_up}
+use Rattle.path_maps.specs.PathMapLaws.{folders_chain, folders_itself, names_chain}
+use Rattle.path_maps.specs.PlaceMaps.{ScopeMap, ScopesBelow, AreScopes, all_held, look_up_place}
+use Rattle.path_maps.specs.PlaceMapLaws.{get-held}
+use Rattle.path_maps.specs.Views.{within}
 
 bytes_same : (x y : List ℕ) → bytes_cmp x y ≡ Equal → x ≡ y
 bytes_same = slice_cmp-IsAntisymmetric nat_cmp-IsAntisymmetric
-
-names_chain : (x y z : NameMap) → NamesBelow x y → NamesBelow y z → NamesBelow x z
-names_chain = map_chain (IsUpTo content_cmp) (up_to_itself content_cmp content_cmp_total) (up_to_chain content_cmp content_cmp_total) bytes_cmp
-
-names_itself : (x : NameMap) → NamesBelow x x
-names_itself = map_itself (IsUpTo content_cmp) (up_to_itself content_cmp content_cmp_total) (up_to_chain content_cmp content_cmp_total) bytes_cmp
-
-folders_chain : (x y z : FolderMap) → FoldersBelow x y → FoldersBelow y z → FoldersBelow x z
-folders_chain = map_chain NamesBelow names_itself names_chain bytes_cmp
 
 pub no_names : (z : NameMap) → NamesBelow [] z
 no_names z = record { at = λ q. tt }
@@ -83,10 +79,29 @@ folders_one = maps_one bytes_cmp NamesBelow nat_list_cmp_total AreNames bytes_sa
 ranks_one : (x y : RankMap) → AreRanks x → AreRanks y → RanksBelow x y × RanksBelow y x → x ≡ y
 ranks_one = maps_one nat_cmp FoldersBelow nat_cmp_total AreFolders nat_cmp-IsAntisymmetric folders_one
 
-pub flat_one : (a b : RankMap) → AreRanks a → AreRanks b → flat a ≡ flat b → a ≡ b
-flat_one a b is_a is_b e =
-    let alike : (q : PathParts) → look_up a q ≡ look_up b q = λ q. sym (get-flat a is_a q) ∙ ap (λ (s : EntryMap). finmap.get s q) e ∙ get-flat b is_b q in
-    ranks_one a b is_a is_b (
-      ranks_from a b (λ q. subst (λ x. IsBelow (look_up a q) x) (alike q) (below_refl (look_up a q))),
-      ranks_from b a (λ q. subst (λ x. IsBelow (look_up b q) x) (sym (alike q)) (below_refl (look_up b q))),
+-- ---- and so it is of places
+
+ranks_chain : (x y z : RankMap) → RanksBelow x y → RanksBelow y z → RanksBelow x z
+ranks_chain = map_chain FoldersBelow folders_itself folders_chain nat_cmp
+
+pub no_ranks : (z : RankMap) → RanksBelow [] z
+no_ranks z = record { at = λ q. tt }
+
+scopes_from : (a b : ScopeMap) → ((q : PlaceParts) → IsBelow (look_up_place a q) (look_up_place b q)) → ScopesBelow a b
+scopes_from a b h = record { at = λ s. by (find scope_cmp s a) (find scope_cmp s b) (λ p. h (within s p)) }
+  where
+    by : (x y : Option RankMap) → ((p : PathParts) → IsBelow (look_up (or_empty x) p) (look_up (or_empty y) p)) → OptionBelow RanksBelow x y
+    by None y h = tt
+    by (Some x) None h = λ z. ranks_chain x [] z (ranks_from x [] h) (no_ranks z)
+    by (Some x) (Some y) h = ranks_from x y h
+
+scopes_one : (x y : ScopeMap) → AreScopes x → AreScopes y → ScopesBelow x y × ScopesBelow y x → x ≡ y
+scopes_one = maps_one scope_cmp RanksBelow scope_cmp_total AreRanks scope_cmp-IsAntisymmetric ranks_one
+
+pub held_one : (a b : ScopeMap) → AreScopes a → AreScopes b → all_held a ≡ all_held b → a ≡ b
+held_one a b is_a is_b e =
+    let alike : (q : PlaceParts) → look_up_place a q ≡ look_up_place b q = λ q. sym (get-held a is_a q) ∙ ap (λ (s : EntryMap). finmap.get s q) e ∙ get-held b is_b q in
+    scopes_one a b is_a is_b (
+      scopes_from a b (λ q. subst (λ x. IsBelow (look_up_place a q) x) (alike q) (below_refl (look_up_place a q))),
+      scopes_from b a (λ q. subst (λ x. IsBelow (look_up_place b q) x) (sym (alike q)) (below_refl (look_up_place b q))),
     )

@@ -1,5 +1,6 @@
 -- A store of one entry is maps of one pair each.
 use Rattle.std.proofs.Common.{◌≡◌, ◌≢◌, ◌≤◌, ℕ, List, [], ◌∷◌, ◌++◌, refl, sym, ap, ◌∙◌, length, arith, length-append}
+use Rattle.std.proofs.lemmas.List.{length-map}
 use Rattle.std.specs.FinMap as finmap
 use Rattle.join_law.specs.Order.{IsLeast}
 use Rattle.join_law.specs.VersionOrder.{IsUpTo}
@@ -7,9 +8,11 @@ use Rattle.join_law.specs.Maps.{AllHeld, IsSinglePair}
 use Rattle.edit_sums.specs.Contents.{content_cmp}
 use Rattle.edit_sums.specs.Sums.{EntryMap}
 use Rattle.path_maps.specs.Spread.{spread}
-use Rattle.path_maps.specs.PathMaps.{NameMap, FolderMap, RankMap, NamesBelow, FoldersBelow, AreNames, AreFolders, AreRanks, at_name, in_folder, in_rank, flat}
-use Rattle.path_maps.specs.PathMapLaws.{entries-flat}
-use Rattle.path_maps.proofs.LeftBehind.{at_name_some, in_folder_some, in_rank_some}
+use Rattle.load_places.specs.declared.places.Scope.{Scope}
+use Rattle.path_maps.specs.PathMaps.{NameMap, FolderMap, RankMap, NamesBelow, FoldersBelow, RanksBelow, AreNames, AreFolders, AreRanks, at_name, in_folder, in_rank, listed}
+use Rattle.path_maps.specs.PlaceMaps.{ScopeMap, AreScopes, all_held, in_scope}
+use Rattle.path_maps.specs.PlaceMapLaws.{entries-held}
+use Rattle.path_maps.proofs.LeftBehind.{at_name_some, in_folder_some, in_rank_some, in_scope_some}
 
 some_length : {A : Type 0} (xs : List A) → xs ≢ [] → 1 ≤ length xs
 some_length [] h = absurd (h refl)
@@ -41,8 +44,15 @@ single_folders : (rank : ℕ) (folders : FolderMap) → AreFolders folders → l
 single_folders rank folders is =
     single_spread (in_folder rank) NamesBelow AreNames IsSingleName (in_folder_some rank) (single_names rank) folders is.held
 
+single_ranks : (ranks : RankMap) → AreRanks ranks → length (listed ranks) ≡ 1 → IsSinglePair (IsSinglePair IsSingleName) ranks
+single_ranks ranks is =
+    single_spread in_rank FoldersBelow AreFolders (IsSinglePair IsSingleName) in_rank_some single_folders ranks is.held
+
+single_placed : (scope : Scope) (ranks : RankMap) → AreRanks ranks → length (in_scope scope ranks) ≡ 1 → IsSinglePair (IsSinglePair IsSingleName) ranks
+single_placed scope ranks is one = single_ranks ranks is (sym (length-map (listed ranks) _) ∙ one)
+
 -- the maps of a store of one entry
-pub single_ranks : (m : RankMap) (s : EntryMap) → flat m ≡ s → AreRanks m → finmap.len s ≡ 1 → IsSinglePair (IsSinglePair IsSingleName) m
-single_ranks m s e is one =
-    single_spread in_rank FoldersBelow AreFolders (IsSinglePair IsSingleName) in_rank_some single_folders m is.held
-    (ap length (sym (entries-flat m is)) ∙ sym (finmap.len-entries (flat m)) ∙ ap (λ (t : EntryMap). finmap.len t) e ∙ one)
+pub single_scopes : (m : ScopeMap) (s : EntryMap) → all_held m ≡ s → AreScopes m → finmap.len s ≡ 1 → IsSinglePair (IsSinglePair (IsSinglePair IsSingleName)) m
+single_scopes m s e is one =
+    single_spread in_scope RanksBelow AreRanks (IsSinglePair (IsSinglePair IsSingleName)) in_scope_some single_placed m is.held
+    (ap length (sym (entries-held m is)) ∙ sym (finmap.len-entries (all_held m)) ∙ ap (λ (t : EntryMap). finmap.len t) e ∙ one)

@@ -1,4 +1,4 @@
--- A store that is below another holds no more paths.
+-- A store that is below another holds no more places.
 use Rattle.std.proofs.Common.{◌≡◌, ◌≤◌, Bool, true, false, cond, List, [], ◌∷◌, length, Option, Some, None, IsTrue, IsSome, refl, sym, ap, subst, ◌∙◌, arith}
 use Rattle.std.specs.Prelude.{◌&&◌}
 use Rattle.std.proofs.lemmas.Bool.{and_parts}
@@ -9,8 +9,8 @@ use Rattle.std.specs.FinMap as finmap
 use Rattle.std.specs.FinMap.Entries.{find, is_sorted, below_all}
 use Rattle.list_laws.specs.Truths.{from_T}
 use Rattle.list_laws.specs.Orderings.{is_less}
-use Rattle.load_path.specs.Paths.{PathParts, path_cmp}
-use Rattle.load_path.specs.PathLaws.{path_cmp_total}
+use Rattle.load_places.specs.Places.{PlaceParts, place_cmp}
+use Rattle.load_places.specs.PlaceLaws.{place_cmp_total}
 use Rattle.edit_sums.specs.Entries.{Entry, IsBelow}
 use Rattle.edit_sums.specs.Sums.{EntryMap, IsStoreBelow}
 use Rattle.edit_sums.specs.GreatestLaws.{same_place, tied}
@@ -18,63 +18,63 @@ use Rattle.path_maps.specs.SpreadLaws.{find_below}
 use Rattle.path_maps.proofs.Rises.{found_entry}
 
 abbrev Pairs : Type 0
-Pairs = List (PathParts × Entry)
+Pairs = List (PlaceParts × Entry)
 
 none_some : (x : Option Entry) → x ≡ None → IsSome x → ⊥
 none_some x e h = let wrong = subst (λ (y : Option Entry). IsSome y) e h in cc (wrong)
 
 -- a key below all of these ties with none that is found there
-apart : (k q : PathParts) (es : Pairs) → IsTrue (below_all path_cmp k es) → IsSome (find path_cmp q es) → eq_by_cmp path_cmp q k ≡ true → ⊥
-apart k q es b h t = none_some (find path_cmp q es) (ap (λ (p : PathParts). find path_cmp p es) (tied q k t) ∙ find_below path_cmp k es b) h
+apart : (k q : PlaceParts) (es : Pairs) → IsTrue (below_all place_cmp k es) → IsSome (find place_cmp q es) → eq_by_cmp place_cmp q k ≡ true → ⊥
+apart k q es b h t = none_some (find place_cmp q es) (ap (λ (p : PlaceParts). find place_cmp p es) (tied q k t) ∙ find_below place_cmp k es b) h
 
 -- what is found, and not at the first
-behind : (q : PathParts) (y : PathParts × Entry) (ys : Pairs) (b : Bool) → eq_by_cmp path_cmp q y.0 ≡ b → (eq_by_cmp path_cmp q y.0 ≡ true → ⊥) → IsSome (cond b (Some y.1) (find path_cmp q ys)) → IsSome (find path_cmp q ys)
+behind : (q : PlaceParts) (y : PlaceParts × Entry) (ys : Pairs) (b : Bool) → eq_by_cmp place_cmp q y.0 ≡ b → (eq_by_cmp place_cmp q y.0 ≡ true → ⊥) → IsSome (cond b (Some y.1) (find place_cmp q ys)) → IsSome (find place_cmp q ys)
 behind q y ys true t no_tie h = absurd (no_tie t)
 behind q y ys false t no_tie h = h
 
 -- what is found among the rest is found
-further : (q : PathParts) (x : PathParts × Entry) (xs : Pairs) (b : Bool) → IsSome (find path_cmp q xs) → IsSome (cond b (Some x.1) (find path_cmp q xs))
+further : (q : PlaceParts) (x : PlaceParts × Entry) (xs : Pairs) (b : Bool) → IsSome (find place_cmp q xs) → IsSome (cond b (Some x.1) (find place_cmp q xs))
 further q x xs true h = refl
 further q x xs false h = h
 
-below_further : (k : PathParts) (x : PathParts × Entry) (xs : Pairs) → path_cmp k x.0 ≡ Less → IsTrue (below_all path_cmp x.0 xs) → IsTrue (below_all path_cmp k (x ∷ xs))
+below_further : (k : PlaceParts) (x : PlaceParts × Entry) (xs : Pairs) → place_cmp k x.0 ≡ Less → IsTrue (below_all place_cmp x.0 xs) → IsTrue (below_all place_cmp k (x ∷ xs))
 below_further k x xs less b = both _ _ (ap is_lt less) (all xs b)
   where
     both : (a b : Bool) → IsTrue a → IsTrue b → IsTrue (a && b)
     both true b p q = q
     both false b p q = cc (p)
 
-    all : (es : Pairs) → IsTrue (below_all path_cmp x.0 es) → IsTrue (below_all path_cmp k es)
+    all : (es : Pairs) → IsTrue (below_all place_cmp x.0 es) → IsTrue (below_all place_cmp k es)
     all [] h = refl
-    all (e ∷ es) h = let p = and_parts _ _ h in both _ _ (ap is_lt (path_cmp_total.trans k x.0 e.0 less (is_less _ p.0))) (all es p.1)
+    all (e ∷ es) h = let p = and_parts _ _ h in both _ _ (ap is_lt (place_cmp_total.trans k x.0 e.0 less (is_less _ p.0))) (all es p.1)
 
-lengths : (xs ys : Pairs) → IsTrue (is_sorted path_cmp xs) → IsTrue (is_sorted path_cmp ys) → ((q : PathParts) → IsSome (find path_cmp q xs) → IsSome (find path_cmp q ys)) → length xs ≤ length ys
+lengths : (xs ys : Pairs) → IsTrue (is_sorted place_cmp xs) → IsTrue (is_sorted place_cmp ys) → ((q : PlaceParts) → IsSome (find place_cmp q xs) → IsSome (find place_cmp q ys)) → length xs ≤ length ys
 lengths [] ys s t h = omega arith
 lengths (x ∷ xs) [] s t h = absurd (none_some None refl (h x.0 (first x xs)))
   where
-    first : (x : PathParts × Entry) (xs : Pairs) → IsSome (find path_cmp x.0 (x ∷ xs))
-    first x xs = subst (λ b. IsSome (cond b (Some x.1) (find path_cmp x.0 xs))) (sym (same_place x.0)) refl
-lengths (x ∷ xs) (y ∷ ys) s t h = by (path_cmp x.0 y.0) refl (lengths xs ys (and_parts (below_all path_cmp x.0 xs) _ s).1 (and_parts (below_all path_cmp y.0 ys) _ t).1) (lengths (x ∷ xs) ys s (and_parts (below_all path_cmp y.0 ys) _ t).1)
+    first : (x : PlaceParts × Entry) (xs : Pairs) → IsSome (find place_cmp x.0 (x ∷ xs))
+    first x xs = subst (λ b. IsSome (cond b (Some x.1) (find place_cmp x.0 xs))) (sym (same_place x.0)) refl
+lengths (x ∷ xs) (y ∷ ys) s t h = by (place_cmp x.0 y.0) refl (lengths xs ys (and_parts (below_all place_cmp x.0 xs) _ s).1 (and_parts (below_all place_cmp y.0 ys) _ t).1) (lengths (x ∷ xs) ys s (and_parts (below_all place_cmp y.0 ys) _ t).1)
   where
-    below_x : IsTrue (below_all path_cmp x.0 xs)
-    below_x = (and_parts (below_all path_cmp x.0 xs) _ s).0
+    below_x : IsTrue (below_all place_cmp x.0 xs)
+    below_x = (and_parts (below_all place_cmp x.0 xs) _ s).0
 
-    below_y : IsTrue (below_all path_cmp y.0 ys)
-    below_y = (and_parts (below_all path_cmp y.0 ys) _ t).0
+    below_y : IsTrue (below_all place_cmp y.0 ys)
+    below_y = (and_parts (below_all place_cmp y.0 ys) _ t).0
 
-    here : IsSome (find path_cmp x.0 (x ∷ xs))
-    here = subst (λ b. IsSome (cond b (Some x.1) (find path_cmp x.0 xs))) (sym (same_place x.0)) refl
+    here : IsSome (find place_cmp x.0 (x ∷ xs))
+    here = subst (λ b. IsSome (cond b (Some x.1) (find place_cmp x.0 xs))) (sym (same_place x.0)) refl
 
-    by : (r : Ordering) → path_cmp x.0 y.0 ≡ r → (((q : PathParts) → IsSome (find path_cmp q xs) → IsSome (find path_cmp q ys)) → length xs ≤ length ys) → (((q : PathParts) → IsSome (find path_cmp q (x ∷ xs)) → IsSome (find path_cmp q ys)) → length (x ∷ xs) ≤ length ys) → length (x ∷ xs) ≤ length (y ∷ ys)
-    by Less o rest all = absurd (none_some (find path_cmp x.0 (y ∷ ys)) (find_below path_cmp x.0 (y ∷ ys) (below_further x.0 y ys o below_y)) (h x.0 here))
+    by : (r : Ordering) → place_cmp x.0 y.0 ≡ r → (((q : PlaceParts) → IsSome (find place_cmp q xs) → IsSome (find place_cmp q ys)) → length xs ≤ length ys) → (((q : PlaceParts) → IsSome (find place_cmp q (x ∷ xs)) → IsSome (find place_cmp q ys)) → length (x ∷ xs) ≤ length ys) → length (x ∷ xs) ≤ length (y ∷ ys)
+    by Less o rest all = absurd (none_some (find place_cmp x.0 (y ∷ ys)) (find_below place_cmp x.0 (y ∷ ys) (below_further x.0 y ys o below_y)) (h x.0 here))
     by Equal o rest all =
-        let one = rest (λ q f. behind q y ys (eq_by_cmp path_cmp q y.0) refl
-        (λ e. apart x.0 q xs below_x f (ap (λ (p : PathParts). eq_by_cmp path_cmp p x.0) (tied q y.0 e) ∙ ap is_eq (path_cmp_total.antisymm y.0 x.0 ∙ ap ordering_reverse o)))
-        (h q (further q x xs (eq_by_cmp path_cmp q x.0) f))) in
+        let one = rest (λ q f. behind q y ys (eq_by_cmp place_cmp q y.0) refl
+        (λ e. apart x.0 q xs below_x f (ap (λ (p : PlaceParts). eq_by_cmp place_cmp p x.0) (tied q y.0 e) ∙ ap is_eq (place_cmp_total.antisymm y.0 x.0 ∙ ap ordering_reverse o)))
+        (h q (further q x xs (eq_by_cmp place_cmp q x.0) f))) in
         omega (arith, one)
     by Greater o rest all =
-        let less = path_cmp_total.antisymm y.0 x.0 ∙ ap ordering_reverse o in
-        let more = all (λ q f. behind q y ys (eq_by_cmp path_cmp q y.0) refl (λ e. apart y.0 q (x ∷ xs) (below_further y.0 x xs less below_x) f e) (h q f)) in
+        let less = place_cmp_total.antisymm y.0 x.0 ∙ ap ordering_reverse o in
+        let more = all (λ q f. behind q y ys (eq_by_cmp place_cmp q y.0) refl (λ e. apart y.0 q (x ∷ xs) (below_further y.0 x xs less below_x) f e) (h q f)) in
         omega (arith, more)
 
 pub held_above : (x y : Option Entry) → IsBelow x y → IsSome x → IsSome y

@@ -8,7 +8,9 @@ use Rattle.load_path.specs.Paths.{PathParts, IsPath}
 use Rattle.edit_sums.specs.Contents.{content_cmp}
 use Rattle.edit_sums.specs.Entries.{Entry}
 use Rattle.path_maps.specs.Spread.{AllKeys}
+use Rattle.load_places.specs.Places.{PlaceParts}
 use Rattle.path_maps.specs.PathMaps.{NameMap, FolderMap, RankMap, NamesBelow, FoldersBelow, AreNames, AreFolders, in_folder, in_rank, listed}
+use Rattle.path_maps.specs.PlaceMaps.{ScopeMap, in_scope}
 
 -- names, folders and ranks that are left: each has something, and all paths are lawful
 pub record AreNamesLeft (rank : ℕ) (folder : List ℕ) (names : NameMap) : Type 0 where
@@ -29,6 +31,10 @@ by_folder rank = map (λ f. in_folder rank f.0 f.1)
 
 abbrev pub by_rank : RankMap → List (List (List (PathParts × Entry)))
 by_rank = map (λ r. by_folder r.0 r.1)
+
+-- the entries of each scope
+abbrev pub by_scope : ScopeMap → List (List (PlaceParts × Entry))
+by_scope = map (λ s. in_scope s.0 s.1)
 
 -- what something that may be absent has: then nothing
 abbrev pub in_hand : {A B : Type 0} → (A → List B) → Option A → List B

@@ -3,9 +3,11 @@
 use Rattle.std.specs.Prelude.{◌≡◌, ℕ, Bool, ◌==◌, ◌&&◌, Some, List, slice_index_or}
 use Rattle.std.specs.Str.{bytes_eq}
 use Rattle.std.specs.FinMap.{find}
-use Rattle.std.specs.Ordering.{nat_cmp}
+use Rattle.std.specs.Ordering.{nat_cmp, eq_by_cmp}
 use Rattle.join_law.specs.Maps.{or_empty}
 use Rattle.load_path.specs.Paths.{PathParts}
+use Rattle.load_places.specs.Places.{PlaceParts, scope_cmp}
+use Rattle.load_places.specs.declared.places.Scope.{Scope}
 use Rattle.path_maps.specs.PathMaps.{RankMap, NameMap, bytes_cmp}
 
 -- the path of these parts
@@ -15,6 +17,10 @@ path_at rank folder name = record { rank = rank; folder = folder; name = name }
 -- the path is in this folder of the directory of this rank; the empty folder has the paths of one component
 abbrev pub is_in : ℕ → List ℕ → PathParts → Bool
 is_in rank folder path = (path.rank == rank) && bytes_eq path.folder folder
+
+-- the place is in this scope, and its path in this folder
+abbrev pub is_within : Scope → ℕ → List ℕ → PlaceParts → Bool
+is_within scope rank folder place = eq_by_cmp scope_cmp scope place.scope && is_in rank folder place.path
 
 -- the names of a folder: two look-ups
 abbrev pub names_in : RankMap → ℕ → List ℕ → NameMap

@@ -1,10 +1,14 @@
 pub mod Spread
 pub mod SpreadLaws
+pub mod Views
 pub mod PathMaps
 pub mod PathMapLaws
+pub mod PlaceMaps
+pub mod PlaceMapLaws
 pub mod Folders
 pub mod FolderLaws
 pub mod Kept
 pub mod Cursors
 pub mod Beside
 pub mod Changes
+pub mod ViewLaws

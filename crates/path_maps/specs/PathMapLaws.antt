@@ -1,4 +1,4 @@
--- What the map from paths to entries holds, and what joins of maps of maps are in it.
+-- What the map from paths to entries holds, and what look-ups find in joins of maps of maps.
 use Rattle.std.specs.Prelude.{◌≡◌, ℕ, List, [], ◌∷◌, Option, Some, None, true, false, cond, refl, IsTrue, ◌↔◌}
 use Rattle.std.specs.Option.{option_and_then}
 use Rattle.std.specs.Ordering.{nat_cmp, ordering_then, eq_by_cmp, is_eq}
@@ -27,9 +27,6 @@ use Rattle.edit_sums.specs.declared.contents.Content.{Content}
 use Rattle.edit_sums.specs.Contents.{content_cmp}
 use Rattle.edit_sums.specs.ContentLaws.{content_cmp_total, content_cmp-IsAntisymmetric}
 use Rattle.edit_sums.specs.Entries.{IsBelow, larger}
-use Rattle.edit_sums.specs.Sums.{IsStoreBelow, join}
-use Rattle.edit_sums.specs.SumLaws.{same_store}
-use Rattle.edit_sums.specs.GreatestLaws.{get-join}
 use Rattle.path_maps.specs.Spread.{spread, AllKeys, AllValues}
 use Rattle.path_maps.specs.SpreadLaws.{find-spread, sorted-spread, all_keys-append, all_keys_weaker}
 use Rattle.path_maps.specs.PathMaps.{NameMap, FolderMap, RankMap, bytes_cmp, NamesBelow, FoldersBelow, RanksBelow, AreNames, AreFolders, AreRanks, look_up, at_name, in_folder, in_rank, listed, flat}
@@ -90,7 +87,7 @@ by_rank k l a b less p q =
     (λ i. ordering_then (nat_cmp (p i) (q i)) (ordering_then (bytes_cmp a.folder b.folder) (bytes_cmp a.name b.name)))
     ∙ ap (λ r. ordering_then r (ordering_then (bytes_cmp a.folder b.folder) (bytes_cmp a.name b.name))) less
 
-all_lawful : {K V : Type 0} (below : V → V → Type 0) (valid : V → Type 0) (es : List (K × V)) → AllHeld below valid es → AllValues valid es
+pub all_lawful : {K V : Type 0} (below : V → V → Type 0) (valid : V → Type 0) (es : List (K × V)) → AllHeld below valid es → AllValues valid es
 all_lawful below valid [] h = tt
 all_lawful below valid (e ∷ es) h = (h.0.lawful, all_lawful below valid es h.1)
 
@@ -153,7 +150,7 @@ find-in_rank q folders m =
     by None e = refl
     by (Some names) e = find-in_folder q names (found_lawful bytes_cmp NamesBelow AreNames q.folder folders m.held names e).sorted
 
-find-listed : (m : RankMap) → AreRanks m → (q : PathParts) → find path_cmp q (listed m) ≡ look_up m q
+pub find-listed : (m : RankMap) → AreRanks m → (q : PathParts) → find path_cmp q (listed m) ≡ look_up m q
 find-listed m is q =
     find-spread nat_cmp path_cmp IsInRank in_rank of_rank nat_cmp_total nat_cmp-IsAntisymmetric path_cmp-IsAntisymmetric q q.rank (λ l at. sym at) m is.sorted
     ∙ by (find nat_cmp q.rank m) refl
@@ -174,10 +171,10 @@ leaf_itself = up_to_itself content_cmp content_cmp_total
 leaf_chain : (x y z : Versioned Content) → IsUpTo content_cmp x y → IsUpTo content_cmp y z → IsUpTo content_cmp x z
 leaf_chain = up_to_chain content_cmp content_cmp_total
 
-names_itself : (x : NameMap) → NamesBelow x x
+pub names_itself : (x : NameMap) → NamesBelow x x
 names_itself = map_itself (IsUpTo content_cmp) leaf_itself leaf_chain bytes_cmp
 
-names_chain : (x y z : NameMap) → NamesBelow x y → NamesBelow y z → NamesBelow x z
+pub names_chain : (x y z : NameMap) → NamesBelow x y → NamesBelow y z → NamesBelow x z
 names_chain = map_chain (IsUpTo content_cmp) leaf_itself leaf_chain bytes_cmp
 
 abbrev leaf_union : Versioned Content → Versioned Content → Versioned Content
@@ -186,56 +183,45 @@ leaf_union = versioned_max content_cmp
 leaf_joins : (x y : Versioned Content) → IsJoin (IsUpTo content_cmp) x y (leaf_union x y)
 leaf_joins = max_joins content_cmp content_cmp_total
 
-abbrev names_union : NameMap → NameMap → NameMap
+abbrev pub names_union : NameMap → NameMap → NameMap
 names_union = map_union bytes_cmp leaf_union
 
-names_joins : (x y : NameMap) → IsJoin NamesBelow x y (names_union x y)
+pub names_joins : (x y : NameMap) → IsJoin NamesBelow x y (names_union x y)
 names_joins = union_joins bytes_cmp nat_list_cmp_total (IsUpTo content_cmp) leaf_union leaf_joins
 
+pub folders_itself : (x : FolderMap) → FoldersBelow x x
+folders_itself = map_itself NamesBelow names_itself names_chain bytes_cmp
+
+pub folders_chain : (x y z : FolderMap) → FoldersBelow x y → FoldersBelow y z → FoldersBelow x z
+folders_chain = map_chain NamesBelow names_itself names_chain bytes_cmp
+
+abbrev pub folders_union : FolderMap → FolderMap → FolderMap
+folders_union = map_union bytes_cmp names_union
+
+pub folders_joins : (x y : FolderMap) → IsJoin FoldersBelow x y (folders_union x y)
+folders_joins = union_joins bytes_cmp nat_list_cmp_total NamesBelow names_union names_joins
+
 -- what the first of two maps that are below each other has at a path is at most what the second has
-look_up_below : (a b : RankMap) → RanksBelow a b → (q : PathParts) → IsBelow (look_up a q) (look_up b q)
+pub look_up_below : (a b : RankMap) → RanksBelow a b → (q : PathParts) → IsBelow (look_up a q) (look_up b q)
 look_up_below a b h q =
     leaf_below content_cmp content_cmp_total content_cmp-IsAntisymmetric bytes_cmp nat_list_cmp_total q.name _ _
     (level_below bytes_cmp nat_list_cmp_total bytes_cmp nat_list_cmp_total (IsUpTo content_cmp) leaf_itself leaf_chain q.folder _ _
     (level_below nat_cmp nat_cmp_total bytes_cmp nat_list_cmp_total NamesBelow names_itself names_chain q.rank a b h))
 
-look_up_join : (a b c : RankMap) → IsJoin RanksBelow a b c → (q : PathParts) → look_up c q ≡ larger (look_up a q) (look_up b q)
+pub look_up_join : (a b c : RankMap) → IsJoin RanksBelow a b c → (q : PathParts) → look_up c q ≡ larger (look_up a q) (look_up b q)
 look_up_join a b c j q =
     leaf_join content_cmp content_cmp_total content_cmp-IsAntisymmetric bytes_cmp nat_list_cmp_total q.name _ _ _
     (level_join bytes_cmp nat_list_cmp_total bytes_cmp nat_list_cmp_total (IsUpTo content_cmp) leaf_itself leaf_chain q.folder _ _ _
     (level_join nat_cmp nat_cmp_total bytes_cmp nat_list_cmp_total NamesBelow names_itself names_chain q.rank a b c j))
 
-look_up_between : (a b v : RankMap) → IsBetween RanksBelow a b v → (q : PathParts) → IsBelow (look_up v q) (larger (look_up a q) (look_up b q))
+pub look_up_between : (a b v : RankMap) → IsBetween RanksBelow a b v → (q : PathParts) → IsBelow (look_up v q) (larger (look_up a q) (look_up b q))
 look_up_between a b v j q =
     leaf_between content_cmp content_cmp_total content_cmp-IsAntisymmetric bytes_cmp nat_list_cmp_total q.name _ _ _
     (level_between bytes_cmp nat_list_cmp_total bytes_cmp nat_list_cmp_total (IsUpTo content_cmp) leaf_itself leaf_chain q.folder leaf_union leaf_joins _ _ _
     (level_between nat_cmp nat_cmp_total bytes_cmp nat_list_cmp_total NamesBelow names_itself names_chain q.rank names_union names_joins a b v j))
 
-look_up_bounds : (a b v r : RankMap) → ((z : RankMap) → (RanksBelow v z × RanksBelow r z) ↔ (RanksBelow a z × RanksBelow b z)) → (q : PathParts) → larger (look_up v q) (look_up r q) ≡ larger (look_up a q) (look_up b q)
+pub look_up_bounds : (a b v r : RankMap) → ((z : RankMap) → (RanksBelow v z × RanksBelow r z) ↔ (RanksBelow a z × RanksBelow b z)) → (q : PathParts) → larger (look_up v q) (look_up r q) ≡ larger (look_up a q) (look_up b q)
 look_up_bounds a b v r h q =
     leaf_bounds content_cmp content_cmp_total content_cmp-IsAntisymmetric bytes_cmp nat_list_cmp_total q.name _ _ _ _
     (level_bounds bytes_cmp nat_list_cmp_total bytes_cmp nat_list_cmp_total (IsUpTo content_cmp) leaf_itself leaf_chain q.folder leaf_union leaf_joins _ _ _ _
     (level_bounds nat_cmp nat_cmp_total bytes_cmp nat_list_cmp_total NamesBelow names_itself names_chain q.rank names_union names_joins a b v r h))
-
-module _ (a b v : RankMap) (is_a : AreRanks a) (is_b : AreRanks b) (is_v : AreRanks v) where
-  -- a join of maps of maps is the join of the maps
-  pub flat-join : IsJoin RanksBelow a b v → flat v ≡ join (flat a) (flat b)
-  flat-join j = same_store (flat v) (join (flat a) (flat b))
-      (λ q. get-flat v is_v q ∙ look_up_join a b v j q ∙ (λ i. larger (sym (get-flat a is_a q) i) (sym (get-flat b is_b q) i)) ∙ sym (get-join (flat a) (flat b) q))
-
-  -- what lies between, lies between
-  pub flat-below : RanksBelow a v → IsStoreBelow (flat a) (flat v)
-  flat-below h q =
-      subst (λ x. IsBelow x (finmap.get (flat v) q)) (sym (get-flat a is_a q))
-      (subst (λ y. IsBelow (look_up a q) y) (sym (get-flat v is_v q)) (look_up_below a v h q))
-
-  pub flat-between : IsBetween RanksBelow a b v → IsStoreBelow (flat v) (join (flat a) (flat b))
-  flat-between j q =
-      subst (λ x. IsBelow x (finmap.get (join (flat a) (flat b)) q)) (sym (get-flat v is_v q))
-      (subst (λ y. IsBelow (look_up v q) y) ((λ i. larger (sym (get-flat a is_a q) i) (sym (get-flat b is_b q) i)) ∙ sym (get-join (flat a) (flat b) q)) (look_up_between a b v j q))
-
-  -- and what is left gives the join
-  pub flat-rest : (r : RankMap) → AreRanks r → ((z : RankMap) → (RanksBelow v z × RanksBelow r z) ↔ (RanksBelow a z × RanksBelow b z)) → join (flat v) (flat r) ≡ join (flat a) (flat b)
-  flat-rest r is_r h = same_store (join (flat v) (flat r)) (join (flat a) (flat b))
-      (λ q. get-join (flat v) (flat r) q ∙ (λ i. larger (get-flat v is_v q i) (get-flat r is_r q i)) ∙ look_up_bounds a b v r h q
-      ∙ (λ i. larger (sym (get-flat a is_a q) i) (sym (get-flat b is_b q) i)) ∙ sym (get-join (flat a) (flat b) q))

@@ -1,15 +1,17 @@
-//! The entries of one store, one after another in path order, each with what another holds at its path.
+//! The entries of a scope, one after another in path order, each with what another store holds at its path there.
 ghost use Rattle.std.specs.Prelude.{◌≡◌, ◌∷◌, [], MatchOption};
+ghost use Rattle.std.specs.FinMap.{find};
 ghost use Rattle.std.specs.Option.{option_copied};
+ghost use Rattle.std.specs.Ordering.{nat_cmp};
 ghost use Rattle.join_law.specs.VersionOrder.{written_at};
 ghost use Rattle.join_law.specs.Maps.{or_empty};
 ghost use Rattle.load_path.specs.Paths.{IsPath};
 ghost use Rattle.path_maps.specs.Beside.{ranks_beside};
-ghost use Rattle.path_maps.specs.PathMaps.{AreNames, AreFolders, AreRanks, listed};
+ghost use Rattle.path_maps.specs.PathMaps.{AreNames, AreFolders, listed};
 ghost use Rattle.path_maps.specs.Spread.{AllKeys};
 
 use crate::cursors::{Cursor, Nested};
-use crate::entries::Placed;
+use crate::entries::SeenEntry;
 use crate::meets::meet;
 use crate::stores::{FolderMap, NameMap, RankMap};
 use edit_sums::{Content, Entry};
@@ -17,18 +19,19 @@ use join_law::Versioned;
 use plain_values::Bytes;
 use std::marker::Model;
 
-// An entry with its path, and what another store holds there.
+// An entry that says where it stands, and what another store holds there.
 #[derive(Drop)]
-struct Both<'a> {
-    placed: Placed<'a>,
-    held: Option<&'a Entry>,
+pub(crate) struct Both<'a, P: Drop> {
+    pub(crate) placed: P,
+    pub(crate) held: Option<&'a Entry>,
 }
 
-impl<'a> Model for Both<'a> {
+impl<'a, P: Drop> Model for Both<'a, P> {
+    ghost use Rattle.std.specs.Prelude.{Option};
     ghost use Rattle.std.specs.Option.{option_copied};
-    ghost use Rattle.path_maps.specs.Beside.{Compared};
+    ghost use Rattle.edit_sums.specs.Entries.{Entry};
 
-    ghost Value = { Compared };
+    ghost Value = { P × Option Entry };
 
     ghost view = { λ b. (b.placed, option_copied b.held) };
 }
@@ -44,20 +47,21 @@ struct NamesBeside<'a> {
 
 impl<'a> Model for NamesBeside<'a> {
     ghost use Rattle.std.specs.Prelude.{List};
+    ghost use Rattle.load_path.specs.Paths.{PathParts};
     ghost use Rattle.path_maps.specs.Beside.{AreNamesBeside, Compared, names_beside};
 
-    ghost Value = { List Compared };
+    ghost Value = { List (Compared PathParts) };
 
     ghost view = { λ n. names_beside n.rank n.folder.now n.names.now n.others.now };
 
     ghost invariant = { λ n. AreNamesBeside n.rank n.folder.now n.names.now n.others.now };
 }
 
-impl<'a> Cursor<Both<'a>> for NamesBeside<'a> {
+impl<'a> Cursor<Both<'a, SeenEntry<'a>>> for NamesBeside<'a> {
     ghost left = { λ n. n };
 
     #[inline(always)]
-    fn next(&mut self) -> Option<Both<'a>> {
+    fn next(&mut self) -> Option<Both<'a, SeenEntry<'a>>> {
         let ((name, value), rest) = self.names.split_first()?;
         let entry = value.entry()?;
         let (held, others) = meet(self.others, name);
@@ -65,7 +69,7 @@ impl<'a> Cursor<Both<'a>> for NamesBeside<'a> {
         self.names = rest;
         self.others = others;
         Some(Both {
-            placed: Placed::new(rank, folder, name, entry),
+            placed: SeenEntry::new(rank, folder, name, entry),
             held: entry_of(held),
         })
     }
@@ -92,9 +96,10 @@ struct FoldersBeside<'a> {
 
 impl<'a> Model for FoldersBeside<'a> {
     ghost use Rattle.std.specs.Prelude.{List};
+    ghost use Rattle.load_path.specs.Paths.{PathParts};
     ghost use Rattle.path_maps.specs.Beside.{AreFoldersBeside, Compared, by_folder_beside};
 
-    ghost Value = { List (List Compared) };
+    ghost Value = { List (List (Compared PathParts)) };
 
     ghost view = { λ f. by_folder_beside f.rank f.folders.now f.others.now };
 
@@ -131,21 +136,24 @@ fn names_of<'a>(held: Option<&'a NameMap>) -> &'a [(Bytes, Versioned<Content>)]
     }
 }
 
-// The ranks that are left, and the ranks of another store.
+// The ranks that are left of a scope, and the ranks of the same scope of another store, if it has any.
 #[derive(Drop)]
 struct RanksBeside<'a> {
     ranks: &'a [(u8, FolderMap)],
-    others: &'a RankMap,
+    others: Option<&'a RankMap>,
 }
 
 impl<'a> Model for RanksBeside<'a> {
     ghost use Rattle.std.specs.Prelude.{List};
+    ghost use Rattle.load_path.specs.Paths.{PathParts};
+    ghost use Rattle.std.specs.Option.{option_copied};
+    ghost use Rattle.join_law.specs.Maps.{or_empty};
     ghost use Rattle.path_maps.specs.Beside.{Compared, by_rank_beside};
     ghost use Rattle.path_maps.specs.Cursors.{AreRanksLeft};
 
-    ghost Value = { List (List (List Compared)) };
+    ghost Value = { List (List (List (Compared PathParts))) };
 
-    ghost view = { λ r. by_rank_beside r.ranks.now r.others.now };
+    ghost view = { λ r. by_rank_beside r.ranks.now (or_empty (option_copied r.others)) };
 
     ghost invariant = { λ r. AreRanksLeft r.ranks.now };
 }
@@ -160,53 +168,58 @@ impl<'a> Cursor<FoldersBeside<'a>> for RanksBeside<'a> {
         Some(FoldersBeside {
             rank: *rank,
             folders: folders.pairs(),
-            others: folders_of(self.others.get(rank)),
+            others: folders_of(self.others, *rank),
         })
     }
 }
 
-// The folders of a rank that may be there.
-fn folders_of<'a>(held: Option<&'a FolderMap>) -> &'a [(Bytes, NameMap)]
-    ensures folders { result.now ≡ or_empty (option_copied held.entry) }
+// The folders of a rank, where there are ranks.
+fn folders_of<'a>(ranks: Option<&'a RankMap>, rank: u8) -> &'a [(Bytes, NameMap)]
+    ensures folders { result.now ≡ or_empty (find nat_cmp rank (or_empty (option_copied ranks.entry))) }
     ensures map { AreFolders result.now }
 {
-    match held {
+    let found = match ranks {
+        None => None,
+        Some(ranks) => ranks.get(&rank),
+    };
+    match found {
         None => &[],
         Some(folders) => folders.pairs(),
     }
 }
 
-/// The entries of a store that are left, in path order, each with what another store holds at its path.
-///
-/// Both are read side by side: an entry costs a comparison or two where the other holds the paths between, and a search
-/// where it holds many more.
+// The entries of a scope that are left, in path order, each with what another store holds at its path there.
+//
+// Both are read side by side: an entry costs a comparison or two where the other holds the paths between, and a search
+// where it holds many more.
 #[derive(Drop)]
-pub struct Beside<'a> {
+pub(crate) struct PathsBeside<'a> {
     // By folder and by rank.
     entries: Nested<NamesBeside<'a>, Nested<FoldersBeside<'a>, RanksBeside<'a>>>,
 }
 
-impl<'a> Model for Beside<'a> {
+impl<'a> Model for PathsBeside<'a> {
     ghost use Rattle.std.specs.Prelude.{List};
+    ghost use Rattle.load_path.specs.Paths.{PathParts};
     ghost use Rattle.path_maps.specs.Beside.{Compared};
     ghost use Rattle.path_maps.specs.Cursors.{left_of};
 
-    ghost Value = { List Compared };
+    ghost Value = { List (Compared PathParts) };
 
     ghost view = { λ b. left_of b.entries.inner (left_of b.entries.outer.inner b.entries.outer.outer) };
 }
 
-impl<'a> Beside<'a> {
+impl<'a> PathsBeside<'a> {
     // Those of maps of maps whose paths are lawful, beside others.
-    pub(crate) fn of_ranks(ranks: &'a RankMap, others: &'a RankMap) -> Self
+    pub(crate) fn of_ranks(ranks: &'a RankMap, others: Option<&'a RankMap>) -> Self
         requires paths { AllKeys IsPath (listed ranks.now) }
-        ensures entries { result ≡ ranks_beside ranks.now others.now }
+        ensures entries { result ≡ ranks_beside ranks.now (or_empty (option_copied others.entry)) }
     {
         let ranks = RanksBeside {
             ranks: ranks.pairs(),
             others,
         };
-        Beside {
+        PathsBeside {
             entries: Nested {
                 inner: None,
                 outer: Nested {
@@ -217,13 +230,11 @@ impl<'a> Beside<'a> {
         }
     }
 
-    /// Takes the first of them, if there is one, and what the other store holds there. It takes no memory.
+    // Takes the first of them, if there is one, and what the other store holds there.
     #[inline(always)]
-    pub fn next_entry(&mut self) -> Option<(Placed<'a>, Option<&'a Entry>)>
-        ensures first { MatchOption result ((self.old ≡ []) × (self.new ≡ []))
-            (λ both. self.old ≡ (both.0, option_copied both.1) ∷ self.new) }
+    pub(crate) fn next_both(&mut self) -> Option<Both<'a, SeenEntry<'a>>>
+        ensures first { MatchOption result ((self.old ≡ []) × (self.new ≡ [])) (λ both. self.old ≡ both ∷ self.new) }
     {
-        let Both { placed, held } = self.entries.next()?;
-        Some((placed, held))
+        self.entries.next()
     }
 }

@@ -5,7 +5,7 @@ ghost use Rattle.path_maps.specs.Changes.{rises, additions};
 
 use crate::stores::Store;
 
-/// How many paths the entries of another store change, and at how many of them nothing is held.
+/// How many places the entries of another store change, and at how many of them nothing is held.
 #[derive(Clone, Copy)]
 pub struct Changes {
     pub changed: u64,

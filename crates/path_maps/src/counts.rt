@@ -1,12 +1,11 @@
 //! What maps of maps hold, counted.
 ghost use Rattle.std.specs.Prelude.{◌≡◌, ◌≤◌, length};
-ghost use Rattle.load_path.specs.Paths.{IsPath};
 ghost use Rattle.edit_sums.specs.Sums.{greatest_counter};
-ghost use Rattle.path_maps.specs.PathMaps.{listed};
-ghost use Rattle.path_maps.specs.Spread.{AllKeys};
+ghost use Rattle.path_maps.specs.Kept.{HasLawfulPaths};
+ghost use Rattle.path_maps.specs.PlaceMaps.{all_listed};
 
-use crate::entries::Entries;
-use crate::stores::RankMap;
+use crate::places::Entries;
+use crate::stores::ScopeMap;
 
 /// How many paths are held, and the greatest counter there.
 #[derive(Clone, Copy)]
@@ -16,14 +15,14 @@ pub struct Counts {
 }
 
 /// Counts what maps of maps hold. Linear, without memory.
-pub fn count_entries(ranks: &RankMap) -> Counts
-    requires paths { AllKeys IsPath (listed ranks.now) }
-    requires fits { length (listed ranks.now) ≤ usize.MAX }
-    ensures len { result.len ≡ length (listed ranks.now) }
+pub fn count_entries(scopes: &ScopeMap) -> Counts
+    requires paths { HasLawfulPaths scopes.now }
+    requires fits { length (all_listed scopes.now) ≤ usize.MAX }
+    ensures len { result.len ≡ length (all_listed scopes.now) }
     ensures within { result.len ≤ usize.MAX }
-    ensures high { result.high ≡ greatest_counter (listed ranks.now) }
+    ensures high { result.high ≡ greatest_counter (all_listed scopes.now) }
 {
-    let mut entries = Entries::of_ranks(ranks);
+    let mut entries = Entries::of_scopes(scopes);
     let mut counts = Counts { len: 0, high: 0 };
     while let Some(placed) = entries.next_entry() {
         counts.len += 1;

@@ -1,5 +1,5 @@
-//! The entries of a store, one after another in path order: ranks, folders and names that are left.
-ghost use Rattle.std.specs.Prelude.{◌≡◌, ◌∷◌, [], map, IfOk, IfSome, MatchOption};
+//! The entries of a scope, one after another in path order: ranks, folders and names that are left.
+ghost use Rattle.std.specs.Prelude.{◌≡◌, ◌∷◌, [], IfOk, IfSome, MatchOption};
 ghost use Rattle.load_path.specs.Paths.{IsPath, path_cmp};
 ghost use Rattle.path_maps.specs.Cursors.{or_nothing, left_of};
 ghost use Rattle.std.specs.List.{flat_map};
@@ -21,14 +21,14 @@ use std::marker::Model;
 
 /// An entry with its path, lent.
 #[derive(Drop)]
-pub struct Placed<'a> {
+pub struct SeenEntry<'a> {
     rank: u8,
     folder: &'a Bytes,
     name: &'a Bytes,
     entry: &'a Entry,
 }
 
-impl<'a> Model for Placed<'a> {
+impl<'a> Model for SeenEntry<'a> {
     ghost use Rattle.load_path.specs.Paths.{PathParts, IsPath};
     ghost use Rattle.edit_sums.specs.Entries.{Entry};
 
@@ -39,13 +39,13 @@ impl<'a> Model for Placed<'a> {
     ghost invariant = { λ p. IsPath (record { rank = p.rank; folder = p.folder.now; name = p.name.now }) };
 }
 
-impl<'a> Placed<'a> {
+impl<'a> SeenEntry<'a> {
     // An entry at a lawful path.
     pub(crate) fn new(rank: u8, folder: &'a Bytes, name: &'a Bytes, entry: &'a Entry) -> Self
         requires path { IsPath (path_at rank folder.now name.now) }
         ensures placed { result ≡ (path_at rank folder.now name.now, entry.now) }
     {
-        Placed {
+        SeenEntry {
             rank,
             folder,
             name,
@@ -53,9 +53,9 @@ impl<'a> Placed<'a> {
         }
     }
 
-    /// Its place. It fails for want of memory alone, and copies no bytes.
-    pub fn place(&self) -> Result<Path, AllocError>
-        ensures place { IfOk result (λ place. place ≡ self.now.0) }
+    /// Its path. It fails for want of memory alone, and copies no bytes.
+    pub fn path(&self) -> Result<Path, AllocError>
+        ensures path { IfOk result (λ path. path ≡ self.now.0) }
     {
         let folder = self.folder.try_clone()?;
         Ok(Path::from_parts(self.rank, folder, self.name.try_clone()?))
@@ -78,15 +78,8 @@ impl<'a> Placed<'a> {
         }
     }
 
-    /// The parts of its path: rank, folder and name. It takes no memory.
-    pub fn parts(&self) -> (u8, &'a Bytes, &'a Bytes)
-        ensures parts { record { rank = result.0; folder = result.1.now; name = result.2.now } ≡ self.now.0 }
-    {
-        (self.rank, self.folder, self.name)
-    }
-
-    /// Where a path stands: before the path of this entry, at it, or behind it. It takes no memory.
-    pub fn order_of(&self, path: &Path) -> Ordering
+    // Where a path stands: before the path of this entry, at it, or behind it.
+    pub(crate) fn order_of(&self, path: &Path) -> Ordering
         ensures order { result ≡ path_cmp path.now self.now.0 }
     {
         let within = order(path.folder(), self.folder.as_slice());
@@ -124,15 +117,15 @@ impl<'a> Model for NamesLeft<'a> {
     ghost invariant = { λ n. AreNamesLeft n.rank n.folder.now n.names.now };
 }
 
-impl<'a> Cursor<Placed<'a>> for NamesLeft<'a> {
+impl<'a> Cursor<SeenEntry<'a>> for NamesLeft<'a> {
     ghost left = { λ n. n };
 
-    fn next(&mut self) -> Option<Placed<'a>> {
+    fn next(&mut self) -> Option<SeenEntry<'a>> {
         let ((name, value), rest) = self.names.split_first()?;
         let entry = value.entry()?;
         let (rank, folder) = (self.rank, self.folder);
         self.names = rest;
-        Some(Placed::new(rank, folder, name, entry))
+        Some(SeenEntry::new(rank, folder, name, entry))
     }
 }
 
@@ -206,14 +199,14 @@ impl<'a> Cursor<FoldersLeft<'a>> for RanksLeft<'a> {
 // All folders that are left.
 type AllFolders<'a> = Nested<FoldersLeft<'a>, RanksLeft<'a>>;
 
-/// The entries of a store that are left, in path order.
+/// The entries of a scope that are left, in path order.
 #[derive(Drop)]
-pub struct Entries<'a> {
+pub struct SeenEntries<'a> {
     // By folder and by rank.
     entries: Nested<NamesLeft<'a>, AllFolders<'a>>,
 }
 
-impl<'a> Model for Entries<'a> {
+impl<'a> Model for SeenEntries<'a> {
     ghost use Rattle.std.specs.Prelude.{List};
     ghost use Rattle.load_path.specs.Paths.{PathParts};
     ghost use Rattle.edit_sums.specs.Entries.{Entry};
@@ -224,14 +217,14 @@ impl<'a> Model for Entries<'a> {
     ghost view = { λ e. left_of e.entries.inner (left_of e.entries.outer.inner e.entries.outer.outer) };
 }
 
-impl<'a> Entries<'a> {
+impl<'a> SeenEntries<'a> {
     // Those of maps of maps whose paths are lawful.
     pub(crate) fn of_ranks(ranks: &'a RankMap) -> Self
         requires paths { AllKeys IsPath (listed ranks.now) }
         ensures entries { result ≡ listed ranks.now }
     {
         let ranks = ranks.pairs();
-        Entries::from_folder(None, RanksLeft { ranks })
+        SeenEntries::from_folder(None, RanksLeft { ranks })
     }
 
     // Those of the names in a folder, whose paths are lawful; none, where there is no folder.
@@ -247,14 +240,14 @@ impl<'a> Entries<'a> {
                 names: names.pairs(),
             }),
         };
-        Entries::from_folder(names, RanksLeft { ranks: &[] })
+        SeenEntries::from_folder(names, RanksLeft { ranks: &[] })
     }
 
     // Those of a folder, if there is one, and those of ranks behind it.
     fn from_folder(names: Option<NamesLeft<'a>>, ranks: RanksLeft<'a>) -> Self
         ensures entries { result ≡ left_of names.entry (flat_map (λ xs. xs) ranks.entry) }
     {
-        Entries {
+        SeenEntries {
             entries: Nested {
                 inner: names,
                 outer: Nested {
@@ -266,20 +259,9 @@ impl<'a> Entries<'a> {
     }
 
     /// Takes the first of them, if there is one. O(1), without memory.
-    pub fn next_entry(&mut self) -> Option<Placed<'a>>
+    pub fn next_entry(&mut self) -> Option<SeenEntry<'a>>
         ensures first { MatchOption result ((self.old ≡ []) × (self.new ≡ [])) (λ placed. self.old ≡ placed ∷ self.new) }
     {
         self.entries.next()
-    }
-
-    /// The paths of all of them. It fails for want of memory alone, and copies no bytes.
-    pub fn paths(mut self, alloc: Global) -> Result<Vec<Path>, AllocError>
-        ensures paths { IfOk result (λ paths. paths.items ≡ map (λ p. p.0) self.entry) }
-    {
-        let mut paths = Vec::new(alloc);
-        while let Some(placed) = self.next_entry() {
-            paths.push(placed.place()?)?;
-        }
-        Ok(paths)
     }
 }

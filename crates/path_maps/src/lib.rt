@@ -1,5 +1,5 @@
-//! The entries of a node by path: maps of maps of contents with versions, by rank, folder and name. Contracts see
-//! them as one map from paths to entries.
+//! The entries of a node by place: maps of maps of contents with versions, by scope, rank, folder and name. Contracts
+//! see them as one map from places to entries.
 //!
 //! Promise: the store is its map.
 #![tactic(auto)]
@@ -11,8 +11,13 @@ mod cursors;
 mod entries;
 mod look_ups;
 mod meets;
+mod places;
+mod places_beside;
+mod seen;
 mod stores;
 
-pub use beside::Beside;
-pub use entries::{Entries, Placed};
-pub use stores::{FolderMap, NameMap, RankMap, Store};
+pub use entries::{SeenEntries, SeenEntry};
+pub use places::{Entries, Placed};
+pub use places_beside::Beside;
+pub use seen::Seen;
+pub use stores::{FolderMap, NameMap, RankMap, ScopeMap, Store};

@@ -1,10 +1,11 @@
 //! Look-ups by bytes that stand in no map: no key is built for them.
 ghost use Rattle.std.specs.Prelude.{◌≡◌, ◌<◌, [], Some, None, length, IsTrue, IfOk, IfErr, MatchOption};
+ghost use Rattle.std.specs.Option.{option_copied};
 ghost use Rattle.std.specs.Ordering.{nat_cmp};
 ghost use Rattle.std.specs.FinMap.{find, is_sorted};
 ghost use Rattle.join_law.specs.Maps.{or_empty};
 ghost use Rattle.path_maps.specs.Folders.{IsPlaceOf};
-ghost use Rattle.path_maps.specs.PathMaps.{AreRanks, bytes_cmp};
+ghost use Rattle.path_maps.specs.PathMaps.{bytes_cmp};
 
 use crate::stores::{NameMap, RankMap};
 use plain_values::{Bytes, order};
@@ -66,18 +67,19 @@ pub fn pair_at<'a, V>(pairs: &'a [(Bytes, V)], key: &[u8]) -> Option<&'a (Bytes,
     }
 }
 
-// The folder of these bytes, in the directory of a rank, and the names in it. O(log n), without memory.
+// The folder of these bytes, in the directory of a rank, and the names in it, where there are ranks. O(log n), without
+// memory.
 pub fn folder_at<'a>(
-    ranks: &'a RankMap,
+    ranks: Option<&'a RankMap>,
     rank: u8,
     folder: &[u8],
 ) -> Option<(&'a Bytes, &'a NameMap)>
-    requires ranks { AreRanks ranks.now }
-    ensures found { MatchOption result (find bytes_cmp folder.now (or_empty (find nat_cmp rank ranks.now)) ≡ None)
-        (λ pair. (pair.0.now ≡ folder.now)
-        × (find bytes_cmp folder.now (or_empty (find nat_cmp rank ranks.now)) ≡ Some pair.1.now)) }
+    ensures found { MatchOption result
+        (find bytes_cmp folder.now (or_empty (find nat_cmp rank (or_empty (option_copied ranks.entry)))) ≡ None)
+        (λ pair. (pair.0.now ≡ folder.now) × (find bytes_cmp folder.now
+        (or_empty (find nat_cmp rank (or_empty (option_copied ranks.entry)))) ≡ Some pair.1.now)) }
 {
-    let folders = ranks.get(&rank)?;
+    let folders = ranks?.get(&rank)?;
     let (folder, names) = pair_at(folders.pairs(), folder)?;
     Some((folder, names))
 }

@@ -1,24 +1,26 @@
 //! Stores.
-ghost use Rattle.std.specs.Prelude.{◌≡◌, ◌≤◌, ◌↔◌, ◌+◌, None, IsTrue, IsSome, IsOk, IfOk, OnOk, OnErr, IfErr, filter, is_some};
+ghost use Rattle.std.specs.Prelude.{◌≡◌, ◌≤◌, ◌↔◌, ◌+◌, None, IsTrue, IsSome, IsOk, IfOk, OnOk, OnErr, IfErr, filter, is_some, map};
 ghost use Rattle.std.specs.Bool.{OnTrue, OnFalse};
-ghost use Rattle.std.specs.Option.{option_copied, option_map, IfSome};
+ghost use Rattle.std.specs.Option.{option_copied};
 ghost use Rattle.std.specs.FinMap as finmap;
 ghost use Rattle.edit_sums.specs.declared.contents.Content.TheVariants.{Gone};
+ghost use Rattle.edit_sums.specs.Flat.{at_fleet};
 ghost use Rattle.edit_sums.specs.Sums.{changed_places, high_of, join, sum_of, visible_at, with_edit, IsStoreBelow};
 ghost use Rattle.path_maps.specs.Beside.{beside};
-ghost use Rattle.path_maps.specs.Folders.{is_in, path_at};
-ghost use Rattle.path_maps.specs.PathMaps.{AreRanks, flat};
+ghost use Rattle.path_maps.specs.Folders.{is_within};
+ghost use Rattle.path_maps.specs.PlaceMaps.{AreScopes, all_held};
+ghost use Rattle.path_maps.specs.Views.{fleet_of, scope_of};
 
-use crate::beside::Beside;
 use crate::changes::count_changes;
 use crate::counts::{Counts, count_entries};
-use crate::entries::{Entries, Placed};
-use crate::look_ups::{folder_at, pair_at};
-use edit_sums::{Content, Edit, Entry};
+use crate::places::Entries;
+use crate::places_beside::Beside;
+use crate::seen::Seen;
+use edit_sums::{Content, Edit, Entry, FlatEdit};
 use join_law::{
     AddAt, AddValue, Addition, Change, ChangeAt, Join, JoinMap, Overwrite, Rest, Version, Versioned,
 };
-use load_path::Path;
+use load_places::{Place, Scope};
 use plain_values::Bytes;
 use std::alloc::{AllocError, Global};
 use std::marker::Model;
@@ -32,13 +34,16 @@ pub type FolderMap = JoinMap<Bytes, NameMap>;
 /// The contents of all directories by rank, folder and name.
 pub type RankMap = JoinMap<u8, FolderMap>;
 
-/// The entries of a node by path, removals included.
+/// The contents of the fleet and of each host by scope, rank, folder and name.
+pub type ScopeMap = JoinMap<Scope, RankMap>;
+
+/// The entries of a node by place, removals included.
 ///
 /// A removal is an entry that stays, so an old edit cannot bring back what was removed.
 #[derive(Debug, Drop)]
 pub struct Store {
-    ranks: RankMap,
-    // How many paths are held.
+    scopes: ScopeMap,
+    // How many places are held.
     len: usize,
     // The greatest counter among the entries.
     high: u64,
@@ -46,20 +51,20 @@ pub struct Store {
 
 impl Model for Store {
     ghost use Rattle.std.specs.FinMap as finmap;
-    ghost use Rattle.load_path.specs.Paths.{path_cmp};
-    ghost use Rattle.load_path.specs.PathLaws.{coded_path};
+    ghost use Rattle.load_places.specs.Places.{place_cmp};
+    ghost use Rattle.load_places.specs.PlaceLaws.{coded_place};
     ghost use Rattle.edit_sums.specs.Entries.{Entry};
     ghost use Rattle.edit_sums.specs.EntryCodes.{coded_entry};
-    ghost use Rattle.path_maps.specs.PathMaps.{flat};
+    ghost use Rattle.path_maps.specs.PlaceMaps.{all_held};
     ghost use Rattle.path_maps.specs.Kept.{IsKept};
 
-    ghost Value = { finmap.FinMap path_cmp Entry };
+    ghost Value = { finmap.FinMap place_cmp Entry };
 
-    ghost coded = { finmap.code coded_path coded_entry };
+    ghost coded = { finmap.code coded_place coded_entry };
 
-    ghost view = { λ s. flat s.ranks };
+    ghost view = { λ s. all_held s.scopes };
 
-    ghost invariant = { λ s. IsKept s.ranks s.len s.high };
+    ghost invariant = { λ s. IsKept s.scopes s.len s.high };
 }
 
 impl Store {
@@ -68,14 +73,14 @@ impl Store {
         ensures empty { result ≡ finmap.empty }
     {
         Store {
-            ranks: JoinMap::new(alloc),
+            scopes: JoinMap::new(alloc),
             len: 0,
             high: 0,
         }
     }
 
-    /// The sum of some edits: at each path the greatest of the edits there. It seeks three keys for each edit; what stands
-    /// behind a new key in its map is moved, so edits that come in path order move nothing.
+    /// The sum of some edits: at each place the greatest of the edits there. It seeks four keys for each edit; what stands
+    /// behind a new key in its map is moved, so edits that come in place order move nothing.
     pub fn from_edits(alloc: Global, edits: &[Edit]) -> Result<Store, AllocError>
         ensures sum { IfOk result (λ store. store ≡ sum_of edits.now) }
     {
@@ -86,12 +91,23 @@ impl Store {
         Ok(store)
     }
 
-    /// The allocator that the store takes its memory from.
-    pub fn allocator(&self) -> Global {
-        self.ranks.allocator()
+    /// The sum of edits of before there were hosts, each the fleet's: what `from_edits` makes of these.
+    pub fn from_flat(alloc: Global, edits: &[FlatEdit]) -> Result<Store, AllocError>
+        ensures sum { IfOk result (λ store. store ≡ sum_of (map at_fleet edits.now)) }
+    {
+        let mut store = Store::new(alloc);
+        for edit in edits {
+            store.join_edit(edit.at_fleet()?)?;
+        }
+        Ok(store)
     }
 
-    /// How many paths are held, those of removals too. O(1), without memory.
+    /// The allocator that the store takes its memory from.
+    pub fn allocator(&self) -> Global {
+        self.scopes.allocator()
+    }
+
+    /// How many places are held, those of removals too. O(1), without memory.
     pub fn len(&self) -> usize
         ensures len { result ≡ finmap.len self.now }
         ensures within { finmap.len self.now ≤ u64.MAX }
@@ -106,95 +122,82 @@ impl Store {
         self.high
     }
 
-    /// What is held at a path, a removal too. O(log n), without memory.
-    pub fn get(&self, path: &Path) -> Option<&Entry>
-        ensures held { option_copied result ≡ finmap.get self.now path.now }
+    /// What is held at a place, a removal too. O(log n), without memory.
+    pub fn get(&self, place: &Place) -> Option<&Entry>
+        ensures held { option_copied result ≡ finmap.get self.now place.now }
     {
-        let placed = self.placed_at(path.rank(), path.folder(), path.name())?;
-        Some(placed.entry())
+        self.seen_in(&place.scope).get(&place.path)
     }
 
-    /// What is held at the path of these parts, with the path; the empty folder stands for none. O(log n), without
-    /// memory and without a path being built.
-    pub fn placed_at(&self, rank: u8, folder: &[u8], name: &[u8]) -> Option<Placed<'_>>
-        ensures path { IfSome result (λ placed. placed.0 ≡ path_at rank folder.now name.now) }
-        ensures held { option_map (λ placed. placed.1) result ≡ finmap.get self.now (path_at rank folder.now name.now) }
+    /// The visible content at a place: what is held there, if it is no removal. O(log n), without memory.
+    pub fn visible(&self, place: &Place) -> Option<&Content>
+        ensures visible { option_copied result ≡ visible_at self.now place.now }
     {
-        let (folder, names) = folder_at(&self.ranks, rank, folder)?;
-        let (name, value) = pair_at(names.pairs(), name)?;
-        let entry = value.entry()?;
-        Some(Placed::new(rank, folder, name, entry))
+        self.seen_in(&place.scope).visible(&place.path)
     }
 
-    /// The visible content at a path: what is held there, if it is no removal. O(log n), without memory.
-    pub fn visible(&self, path: &Path) -> Option<&Content>
-        ensures visible { option_copied result ≡ visible_at self.now path.now }
+    /// What each host of the fleet sees. It takes no memory.
+    pub fn fleet(&self) -> Seen<'_>
+        ensures seen { result ≡ fleet_of self.now }
     {
-        self.visible_at(path.rank(), path.folder(), path.name())
+        self.seen_in(&Scope::Fleet)
     }
 
-    /// The visible content at the path of these parts; the empty folder stands for none. O(log n), without memory and
-    /// without a path being built.
-    pub fn visible_at(&self, rank: u8, folder: &[u8], name: &[u8]) -> Option<&Content>
-        ensures visible { option_copied result ≡ visible_at self.now (path_at rank folder.now name.now) }
+    // What is held in a scope.
+    fn seen_in(&self, scope: &Scope) -> Seen<'_>
+        ensures seen { result ≡ scope_of self.now scope.now }
     {
-        let placed = self.placed_at(rank, folder, name)?;
-        placed.visible()
+        Seen::of(self.allocator(), self.scopes.get(scope))
     }
 
     /// The maps that the store is: they have its entries and no others. It takes no memory.
-    pub fn maps(&self) -> &RankMap
-        ensures maps { flat result.now ≡ self.now }
-        ensures ranks { AreRanks result.now }
+    pub fn maps(&self) -> &ScopeMap
+        ensures maps { all_held result.now ≡ self.now }
+        ensures scopes { AreScopes result.now }
     {
-        &self.ranks
+        &self.scopes
     }
 
-    /// All paths held, in path order, those of removals too. It fails for want of memory alone, and copies no bytes.
-    pub fn list(&self) -> Result<Vec<Path>, AllocError>
-        ensures paths { IfOk result (λ paths. paths.items ≡ finmap.keys self.now) }
+    /// All places held, in place order, those of removals too. It fails for want of memory alone, and copies no bytes.
+    pub fn list(&self) -> Result<Vec<Place>, AllocError>
+        ensures places { IfOk result (λ places. places.items ≡ finmap.keys self.now) }
     {
-        self.entries().paths(self.allocator())
+        self.entries().places(self.allocator())
     }
 
-    /// The paths held in a folder of the directory of a rank, in path order, those of removals too. The empty folder
-    /// has the paths of one component. It fails for want of memory alone, and copies no bytes.
+    /// The places held in a scope in a folder of the directory of a rank, in place order, those of removals too. The
+    /// empty folder has the paths of one component. It fails for want of memory alone, and copies no bytes.
     ///
-    /// O(log n) and the paths given.
-    pub fn folder(&self, rank: u8, folder: &[u8]) -> Result<Vec<Path>, AllocError>
-        ensures paths { IfOk result (λ paths. paths.items ≡ filter (is_in rank folder.now) (finmap.keys self.now)) }
+    /// O(log n) and the places given.
+    pub fn folder(&self, scope: &Scope, rank: u8, folder: &[u8]) -> Result<Vec<Place>, AllocError>
+        ensures places { IfOk result (λ places. places.items
+            ≡ filter (is_within scope.now rank folder.now) (finmap.keys self.now)) }
     {
-        self.entries_in(rank, folder).paths(self.allocator())
+        let entries = self.seen_in(scope).entries_in(rank, folder);
+        Entries::of_scope(scope, entries).places(self.allocator())
     }
 
-    /// The same with the entries, one after another, lent. O(log n), without memory.
-    pub fn entries_in(&self, rank: u8, folder: &[u8]) -> Entries<'_>
-        ensures entries { result ≡ filter (λ p. is_in rank folder.now p.0) (finmap.entries self.now) }
-    {
-        Entries::of_folder(rank, folder_at(&self.ranks, rank, folder))
-    }
-
-    /// All entries with their paths, one after another in path order, those of removals too.
+    /// All entries with their places, one after another in place order, those of removals too.
     pub fn entries(&self) -> Entries<'_>
         ensures entries { result ≡ finmap.entries self.now }
     {
-        Entries::of_ranks(&self.ranks)
+        Entries::of_scopes(&self.scopes)
     }
 
-    /// All entries with their paths in path order, each with what another store holds there. Both are read side by side,
+    /// All entries with their places in place order, each with what another store holds there. Both are read side by side,
     /// without memory.
     pub fn entries_beside<'a>(&'a self, other: &'a Store) -> Beside<'a>
         ensures entries { result ≡ beside (finmap.get other.now) (finmap.entries self.now) }
         ensures within { finmap.len self.now ≤ u64.MAX }
     {
-        Beside::of_ranks(&self.ranks, &other.ranks)
+        Beside::of_scopes(&self.scopes, &other.scopes)
     }
 
     /// Whether both hold the same. Linear, without memory.
     pub fn same(&self, other: &Store) -> bool
         ensures same { IsTrue result ↔ (self.now ≡ other.now) }
     {
-        self.ranks.same(&other.ranks)
+        self.scopes.same(&other.scopes)
     }
 
     /// An equal store. It fails for want of memory alone.
@@ -202,14 +205,14 @@ impl Store {
         ensures copy { IfOk result (λ copy. copy ≡ self.now) }
     {
         Ok(Store {
-            ranks: self.ranks.try_clone()?,
+            scopes: self.scopes.try_clone()?,
             len: self.len,
             high: self.high,
         })
     }
 
-    /// Joins one edit. A search and at most one shift of entries in each of three maps. Where memory is refused,
-    /// nothing has changed; at a path that is held it takes none.
+    /// Joins one edit. A search and at most one shift of entries in each of four maps. Where memory is refused,
+    /// nothing has changed; at a place that is held it takes none.
     pub fn join_edit(&mut self, edit: Edit) -> Result<(), AllocError>
         ensures ok { OnOk result (self.new ≡ with_edit self.old edit) }
         ensures err { OnErr result (self.new ≡ self.old) }
@@ -223,33 +226,37 @@ impl Store {
         if self.is_full_for(&place) {
             return Err(AllocError);
         }
-        let (rank, folder, name) = place.into_parts();
+        let Place { scope, path } = place;
+        let (rank, folder, name) = path.into_parts();
         let value = Versioned::At(Entry { version, content });
         let addition = AddAt {
-            key: rank,
+            key: scope,
             addition: AddAt {
-                key: folder,
+                key: rank,
                 addition: AddAt {
-                    key: name,
-                    addition: AddValue { value },
+                    key: folder,
+                    addition: AddAt {
+                        key: name,
+                        addition: AddValue { value },
+                    },
                 },
             },
         };
-        let added = addition.join_to(&mut self.ranks)?;
+        let added = addition.join_to(&mut self.scopes)?;
         self.len += usize::from(added);
         self.high = self.high.max(version.counter);
         Ok(())
     }
 
-    /// Joins a removal at a path where a content is visible, and answers whether one was. One search in each of three
+    /// Joins a removal at a place where a content is visible, and answers whether one was. One search in each of four
     /// maps, without memory.
-    pub fn join_removal(&mut self, path: &Path, version: Version) -> bool
-        ensures visible { result ≡ is_some (visible_at self.old path.now) }
+    pub fn join_removal(&mut self, place: &Place, version: Version) -> bool
+        ensures visible { result ≡ is_some (visible_at self.old place.now) }
         ensures removed { OnTrue result (self.new ≡ with_edit self.old (record
-            { place = path.now; version = version; content = Gone })) }
+            { place = place.now; version = version; content = Gone })) }
         ensures same { OnFalse result (self.new ≡ self.old) }
     {
-        let (rank, folder, name) = path.parts();
+        let (rank, folder, name) = place.path.parts();
         let content = Content::gone();
         let entry = Entry { version, content };
         let at_name = ChangeAt {
@@ -260,18 +267,22 @@ impl Store {
             key: folder,
             change: at_name,
         };
-        let removal = ChangeAt {
+        let at_rank = ChangeAt {
             key: &rank,
             change: at_folder,
         };
-        let removed = removal.make(&mut self.ranks);
+        let removal = ChangeAt {
+            key: &place.scope,
+            change: at_rank,
+        };
+        let removed = removal.make(&mut self.scopes);
         if removed {
             self.high = self.high.max(version.counter);
         }
         removed
     }
 
-    /// Joins copies of what another store holds, and answers how many paths changed. Both are read side by side; where
+    /// Joins copies of what another store holds, and answers how many places changed. Both are read side by side; where
     /// there is news, the join then costs what is news and a search for each, or one pass over both, whichever is less.
     /// Copies of entries share their bytes.
     ///
@@ -290,14 +301,14 @@ impl Store {
             return Ok(0);
         }
         let len = sum_of_lens(self.len, changes.added)?;
-        match self.ranks.join_copy(&other.ranks) {
+        match self.scopes.join_copy(&other.scopes) {
             Ok(()) => {
                 self.len = len;
                 self.high = self.high.max(other.high);
                 Ok(changes.changed)
             }
             Err(refused) => {
-                let counts = count_entries(&self.ranks);
+                let counts = count_entries(&self.scopes);
                 self.len = counts.len;
                 self.high = counts.high;
                 Err(refused)
@@ -305,7 +316,7 @@ impl Store {
         }
     }
 
-    /// Joins what another store holds, and answers how many paths changed. Both are read side by side; where there is
+    /// Joins what another store holds, and answers how many places changed. Both are read side by side; where there is
     /// news, the join then costs what is news and a search for each, or one pass over both, whichever is less.
     ///
     /// Where memory is refused, the store lies between what it was and the join, and joining the rest that comes back
@@ -326,40 +337,40 @@ impl Store {
             return Err(Rest { rest: other });
         };
         let Store {
-            ranks,
+            scopes,
             len: _,
             high,
         } = other;
-        match self.ranks.join_from(ranks) {
+        match self.scopes.join_from(scopes) {
             Ok(()) => {
                 self.len = len;
                 self.high = self.high.max(high);
                 Ok(changes.changed)
             }
             Err(Rest { rest }) => {
-                let counts = count_entries(&self.ranks);
+                let counts = count_entries(&self.scopes);
                 self.len = counts.len;
                 self.high = counts.high;
                 let Counts { len, high } = count_entries(&rest);
-                let ranks = rest;
+                let scopes = rest;
                 Err(Rest {
-                    rest: Store { ranks, len, high },
+                    rest: Store { scopes, len, high },
                 })
             }
         }
     }
 
-    // Whether the path would be one more than can be counted, which is want of memory. It is looked for only where the
+    // Whether the place would be one more than can be counted, which is want of memory. It is looked for only where the
     // greatest number is held.
-    fn is_full_for(&self, path: &Path) -> bool
-        ensures full { OnTrue result (finmap.get self.now path.now ≡ None) }
-        ensures room { OnFalse result (finmap.get self.now path.now ≡ None → finmap.len self.now + 1 ≤ usize.MAX) }
+    fn is_full_for(&self, place: &Place) -> bool
+        ensures full { OnTrue result (finmap.get self.now place.now ≡ None) }
+        ensures room { OnFalse result (finmap.get self.now place.now ≡ None → finmap.len self.now + 1 ≤ usize.MAX) }
     {
-        self.len == usize::MAX && self.get(path).is_none()
+        self.len == usize::MAX && self.get(place).is_none()
     }
 }
 
-// How many paths are held with so many more. Over the greatest number, it is want of memory.
+// How many places are held with so many more. Over the greatest number, it is want of memory.
 fn sum_of_lens(len: usize, added: usize) -> Result<usize, AllocError>
     ensures sum { IfOk result (λ sum. sum ≡ len + added) }
     ensures within { IfOk result (λ sum. len + added ≤ usize.MAX) }

@@ -9,9 +9,12 @@
 
 mod replicas;
 
-pub use edit_sums::{Content, ContentFault, Edit, Entry, FileBytes, LinkTarget};
+pub use edit_sums::{Content, ContentFault, Edit, Entry, FileBytes, FlatEdit, LinkTarget};
 pub use join_law::{Rest, Version};
 pub use load_path::{Path, PathFault};
-pub use load_places::Place;
-pub use path_maps::{Beside, Entries, FolderMap, NameMap, Placed, RankMap, Store};
+pub use load_places::{HOST_LIMIT, HostFault, HostName, Place, PlaceFault, Scope};
+pub use path_maps::{
+    Beside, Entries, FolderMap, NameMap, Placed, RankMap, ScopeMap, Seen, SeenEntries, SeenEntry,
+    Store,
+};
 pub use replicas::{EditFault, Replica};

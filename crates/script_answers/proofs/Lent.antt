@@ -7,7 +7,8 @@ use Rattle.std.specs.FinMap as finmap
 use Rattle.list_laws.specs.Members.{first_there, later_there}
 use Rattle.load_path.specs.Paths.{PathParts}
 use Rattle.edit_sums.specs.Entries.{Entry}
-use Rattle.edit_sums.specs.Sums.{EntryMap, shown, visible_at}
+use Rattle.edit_sums.specs.Sums.{shown}
+use Rattle.path_maps.specs.Views.{View, seen_at}
 use Rattle.unit_name.specs.Names.{Name}
 use Rattle.dropins.specs.Taken.{entry_path, AreDropInsOf}
 use Rattle.dropins.specs.OrderLaws.{drop_ins_are_files}
@@ -15,21 +16,21 @@ use Rattle.dropins.specs.FolderLists.{folders}
 use Rattle.script_answers.specs.Files.{AreFiles, cat_text, entry_lines, file_bytes, file_lines, lent_text, IsFile}
 
 -- what an entry of the store shows is visible at its path
-shown_there : (s : EntryMap) (p : PathParts × Entry) → finmap.get s p.0 ≡ Some p.1 → visible_at s p.0 ≡ shown p.1
+shown_there : (s : View) (p : PathParts × Entry) → finmap.get s p.0 ≡ Some p.1 → seen_at s p.0 ≡ shown p.1
 shown_there s p h = ap (option_and_then shown) h
 
-pub drop_ins_lent : (s : EntryMap) (ns fs : List Name) (ps qs : List (PathParts × Entry)) → fs ≡ folders ns → AreDropInsOf s fs ps → qs ≡ ps → AreFiles qs
+pub drop_ins_lent : (s : View) (ns fs : List Name) (ps qs : List (PathParts × Entry)) → fs ≡ folders ns → AreDropInsOf s fs ps → qs ≡ ps → AreFiles qs
 drop_ins_lent s ns fs ps qs of ex e p c =
     let there = (subst (λ gs. AreDropInsOf s gs ps) of ex p).0 (subst (λ rs. Contains rs p) e c) in
     subst IsFile (shown_there s p there.1) (drop_ins_are_files s ns p.0 there.0).1
 
-lines_lent : (s : EntryMap) (ps : List (PathParts × Entry)) → ((p : PathParts × Entry) → Contains ps p → finmap.get s p.0 ≡ Some p.1)
-    → flat_map entry_lines ps ≡ flat_map (λ path. file_lines path (file_bytes (visible_at s path))) (map entry_path ps)
+lines_lent : (s : View) (ps : List (PathParts × Entry)) → ((p : PathParts × Entry) → Contains ps p → finmap.get s p.0 ≡ Some p.1)
+    → flat_map entry_lines ps ≡ flat_map (λ path. file_lines path (file_bytes (seen_at s path))) (map entry_path ps)
 lines_lent s [] held = refl
 lines_lent s (p ∷ ps) held =
     ap (λ o. file_lines p.0 (file_bytes o) ++ flat_map entry_lines ps) (sym (shown_there s p (held p (first_there p ps))))
-    ∙ ap (λ (l : List ℕ). file_lines p.0 (file_bytes (visible_at s p.0)) ++ l) (lines_lent s ps (λ q c. held q (later_there p q ps c)))
+    ∙ ap (λ (l : List ℕ). file_lines p.0 (file_bytes (seen_at s p.0)) ++ l) (lines_lent s ps (λ q c. held q (later_there p q ps c)))
 
 -- the text of lent drop-ins is that of their paths
-pub text_lent : (s : EntryMap) (fs : List Name) (fragment : PathParts) (ps : List (PathParts × Entry)) → AreDropInsOf s fs ps → lent_text s fragment ps ≡ cat_text s (fragment ∷ map entry_path ps)
-text_lent s fs fragment ps ex = ap (λ (l : List ℕ). (file_lines fragment (file_bytes (visible_at s fragment)) ++ l) ++ codes "end\n") (lines_lent s ps (λ p c. ((ex p).0 c).1))
+pub text_lent : (s : View) (fs : List Name) (fragment : PathParts) (ps : List (PathParts × Entry)) → AreDropInsOf s fs ps → lent_text s fragment ps ≡ cat_text s (fragment ∷ map entry_path ps)
+text_lent s fs fragment ps ex = ap (λ (l : List ℕ). (file_lines fragment (file_bytes (seen_at s fragment)) ++ l) ++ codes "end\n") (lines_lent s ps (λ p c. ((ex p).0 c).1))

@@ -3,6 +3,7 @@ use Rattle.std.proofs.Common.{◌≡◌, ℕ, false, List, ◌∷◌, Result, Ok
 use Rattle.std.specs.Prelude.{MatchResult}
 use Rattle.load_path.specs.Paths.{PathParts}
 use Rattle.edit_sums.specs.Sums.{EntryMap}
+use Rattle.path_maps.specs.Views.{View, fleet_of}
 use Rattle.unit_name.specs.declared.names.NameFault.{NameFault}
 use Rattle.unit_name.specs.declared.names.NameFault.TheVariants as name
 use Rattle.unit_name.specs.Names.{Name, name_of}
@@ -20,7 +21,7 @@ abbrev pub FilesAreToldOnce : Type 0
 FilesAreToldOnce = (word : List ℕ) (s : EntryMap) (a b : Outcome) → TellsFiles word s a → TellsFiles word s b → a ≡ b
 
 -- a unit has one text of its files
-one_cat : (s : EntryMap) (main : Name) (fragment : PathParts) (text other : List ℕ) → IsCat s main fragment text → IsCat s main fragment other → text ≡ other
+one_cat : (s : View) (main : Name) (fragment : PathParts) (text other : List ℕ) → IsCat s main fragment text → IsCat s main fragment other → text ≡ other
 one_cat s main fragment text other a b =
     let names = one_list_of_names s main a.names b.names a.names_are b.names_are in
     let dropins = one_order a.dropins b.dropins a.rising b.rising (λ p. (
@@ -45,7 +46,7 @@ name_unspent outcome name.EmptyPrefix p = ap is_spent p
 name_unspent outcome (name.BadByte place) p = ap is_spent p
 name_unspent outcome name.Memory p = absurd p
 
-module _ (s : EntryMap) (a b : Outcome) where
+module _ (s : View) (a b : Outcome) where
   choice_told_once : (main : Name) (c : Choice) → TellsChoice s main c a → TellsChoice s main c b → a ≡ b
   choice_told_once main choice.NotFound p q = p ∙ sym q
   choice_told_once main choice.Masked p q = p ∙ sym q
@@ -59,19 +60,19 @@ module _ (s : EntryMap) (a b : Outcome) where
   told_once (Err fault) p q = name_refused_once a b fault p q
 
 pub files_are_told_once : FilesAreToldOnce
-files_are_told_once word s a b p q = told_once s a b (name_of word) p q
+files_are_told_once word s a b p q = told_once (fleet_of s) a b (name_of word) p q
 
 -- what is told of a unit's files is never that counters are spent
 pub files_spend_nothing : (word : List ℕ) (s : EntryMap) (outcome : Outcome) → TellsFiles word s outcome → is_spent outcome ≡ false
 files_spend_nothing word s outcome t = by (name_of word) t
   where
-    choice_unspent : (main : Name) (c : Choice) → TellsChoice s main c outcome → is_spent outcome ≡ false
+    choice_unspent : (main : Name) (c : Choice) → TellsChoice (fleet_of s) main c outcome → is_spent outcome ≡ false
     choice_unspent main choice.NotFound p = ap is_spent p
     choice_unspent main choice.Masked p = ap is_spent p
     choice_unspent main (choice.Fragment path) p = ap is_spent p.2
     choice_unspent main (choice.Alias other) p = absurd p
     choice_unspent main (choice.Bad cause) p = ap is_spent p
 
-    by : (r : Result Name NameFault) → MatchResult r (λ n. TellsChoice s (resolution s n).main (resolution s n).choice outcome) (λ fault. RefusesName fault outcome) → is_spent outcome ≡ false
-    by (Ok n) p = choice_unspent (resolution s n).main (resolution s n).choice p
+    by : (r : Result Name NameFault) → MatchResult r (λ n. TellsChoice (fleet_of s) (resolution (fleet_of s) n).main (resolution (fleet_of s) n).choice outcome) (λ fault. RefusesName fault outcome) → is_spent outcome ≡ false
+    by (Ok n) p = choice_unspent (resolution (fleet_of s) n).main (resolution (fleet_of s) n).choice p
     by (Err fault) p = name_unspent outcome fault p

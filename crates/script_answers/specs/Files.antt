@@ -7,7 +7,8 @@ use Rattle.load_path.specs.Paths.{PathParts, text_of}
 use Rattle.edit_sums.specs.declared.contents.Content.{Content}
 use Rattle.edit_sums.specs.declared.contents.Content.TheVariants.{Gone, Link, File}
 use Rattle.edit_sums.specs.Entries.{Entry}
-use Rattle.edit_sums.specs.Sums.{EntryMap, shown, visible_at}
+use Rattle.edit_sums.specs.Sums.{EntryMap, shown}
+use Rattle.path_maps.specs.Views.{View, fleet_of, seen_at}
 use Rattle.unit_name.specs.declared.names.NameFault.{NameFault}
 use Rattle.unit_name.specs.declared.names.NameFault.TheVariants as name
 use Rattle.unit_name.specs.Names.{Name, name_cmp, name_of}
@@ -35,16 +36,16 @@ file_bytes (Some (Link target)) = []
 file_bytes (Some (File bytes)) = bytes
 
 -- the files that are visible at some paths, one after another
-abbrev pub cat_text : EntryMap → List PathParts → List ℕ
-cat_text s paths = flat_map (λ path. file_lines path (file_bytes (visible_at s path))) paths ++ codes "end\n"
+abbrev pub cat_text : View → List PathParts → List ℕ
+cat_text s paths = flat_map (λ path. file_lines path (file_bytes (seen_at s path))) paths ++ codes "end\n"
 
 -- a file that isn't empty
 abbrev pub IsFile : Option Content → Type 0
 IsFile o = (b : ℕ) × (bs : List ℕ) × (o ≡ Some (File (b ∷ bs)))
 
 -- such a file is visible at the path
-abbrev pub IsFileAt : EntryMap → PathParts → Type 0
-IsFileAt s p = IsFile (visible_at s p)
+abbrev pub IsFileAt : View → PathParts → Type 0
+IsFileAt s p = IsFile (seen_at s p)
 
 -- each of these entries is such a file
 abbrev pub AreFiles : List (PathParts × Entry) → Type 0
@@ -55,11 +56,11 @@ abbrev pub entry_lines : PathParts × Entry → List ℕ
 entry_lines p = file_lines p.0 (file_bytes (shown p.1))
 
 -- the file that is visible at a path, and then those that some entries are
-abbrev pub lent_text : EntryMap → PathParts → List (PathParts × Entry) → List ℕ
-lent_text s fragment ps = (file_lines fragment (file_bytes (visible_at s fragment)) ++ flat_map entry_lines ps) ++ codes "end\n"
+abbrev pub lent_text : View → PathParts → List (PathParts × Entry) → List ℕ
+lent_text s fragment ps = (file_lines fragment (file_bytes (seen_at s fragment)) ++ flat_map entry_lines ps) ++ codes "end\n"
 
 -- the text has the files of the unit of this main name: its fragment, and then the drop-ins of all its names, by file name
-pub record IsCat (s : EntryMap) (main : Name) (fragment : PathParts) (text : List ℕ) : Type 0 where
+pub record IsCat (s : View) (main : Name) (fragment : PathParts) (text : List ℕ) : Type 0 where
   pub names : List Name
   pub names_are : AreNames s main names
   pub dropins : List PathParts
@@ -76,7 +77,7 @@ RefusesName (name.BadByte place) outcome = outcome ≡ Err (BadByte place)
 RefusesName name.Memory outcome = ⊥
 
 -- the files of a unit are told; a unit without a fragment is refused for what stands in its place
-abbrev pub TellsChoice : EntryMap → Name → Choice → Outcome → Type 0
+abbrev pub TellsChoice : View → Name → Choice → Outcome → Type 0
 TellsChoice s main choice.NotFound outcome = outcome ≡ Err (NotFound main)
 TellsChoice s main choice.Masked outcome = outcome ≡ Err (Masked main)
 TellsChoice s main (choice.Fragment path) outcome = (text : List ℕ) × IsCat s main path text × (outcome ≡ Ok text)
@@ -85,4 +86,4 @@ TellsChoice s main (choice.Bad cause) outcome = outcome ≡ Err (Bad main)
 
 -- the files of the unit that a word stands for in a store are told, or it is said why not
 abbrev pub TellsFiles : List ℕ → EntryMap → Outcome → Type 0
-TellsFiles word s outcome = MatchResult (name_of word) (λ n. TellsChoice s (resolution s n).main (resolution s n).choice outcome) (λ fault. RefusesName fault outcome)
+TellsFiles word s outcome = MatchResult (name_of word) (λ n. TellsChoice (fleet_of s) (resolution (fleet_of s) n).main (resolution (fleet_of s) n).choice outcome) (λ fault. RefusesName fault outcome)

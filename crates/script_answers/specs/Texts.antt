@@ -5,7 +5,8 @@ use Rattle.std.specs.List.{flat_map}
 use Rattle.std.specs.Fmt.{decimal}
 use Rattle.std.specs.FinMap as finmap
 use Rattle.join_law.specs.declared.versions.Version.{Version}
-use Rattle.load_path.specs.Paths.{PathParts, text_of}
+use Rattle.load_places.specs.Places.{PlaceParts}
+use Rattle.load_places.specs.Texts.{place_text}
 use Rattle.edit_sums.specs.declared.contents.Content.{Content}
 use Rattle.edit_sums.specs.declared.contents.Content.TheVariants.{Gone, Link, File}
 use Rattle.edit_sums.specs.Entries.{Entry}
@@ -13,7 +14,7 @@ use Rattle.edit_sums.specs.Sums.{EntryMap}
 use Rattle.unit_name.specs.Names.{Name}
 use Rattle.script_commands.specs.declared.commands.LineRefusal.{LineRefusal}
 use Rattle.script_commands.specs.Outcomes.{Outcome}
-use Rattle.script_commands.specs.declared.commands.LineRefusal.TheVariants.{UnknownCommand, Arguments, UnknownNode, BadText, UnknownPiece, NodeTaken, WriterTaken, LineTooLong, Directory, Depth, Component, FileTooLarge, BadLink, VersionsSpent, Nothing, Length, Kind, EmptyPrefix, BadByte, NotFound, Masked, Bad, Template, Workers, TooManyUnits, ManualStart, Requisite, Conflict, Cycle, Seats}
+use Rattle.script_commands.specs.declared.commands.LineRefusal.TheVariants.{UnknownCommand, Arguments, UnknownNode, BadText, UnknownPiece, NodeTaken, WriterTaken, LineTooLong, HostName, Directory, Depth, Component, FileTooLarge, BadLink, VersionsSpent, Nothing, Length, Kind, EmptyPrefix, BadByte, NotFound, Masked, Bad, Template, Workers, TooManyUnits, ManualStart, Requisite, Conflict, Cycle, Seats}
 
 -- the counter, a dot, the writer
 abbrev pub version_text : Version → List ℕ
@@ -36,11 +37,11 @@ content_text Gone = codes "gone"
 content_text (Link target) = codes "link " ++ target
 content_text (File bytes) = codes "file " ++ decimal (length bytes)
 
--- the path, the version, the content
-abbrev pub entry_line : PathParts × Entry → List ℕ
-entry_line p = text_of p.0 ++ codes " " ++ version_text p.1.version ++ codes " " ++ content_text p.1.content ++ codes "\n"
+-- the place, the version, the content
+abbrev pub entry_line : PlaceParts × Entry → List ℕ
+entry_line p = place_text p.0 ++ codes " " ++ version_text p.1.version ++ codes " " ++ content_text p.1.content ++ codes "\n"
 
--- all that is held, in path order
+-- all that is held, in place order
 abbrev pub files_text : EntryMap → List ℕ
 files_text s = flat_map entry_line (finmap.entries s) ++ codes "end\n"
 
@@ -54,6 +55,7 @@ refusal_name UnknownPiece = codes "X5 UnknownPiece"
 refusal_name NodeTaken = codes "X6 NodeTaken"
 refusal_name WriterTaken = codes "X7 WriterTaken"
 refusal_name LineTooLong = codes "X8 LineTooLong"
+refusal_name HostName = codes "H1 HostName"
 refusal_name Directory = codes "F1 Directory"
 refusal_name Depth = codes "F2 Depth"
 refusal_name Component = codes "F3 Component"

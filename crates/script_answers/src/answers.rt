@@ -1,7 +1,7 @@
 //! How answers are written.
 ghost use Rattle.std.specs.Prelude.{◌≡◌, ◌∷◌, ◌++◌, IfOk, OnOk, codes};
 ghost use Rattle.std.specs.List.{flat_map};
-ghost use Rattle.load_path.specs.Paths.{text_of};
+ghost use Rattle.load_places.specs.Texts.{place_text};
 ghost use Rattle.script_answers.specs.Texts.{refusal_name, refusal_values, error_line, ok_line, changed_line, crowd_line, entries_line, entry_line, files_text, content_text, version_text};
 
 use crate::names::{append_name, append_names};
@@ -25,6 +25,7 @@ fn code_and_name(refusal: &LineRefusal) -> &'static [u8]
         LineRefusal::NodeTaken => b"X6 NodeTaken",
         LineRefusal::WriterTaken => b"X7 WriterTaken",
         LineRefusal::LineTooLong => b"X8 LineTooLong",
+        LineRefusal::HostName => b"H1 HostName",
         LineRefusal::Directory => b"F1 Directory",
         LineRefusal::Depth => b"F2 Depth",
         LineRefusal::Component => b"F3 Component",
@@ -157,9 +158,9 @@ fn append_version(
     out.extend_from_slice(scratch.as_bytes())
 }
 
-// Appends the path of an entry.
-fn append_path(out: &mut Vec<u8>, placed: &Placed) -> Result<(), AllocError>
-    ensures appended { OnOk result (out.new.items ≡ out.old.items ++ text_of placed.now.0) }
+// Appends the place of an entry.
+fn append_place(out: &mut Vec<u8>, placed: &Placed) -> Result<(), AllocError>
+    ensures appended { OnOk result (out.new.items ≡ out.old.items ++ place_text placed.now.0) }
 {
     placed.place()?.append_to(out)
 }
@@ -169,7 +170,7 @@ fn append_entry(out: &mut Vec<u8>, scratch: &mut String, placed: &Placed) -> Res
     ensures appended { OnOk result (out.new.items ≡ out.old.items ++ entry_line placed.now) }
 {
     let entry = placed.entry();
-    append_path(out, placed)?;
+    append_place(out, placed)?;
     out.push(b' ')?;
     append_version(out, scratch, entry.version)?;
     out.push(b' ')?;
@@ -178,7 +179,7 @@ fn append_entry(out: &mut Vec<u8>, scratch: &mut String, placed: &Placed) -> Res
     Ok(())
 }
 
-/// All that a store holds, a line for each entry, in path order. Linear in what is written; all
+/// All that a store holds, a line for each entry, in place order. Linear in what is written; all
 /// numbers share one piece of memory.
 pub fn list_files(alloc: Global, store: &Store) -> Result<Vec<u8>, AllocError>
     ensures lines { IfOk result (λ text. text.items ≡ files_text store.now) }

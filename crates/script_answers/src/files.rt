@@ -2,6 +2,7 @@
 ghost use Rattle.std.specs.Prelude.{◌≡◌, ◌++◌, IfOk, OnOk};
 ghost use Rattle.std.specs.Option.{option_copied};
 ghost use Rattle.edit_sums.specs.Sums.{shown};
+ghost use Rattle.path_maps.specs.Views.{fleet_of};
 ghost use Rattle.fragment_choice.specs.Resolutions.{main};
 ghost use Rattle.script_commands.specs.Outcomes.{IsSaid};
 ghost use Rattle.script_answers.specs.Files.{AreFiles, IsCat, IsFile, IsFileAt, TellsFiles, entry_lines, file_bytes, file_lines, lent_text};
@@ -10,7 +11,7 @@ use dropins::UnitFolders;
 use edit_sums::Content;
 use fragment_choice::{Choice, Resolution, names_of, resolve};
 use load_path::Path;
-use replica_store::{Placed, Store};
+use replica_store::{Seen, SeenEntry, Store};
 use script_commands::{Fault, LineRefusal};
 use std::alloc::{AllocError, Global};
 use unit_name::UnitName;
@@ -42,27 +43,27 @@ fn append_file(out: &mut Vec<u8>, path: &Path, bytes: &[u8]) -> Result<(), Alloc
 }
 
 // The same of an entry that is a file.
-fn append_entry(out: &mut Vec<u8>, placed: &Placed) -> Result<(), AllocError>
+fn append_entry(out: &mut Vec<u8>, placed: &SeenEntry) -> Result<(), AllocError>
     requires file { IsFile (shown placed.now.1) }
     ensures appended { OnOk result (out.new.items ≡ out.old.items ++ entry_lines placed.now) }
 {
-    append_file(out, &placed.place()?, bytes_of(placed.visible()))
+    append_file(out, &placed.path()?, bytes_of(placed.visible()))
 }
 
 // The files of a unit: its fragment, and then its drop-ins. Linear in what is written, and a
 // search in the store for the fragment.
 fn files_text(
     alloc: Global,
-    store: &Store,
+    seen: &Seen,
     fragment: &Path,
-    dropins: &[Placed],
+    dropins: &[SeenEntry],
 ) -> Result<Vec<u8>, AllocError>
-    requires file { IsFileAt store.now fragment.now }
+    requires file { IsFileAt seen.now fragment.now }
     requires files { AreFiles dropins.now }
-    ensures lines { IfOk result (λ text. text.items ≡ lent_text store.now fragment.now dropins.now) }
+    ensures lines { IfOk result (λ text. text.items ≡ lent_text seen.now fragment.now dropins.now) }
 {
     let mut out = Vec::new(alloc);
-    append_file(&mut out, fragment, bytes_of(store.visible(fragment)))?;
+    append_file(&mut out, fragment, bytes_of(seen.visible(fragment)))?;
     for placed in dropins {
         append_entry(&mut out, placed)?;
     }
@@ -77,14 +78,15 @@ fn files_of_unit(
     unit: &UnitName,
     fragment: &Path,
 ) -> Result<Vec<u8>, AllocError>
-    requires main { main store.now unit.now ≡ unit.now }
-    requires file { IsFileAt store.now fragment.now }
-    ensures files { IfOk result (λ text. IsCat store.now unit.now fragment.now text.items) }
+    requires main { main (fleet_of store.now) unit.now ≡ unit.now }
+    requires file { IsFileAt (fleet_of store.now) fragment.now }
+    ensures files { IfOk result (λ text. IsCat (fleet_of store.now) unit.now fragment.now text.items) }
 {
     let names = names_of(alloc, store, unit)?;
     let folders = UnitFolders::of(alloc, &names)?;
-    let dropins = folders.drop_ins(alloc, store)?;
-    files_text(alloc, store, fragment, &dropins)
+    let seen = store.fleet();
+    let dropins = folders.drop_ins(alloc, &seen)?;
+    files_text(alloc, &seen, fragment, &dropins)
 }
 
 /// Tells the files of the unit that a word names: its fragment, and then its drop-ins. Refused are a word that is no

@@ -28,18 +28,18 @@ abbrev pub node_command : List (List ℕ) → Result Command LineRefusal
 node_command (name ∷ writer ∷ []) = node_with name (number_of writer)
 node_command words = Err Arguments
 
--- the text is what follows the path and one space
+-- the text is what follows the place and one space
 abbrev pub put_command : List (List ℕ) → List ℕ → Result Command LineRefusal
-put_command (node ∷ path ∷ words) text = if is_name node then Ok (Put node path text) else Err Arguments
+put_command (node ∷ place ∷ words) text = if is_name node then Ok (Put node place text) else Err Arguments
 put_command words text = Err Arguments
 
 abbrev pub link_command : List (List ℕ) → Result Command LineRefusal
-link_command (node ∷ path ∷ target ∷ []) = if is_name node then Ok (Link node path target) else Err Arguments
+link_command (node ∷ place ∷ target ∷ []) = if is_name node then Ok (Link node place target) else Err Arguments
 link_command words = Err Arguments
 
--- the paths are the words that follow; there may be none
+-- the places are the words that follow; there may be none
 abbrev pub part_command : List (List ℕ) → Result Command LineRefusal
-part_command (piece ∷ from ∷ to ∷ paths) = if is_name piece && is_name from && is_name to then Ok (Part piece from to paths) else Err Arguments
+part_command (piece ∷ from ∷ to ∷ places) = if is_name piece && is_name from && is_name to then Ok (Part piece from to places) else Err Arguments
 part_command words = Err Arguments
 
 abbrev pub sweep_command : List (List ℕ) → Result Command LineRefusal

@@ -2,21 +2,22 @@
 -- Source: this project's own.
 use Rattle.edit_sums.specs.declared.contents.ContentFault.{ContentFault}
 use Rattle.edit_sums.specs.declared.contents.ContentFault.TheVariants as content
-use Rattle.load_path.specs.declared.paths.PathFault.{PathFault}
-use Rattle.load_path.specs.declared.paths.PathFault.TheVariants as path
+use Rattle.load_places.specs.declared.texts.PlaceFault.{PlaceFault}
+use Rattle.load_places.specs.declared.texts.PlaceFault.TheVariants as place
 use Rattle.replica_store.specs.declared.replicas.EditFault.{EditFault}
 use Rattle.replica_store.specs.declared.replicas.EditFault.TheVariants as edit
-use Rattle.script_commands.specs.declared.commands.LineRefusal.TheVariants.{Directory, Depth, Component, FileTooLarge, BadLink, VersionsSpent, Nothing, Length, Kind, EmptyPrefix, BadByte}
+use Rattle.script_commands.specs.declared.commands.LineRefusal.TheVariants.{HostName, Directory, Depth, Component, FileTooLarge, BadLink, VersionsSpent, Nothing, Length, Kind, EmptyPrefix, BadByte}
 use Rattle.unit_name.specs.declared.names.NameFault.{NameFault}
 use Rattle.unit_name.specs.declared.names.NameFault.TheVariants as name
 use Rattle.script_commands.specs.declared.commands.Fault.{Fault}
 use Rattle.script_commands.specs.declared.commands.Fault.TheVariants.{Refused, Memory}
 
-abbrev pub fault_of_path : PathFault → Fault
-fault_of_path path.Directory = Refused Directory
-fault_of_path path.Depth = Refused Depth
-fault_of_path path.Component = Refused Component
-fault_of_path path.Memory = Memory
+abbrev pub fault_of_place : PlaceFault → Fault
+fault_of_place place.HostName = Refused HostName
+fault_of_place place.Directory = Refused Directory
+fault_of_place place.Depth = Refused Depth
+fault_of_place place.Component = Refused Component
+fault_of_place place.Memory = Memory
 
 abbrev pub fault_of_content : ContentFault → Fault
 fault_of_content content.FileTooLarge = Refused FileTooLarge

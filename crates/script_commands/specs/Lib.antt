@@ -4,6 +4,6 @@ pub mod Faults
 pub mod Fields
 pub mod Files
 pub mod Outcomes
-pub mod Paths
+pub mod Places
 pub mod ReadLaws
 pub mod WrittenLaws

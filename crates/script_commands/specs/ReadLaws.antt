@@ -54,19 +54,19 @@ module _ (c : Command) (line : List ℕ) where
   node_read words e = absurd (never Arguments c e)
 
   put_read : (words : List (List ℕ)) → put_command words (text_after 3 line) ≡ Ok c → AreWordsOf c (codes "put" ∷ words) line
-  put_read (node ∷ path ∷ rest) e =
-      read_where (is_name node) (Put node path (text_after 3 line)) (codes "put" ∷ node ∷ path ∷ rest)
+  put_read (node ∷ place ∷ rest) e =
+      read_where (is_name node) (Put node place (text_after 3 line)) (codes "put" ∷ node ∷ place ∷ rest)
       (λ named. (rest, refl, refl, named)) e
   put_read words e = absurd (never Arguments c e)
 
   link_read : (words : List (List ℕ)) → link_command words ≡ Ok c → AreWordsOf c (codes "link" ∷ words) line
-  link_read (node ∷ path ∷ target ∷ []) e =
-      read_where (is_name node) (Link node path target) (codes "link" ∷ node ∷ path ∷ target ∷ []) (λ named. (refl, named)) e
+  link_read (node ∷ place ∷ target ∷ []) e =
+      read_where (is_name node) (Link node place target) (codes "link" ∷ node ∷ place ∷ target ∷ []) (λ named. (refl, named)) e
   link_read words e = absurd (never Arguments c e)
 
   part_read : (words : List (List ℕ)) → part_command words ≡ Ok c → AreWordsOf c (codes "part" ∷ words) line
-  part_read (piece ∷ from ∷ to ∷ paths) e =
-      read_where (is_name piece && is_name from && is_name to) (Part piece from to paths) (codes "part" ∷ piece ∷ from ∷ to ∷ paths)
+  part_read (piece ∷ from ∷ to ∷ places) e =
+      read_where (is_name piece && is_name from && is_name to) (Part piece from to places) (codes "part" ∷ piece ∷ from ∷ to ∷ places)
       (λ all. let are = and_parts (is_name piece && is_name from) (is_name to) all in
       let first = and_parts (is_name piece) (is_name from) are.0 in
       (refl, first.0, first.1, are.1)) e
@@ -121,7 +121,7 @@ module _ (c : Command) (line : List ℕ) where
       verb_or verb (codes "put") words (put_command words (text_after 3 line)) _ e0 (put_read words) (λ e1.
       verb_or verb (codes "link") words (link_command words) _ e1 (link_read words) (λ e2.
       verb_or verb (codes "remove") words (with_name_and_word Remove words) _ e2
-      (name_and_word_read (codes "remove") Remove (λ node path named. (refl, named)) words) (λ e3.
+      (name_and_word_read (codes "remove") Remove (λ node place named. (refl, named)) words) (λ e3.
       verb_or verb (codes "merge") words (with_two_names Merge words) _ e3
       (two_names_read (codes "merge") Merge (λ from to is and. (refl, is, and)) words) (λ e4.
       verb_or verb (codes "part") words (part_command words) _ e4 (part_read words) (λ e5.
@@ -145,12 +145,12 @@ module _ (c : Command) (line : List ℕ) where
 -- and these are read
 read_as : (c : Command) (words : List (List ℕ)) (line : List ℕ) → AreWordsOf c words line → command_of_words words line ≡ Ok c
 read_as (Node name writer) words line (number, same, is, named) = ap (λ v. command_of_words v line) same ∙ ap (node_with name) is ∙ cond-true _ _ _ named
-read_as (Put node path text) words line (rest, same, is, named) =
-    ap (λ v. command_of_words v line) same ∙ cond-true _ _ _ named ∙ ap (λ v. Ok (Put node path v)) (sym is)
-read_as (Link node path target) words line (same, named) = ap (λ v. command_of_words v line) same ∙ cond-true _ _ _ named
-read_as (Remove node path) words line (same, named) = ap (λ v. command_of_words v line) same ∙ cond-true _ _ _ named
+read_as (Put node place text) words line (rest, same, is, named) =
+    ap (λ v. command_of_words v line) same ∙ cond-true _ _ _ named ∙ ap (λ v. Ok (Put node place v)) (sym is)
+read_as (Link node place target) words line (same, named) = ap (λ v. command_of_words v line) same ∙ cond-true _ _ _ named
+read_as (Remove node place) words line (same, named) = ap (λ v. command_of_words v line) same ∙ cond-true _ _ _ named
 read_as (Merge from to) words line (same, is, and) = ap (λ v. command_of_words v line) same ∙ cond-true _ _ _ (and_from _ _ is and)
-read_as (Part piece from to paths) words line (same, named, is, and) =
+read_as (Part piece from to places) words line (same, named, is, and) =
     ap (λ v. command_of_words v line) same ∙ cond-true _ _ _ (and_from _ _ (and_from _ _ named is) and)
 read_as (Send piece node) words line (same, named, is) = ap (λ v. command_of_words v line) same ∙ cond-true _ _ _ (and_from _ _ named is)
 read_as Sweep words line same = ap (λ v. command_of_words v line) same
@@ -199,15 +199,15 @@ module _ (r : LineRefusal) (line : List ℕ) where
   node_refused words e = same_refusal r Arguments e
 
   put_refused : (words : List (List ℕ)) → put_command words (text_after 3 line) ≡ Err r → r ≡ Arguments
-  put_refused (node ∷ path ∷ rest) e = refused_where (is_name node) (Put node path (text_after 3 line)) r e
+  put_refused (node ∷ place ∷ rest) e = refused_where (is_name node) (Put node place (text_after 3 line)) r e
   put_refused words e = same_refusal r Arguments e
 
   link_refused : (words : List (List ℕ)) → link_command words ≡ Err r → r ≡ Arguments
-  link_refused (node ∷ path ∷ target ∷ []) e = refused_where (is_name node) (Link node path target) r e
+  link_refused (node ∷ place ∷ target ∷ []) e = refused_where (is_name node) (Link node place target) r e
   link_refused words e = same_refusal r Arguments e
 
   part_refused : (words : List (List ℕ)) → part_command words ≡ Err r → r ≡ Arguments
-  part_refused (piece ∷ from ∷ to ∷ paths) e = refused_where (is_name piece && is_name from && is_name to) (Part piece from to paths) r e
+  part_refused (piece ∷ from ∷ to ∷ places) e = refused_where (is_name piece && is_name from && is_name to) (Part piece from to places) r e
   part_refused words e = same_refusal r Arguments e
 
   sweep_refused : (words : List (List ℕ)) → sweep_command words ≡ Err r → r ≡ Arguments

@@ -45,19 +45,19 @@ abbrev pub NodeIsReadBack : Type 0
 NodeIsReadBack = (name : List ℕ) (writer : ℕ) → IsName name → writer < 2 ^ 32
     → command_of (line_of (codes "node" ∷ name ∷ decimal writer ∷ [])) ≡ Ok (Node name writer)
 
--- the text behind the path and one space is any bytes, spaces too
+-- the text behind the place and one space is any bytes, spaces too
 abbrev pub PutIsReadBack : Type 0
-PutIsReadBack = (node path text : List ℕ) → IsName node → IsWord path
-    → command_of (line_of (codes "put" ∷ node ∷ path ∷ text ∷ [])) ≡ Ok (Put node path text)
+PutIsReadBack = (node place text : List ℕ) → IsName node → IsWord place
+    → command_of (line_of (codes "put" ∷ node ∷ place ∷ text ∷ [])) ≡ Ok (Put node place text)
 
 -- there may be no text
 abbrev pub EmptyPutIsReadBack : Type 0
-EmptyPutIsReadBack = (node path : List ℕ) → IsName node → IsWord path
-    → command_of (line_of (codes "put" ∷ node ∷ path ∷ [])) ≡ Ok (Put node path [])
+EmptyPutIsReadBack = (node place : List ℕ) → IsName node → IsWord place
+    → command_of (line_of (codes "put" ∷ node ∷ place ∷ [])) ≡ Ok (Put node place [])
 
 abbrev pub LinkIsReadBack : Type 0
-LinkIsReadBack = (node path target : List ℕ) → IsName node → IsWord path → IsWord target
-    → command_of (line_of (codes "link" ∷ node ∷ path ∷ target ∷ [])) ≡ Ok (Link node path target)
+LinkIsReadBack = (node place target : List ℕ) → IsName node → IsWord place → IsWord target
+    → command_of (line_of (codes "link" ∷ node ∷ place ∷ target ∷ [])) ≡ Ok (Link node place target)
 
 abbrev pub RemoveIsReadBack : Type 0
 RemoveIsReadBack = NameAndWordAreReadBack (codes "remove") Remove
@@ -65,10 +65,10 @@ RemoveIsReadBack = NameAndWordAreReadBack (codes "remove") Remove
 abbrev pub MergeIsReadBack : Type 0
 MergeIsReadBack = TwoNamesAreReadBack (codes "merge") Merge
 
--- any number of paths, also none
+-- any number of places, also none
 abbrev pub PartIsReadBack : Type 0
-PartIsReadBack = (piece from to : List ℕ) (paths : List (List ℕ)) → IsName piece → IsName from → IsName to → All IsWord paths
-    → command_of (line_of (codes "part" ∷ piece ∷ from ∷ to ∷ paths)) ≡ Ok (Part piece from to paths)
+PartIsReadBack = (piece from to : List ℕ) (places : List (List ℕ)) → IsName piece → IsName from → IsName to → All IsWord places
+    → command_of (line_of (codes "part" ∷ piece ∷ from ∷ to ∷ places)) ≡ Ok (Part piece from to places)
 
 abbrev pub SendIsReadBack : Type 0
 SendIsReadBack = TwoNamesAreReadBack (codes "send") Send
@@ -111,13 +111,13 @@ CrowdIsReadBack = (node : List ℕ) (seats edits : ℕ) → IsName node → seat
 abbrev pub AreWordsOf : Command → List (List ℕ) → List ℕ → Type 0
 AreWordsOf (Node name writer) words line =
     (number : List ℕ) × (words ≡ codes "node" ∷ name ∷ number ∷ []) × (number_of number ≡ Some writer) × IsName name
-AreWordsOf (Put node path text) words line =
-    (rest : List (List ℕ)) × (words ≡ codes "put" ∷ node ∷ path ∷ rest) × (text ≡ text_after 3 line) × IsName node
-AreWordsOf (Link node path target) words line = (words ≡ codes "link" ∷ node ∷ path ∷ target ∷ []) × IsName node
-AreWordsOf (Remove node path) words line = (words ≡ codes "remove" ∷ node ∷ path ∷ []) × IsName node
+AreWordsOf (Put node place text) words line =
+    (rest : List (List ℕ)) × (words ≡ codes "put" ∷ node ∷ place ∷ rest) × (text ≡ text_after 3 line) × IsName node
+AreWordsOf (Link node place target) words line = (words ≡ codes "link" ∷ node ∷ place ∷ target ∷ []) × IsName node
+AreWordsOf (Remove node place) words line = (words ≡ codes "remove" ∷ node ∷ place ∷ []) × IsName node
 AreWordsOf (Merge from to) words line = (words ≡ codes "merge" ∷ from ∷ to ∷ []) × IsName from × IsName to
-AreWordsOf (Part piece from to paths) words line =
-    (words ≡ codes "part" ∷ piece ∷ from ∷ to ∷ paths) × IsName piece × IsName from × IsName to
+AreWordsOf (Part piece from to places) words line =
+    (words ≡ codes "part" ∷ piece ∷ from ∷ to ∷ places) × IsName piece × IsName from × IsName to
 AreWordsOf (Send piece node) words line = (words ≡ codes "send" ∷ piece ∷ node ∷ []) × IsName piece × IsName node
 AreWordsOf Sweep words line = words ≡ codes "sweep" ∷ []
 AreWordsOf (Files node) words line = (words ≡ codes "files" ∷ node ∷ []) × IsName node
@@ -240,25 +240,25 @@ node_is_read_back name writer is small =
     ∙ cond-true _ _ _ is
 
 pub put_is_read_back : PutIsReadBack
-put_is_read_back node path text is at =
-    let words : List (List ℕ) = codes "put" ∷ node ∷ path ∷ [] in
+put_is_read_back node place text is at =
+    let words : List (List ℕ) = codes "put" ∷ node ∷ place ∷ [] in
     let all : AllByRecursion IsWord words = (is_verb (codes "put") refl, (name_is_word node is, (at, tt))) in
     ap command_of (line_of-text words text)
     ∙ ap (λ v. command_of_words v (spaced words ++ text)) (words_of-spaced words text all)
     ∙ cond-true _ _ _ is
-    ∙ ap (λ v. Ok (Put node path v)) (text_after-spaced (codes "put") (node ∷ path ∷ []) text all)
+    ∙ ap (λ v. Ok (Put node place v)) (text_after-spaced (codes "put") (node ∷ place ∷ []) text all)
 
 pub empty_put_is_read_back : EmptyPutIsReadBack
-empty_put_is_read_back node path is at =
+empty_put_is_read_back node place is at =
     let words : List (List ℕ) = codes "put" ∷ node ∷ [] in
     let all : AllByRecursion IsWord words = (is_verb (codes "put") refl, (name_is_word node is, tt)) in
-    read_words (codes "put" ∷ node ∷ path ∷ []) (is_verb (codes "put") refl, (name_is_word node is, (at, tt)))
+    read_words (codes "put" ∷ node ∷ place ∷ []) (is_verb (codes "put") refl, (name_is_word node is, (at, tt)))
     ∙ cond-true _ _ _ is
-    ∙ ap (λ v. Ok (Put node path v)) (ap (text_after 3) (line_of-text words path) ∙ text_after-last words path all at)
+    ∙ ap (λ v. Ok (Put node place v)) (ap (text_after 3) (line_of-text words place) ∙ text_after-last words place all at)
 
 pub link_is_read_back : LinkIsReadBack
-link_is_read_back node path target is at to =
-    read_words (codes "link" ∷ node ∷ path ∷ target ∷ []) (is_verb (codes "link") refl, (name_is_word node is, (at, (to, tt)))) ∙ cond-true _ _ _ is
+link_is_read_back node place target is at to =
+    read_words (codes "link" ∷ node ∷ place ∷ target ∷ []) (is_verb (codes "link") refl, (name_is_word node is, (at, (to, tt)))) ∙ cond-true _ _ _ is
 
 pub remove_is_read_back : RemoveIsReadBack
 remove_is_read_back = name_and_word_are_read_back (codes "remove") Remove refl (λ words line. refl)
@@ -267,8 +267,8 @@ pub merge_is_read_back : MergeIsReadBack
 merge_is_read_back = two_names_are_read_back (codes "merge") Merge refl (λ words line. refl)
 
 pub part_is_read_back : PartIsReadBack
-part_is_read_back piece from to paths named is and all =
-    read_words (codes "part" ∷ piece ∷ from ∷ to ∷ paths) (is_verb (codes "part") refl, (name_is_word piece named, (name_is_word from is, (name_is_word to and, recursion_from_All IsWord paths all))))
+part_is_read_back piece from to places named is and all =
+    read_words (codes "part" ∷ piece ∷ from ∷ to ∷ places) (is_verb (codes "part") refl, (name_is_word piece named, (name_is_word from is, (name_is_word to and, recursion_from_All IsWord places all))))
     ∙ cond-true _ _ _ (and_from _ _ (and_from _ _ named is) and)
 
 pub send_is_read_back : SendIsReadBack

@@ -3,7 +3,7 @@ ghost use Rattle.std.specs.Prelude.{◌≡◌, ℕ, List};
 
 use crate::edit_counts::EditCount;
 use edit_sums::ContentFault;
-use load_path::PathFault;
+use load_places::PlaceFault;
 use plain_values::Items;
 use replica_store::EditFault;
 use script_words::cut_word;
@@ -84,34 +84,34 @@ pub enum Command<'a> {
         name: Word<'a>,
         writer: u32,
     },
-    /// A file put at a path of a node.
+    /// A file put at a place of a node.
     Put {
         node: Word<'a>,
-        path: Word<'a>,
+        place: Word<'a>,
         text: Word<'a>,
     },
-    /// A link put at a path of a node.
+    /// A link put at a place of a node.
     Link {
         node: Word<'a>,
-        path: Word<'a>,
+        place: Word<'a>,
         target: Word<'a>,
     },
-    /// What is visible at a path of a node, removed.
+    /// What is visible at a place of a node, removed.
     Remove {
         node: Word<'a>,
-        path: Word<'a>,
+        place: Word<'a>,
     },
     /// One node is given all that it lacks of another.
     Merge {
         from: Word<'a>,
         to: Word<'a>,
     },
-    /// What one node cuts for the ask of another, at these paths or at all, kept under a name.
+    /// What one node cuts for the ask of another, at these places or at all, kept under a name.
     Part {
         piece: Word<'a>,
         from: Word<'a>,
         to: Word<'a>,
-        paths: Words<'a>,
+        places: Words<'a>,
     },
     /// A piece, given to a node.
     Send {
@@ -173,6 +173,8 @@ pub enum LineRefusal {
     NodeTaken,
     WriterTaken,
     LineTooLong,
+    /// What stands before a path's first colon names no host.
+    HostName,
     Directory,
     Depth,
     Component,
@@ -251,18 +253,19 @@ impl<T: Drop> From<AllocFailed<T>> for Fault {
     }
 }
 
-impl From<PathFault> for Fault {
+impl From<PlaceFault> for Fault {
     ghost use Rattle.std.specs.Prelude.{◌≡◌};
-    ghost use Rattle.script_commands.specs.Faults.{fault_of_path};
+    ghost use Rattle.script_commands.specs.Faults.{fault_of_place};
 
-    ghost from_gives = { λ refused fault. fault ≡ fault_of_path refused };
+    ghost from_gives = { λ refused fault. fault ≡ fault_of_place refused };
 
-    fn from(refused: PathFault) -> Fault {
+    fn from(refused: PlaceFault) -> Fault {
         match refused {
-            PathFault::Directory => Fault::Refused(LineRefusal::Directory),
-            PathFault::Depth => Fault::Refused(LineRefusal::Depth),
-            PathFault::Component => Fault::Refused(LineRefusal::Component),
-            PathFault::Memory => Fault::Memory,
+            PlaceFault::HostName => Fault::Refused(LineRefusal::HostName),
+            PlaceFault::Directory => Fault::Refused(LineRefusal::Directory),
+            PlaceFault::Depth => Fault::Refused(LineRefusal::Depth),
+            PlaceFault::Component => Fault::Refused(LineRefusal::Component),
+            PlaceFault::Memory => Fault::Memory,
         }
     }
 }

@@ -2,8 +2,8 @@
 ghost use Rattle.script_commands.specs.WrittenLaws.{CatIsReadBack, CrowdIsReadBack, EmptyPutIsReadBack, FilesIsReadBack, JustItsWordsAreRead, LinkIsReadBack, ListIsReadBack, MergeIsReadBack, NodeIsReadBack, OthersAreRefused, PartIsReadBack, PlanIsReadBack, PutIsReadBack, RemoveIsReadBack, SameIsReadBack, SendIsReadBack, ShowIsReadBack, SweepIsReadBack, WorkersIsReadBack};
 
 /// Each command is read back from its words with one space between each two: names as names may be,
-/// numbers in decimal, and paths, targets and units as any words. What `put` writes is all
-/// that follows the path and one space.
+/// numbers in decimal, and places, targets and units as any words. What `put` writes is all
+/// that follows the place and one space.
 pub fn commands_read_back()
     ensures node { NodeIsReadBack }
     ensures put { PutIsReadBack }

@@ -11,10 +11,10 @@ mod edit_counts;
 mod fields;
 mod laws;
 mod parsing;
-mod path_words;
+mod place_words;
 
 pub use commands::{Command, Fault, LineRefusal, Word, Words};
 pub use edit_counts::EditCount;
 pub use laws::commands_read_back;
 pub use parsing::parse;
-pub use path_words::{read_file, read_link, read_path, read_paths};
+pub use place_words::{read_file, read_link, read_place, read_places};

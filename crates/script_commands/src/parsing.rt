@@ -30,19 +30,19 @@ fn change<'a>(verb: &[u8], mut fields: Fields<'a>) -> Result<Command<'a>, LineRe
     } else if is_same(verb, b"put") {
         Ok(Command::Put {
             node: fields.name()?,
-            path: fields.word()?,
+            place: fields.word()?,
             text: fields.text(),
         })
     } else if is_same(verb, b"link") {
         Ok(Command::Link {
             node: fields.name()?,
-            path: fields.word()?,
+            place: fields.word()?,
             target: fields.last_word()?,
         })
     } else if is_same(verb, b"remove") {
         Ok(Command::Remove {
             node: fields.name()?,
-            path: fields.last_word()?,
+            place: fields.last_word()?,
         })
     } else if is_same(verb, b"merge") {
         Ok(Command::Merge {
@@ -54,7 +54,7 @@ fn change<'a>(verb: &[u8], mut fields: Fields<'a>) -> Result<Command<'a>, LineRe
             piece: fields.name()?,
             from: fields.name()?,
             to: fields.name()?,
-            paths: fields.rest(),
+            places: fields.rest(),
         })
     } else if is_same(verb, b"send") {
         Ok(Command::Send {

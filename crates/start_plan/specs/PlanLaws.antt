@@ -4,7 +4,7 @@ use mathlib.Core.Path.{fun_ext}
 use Rattle.std.specs.List.{flat_map, list_any}
 use Rattle.std.specs.Cmp.Lexicographic.{nat_list_cmp_total}
 use Rattle.name_closure.specs.ListedLaws.{named_by}
-use Rattle.edit_sums.specs.Sums.{EntryMap}
+use Rattle.path_maps.specs.Views.{View}
 use Rattle.unit_name.specs.Names.{Name, name_cmp}
 use Rattle.unit_name.specs.NameLaws.{name_cmp-IsAntisymmetric}
 use Rattle.setting_rules.specs.declared.kinds.DepKind.{DepKind}
@@ -48,7 +48,7 @@ OneCase = (load : LoadMap) (request : Request) (a b : EdgeMap) → AreEdges load
 -- In a load of a store what a plan chooses has the target, is closed under need, is all loaded, has its requisites running
 -- and is free of conflicts, and each unit starts after all started units that are to start before it.
 abbrev pub PlansKeepPromises : Type 0
-PlansKeepPromises = (s : EntryMap) (extra : List Name) (load : LoadMap) (edges : EdgeMap) (request : Request) (p : Plan) → IsLoad s extra load → AreEdges load edges
+PlansKeepPromises = (s : View) (extra : List Name) (load : LoadMap) (edges : EdgeMap) (request : Request) (p : Plan) → IsLoad s extra load → AreEdges load edges
     → IsPlanned load edges request p → KeepsPromises name_cmp (case_of load edges request) p.start
 
 plan_with : List Name → List Name → Plan
@@ -150,7 +150,7 @@ one_case load request a b p q =
 
 -- ---- promises
 
-spares_itself : (s : EntryMap) (extra : List Name) (load : LoadMap) (edges : EdgeMap) (request : Request) → IsLoad s extra load → AreEdges load edges
+spares_itself : (s : View) (extra : List Name) (load : LoadMap) (edges : EdgeMap) (request : Request) → IsLoad s extra load → AreEdges load edges
     → SparesItself (case_of load edges request)
 spares_itself s extra load edges request l a u h =
     let r = named_by (λ dep. names_in edges dep u) (kind.Conflicts ∷ []) u h in

@@ -1,6 +1,6 @@
 -- Laws of graphs: in a load of a store the names that stand for units are those of the universe.
 use Rattle.std.proofs.Common.{◌↔◌, List, refl}
-use Rattle.edit_sums.specs.Sums.{EntryMap}
+use Rattle.path_maps.specs.Views.{View}
 use Rattle.unit_name.specs.Names.{Name}
 use Rattle.fragment_choice.specs.Resolutions.{main}
 use Rattle.parallel_load.specs.Loads.{IsLoad, LoadMap}
@@ -9,7 +9,7 @@ use Rattle.parallel_load.specs.UniverseLaws.{mains_have_units, names_have_mains}
 use Rattle.unit_graph.specs.Graphs.{IsKnown}
 
 abbrev pub KnownNames : Type 0
-KnownNames = (s : EntryMap) (extra : List Name) (load : LoadMap) (n : Name) → IsLoad s extra load → IsKnown load n ↔ IsInUniverse s extra n
+KnownNames = (s : View) (extra : List Name) (load : LoadMap) (n : Name) → IsLoad s extra load → IsKnown load n ↔ IsInUniverse s extra n
 
 pub known_names : KnownNames
 known_names s extra load n l = (there, back)

@@ -11,7 +11,7 @@ use Rattle.std.proofs.lemmas.List.Elements.{All-head, All-tail}
 use Rattle.std.proofs.lemmas.Option.{none-some}
 use Rattle.list_laws.specs.Members.{IsAmong}
 use Rattle.list_laws.specs.Orderings.{is_less}
-use Rattle.edit_sums.specs.Sums.{EntryMap}
+use Rattle.path_maps.specs.Views.{View}
 use Rattle.unit_name.specs.Names.{Name, name_cmp}
 use Rattle.unit_name.specs.NameLaws.{name_cmp-IsAntisymmetric}
 use Rattle.unit_loads.specs.declared.units.Unit.{Unit as LoadedUnit}
@@ -30,7 +30,7 @@ pub record HasMembers (load : LoadMap) : Type 0 where
 
 -- In a load of a store the members are its units, in byte order.
 abbrev pub MembersAreUnits : Type 0
-MembersAreUnits = (s : EntryMap) (extra : List Name) (load : LoadMap) → IsLoad s extra load → HasMembers load
+MembersAreUnits = (s : View) (extra : List Name) (load : LoadMap) → IsLoad s extra load → HasMembers load
 
 abbrev names_in_pairs : List (Name × NameLoad) → List Name
 names_in_pairs es = map (λ u. u.name) (filter_map (λ p. unit_part p.1) es)
@@ -47,11 +47,11 @@ abbrev AreRight : List (Name × NameLoad) → Type 0
 AreRight [] = Unit {0}
 AreRight (e ∷ es) = IsRight e.0 e.1 × AreRight es
 
-right_one : (s : EntryMap) (n : Name) (one : NameLoad) → IsNameLoad s n one → IsRight n one
+right_one : (s : View) (n : Name) (one : NameLoad) → IsNameLoad s n one → IsRight n one
 right_one s n (OfUnit unit) p = ap (λ (u : LoadedUnit). u.name) p.by_mains_is ∙ p.is_unit.name_is
 right_one s n (OfAlias of) p = tt
 
-right_all : (s : EntryMap) (es : List (Name × NameLoad)) → All (λ p. IsNameLoad s p.0 p.1) es → AreRight es
+right_all : (s : View) (es : List (Name × NameLoad)) → All (λ p. IsNameLoad s p.0 p.1) es → AreRight es
 right_all s [] a = tt
 right_all s (e ∷ es) a =
     let P : Name × NameLoad → Type 0 = λ p. IsNameLoad s p.0 p.1 in

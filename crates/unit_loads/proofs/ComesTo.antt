@@ -2,7 +2,7 @@
 use Rattle.std.proofs.Common.{◌≡◌, ap, sym, subst, ◌∙◌, List, ◌∷◌, ◌++◌, map}
 use Rattle.load_path.specs.Paths.{PathParts}
 use Rattle.edit_sums.specs.Entries.{Entry}
-use Rattle.edit_sums.specs.Sums.{EntryMap}
+use Rattle.path_maps.specs.Views.{View}
 use Rattle.unit_name.specs.Names.{Name}
 use Rattle.section_reader.specs.Sections.{assignments_of}
 use Rattle.setting_rules.specs.Rows.{rows_of}
@@ -16,7 +16,7 @@ use Rattle.unit_loads.specs.Steps.{ComesTo, found_unit, items_with, lent_notes}
 use Rattle.unit_loads.specs.Units.{AreDropIns, AreLinkNames, HasSettings, bytes_at, file_notes, items_of, lists_with, notes_at, setting_notes}
 use Rattle.unit_loads.proofs.Lent.{AreHeld, items_lent, notes_lent}
 
-module _ (s : EntryMap) (fragment : PathParts) (lent : List (PathParts × Entry)) (unit : Name) (links : LinkNames) (found : Found) (held : AreHeld s lent) (it : ComesTo s fragment lent unit links found) where
+module _ (s : View) (fragment : PathParts) (lent : List (PathParts × Entry)) (unit : Name) (links : LinkNames) (found : Found) (held : AreHeld s lent) (it : ComesTo s fragment lent unit links found) where
   items : items_with s fragment lent ≡ items_of s (fragment ∷ found.dropins)
   items = ap (λ xs. assignments_of (bytes_at s fragment) ++ xs) (items_lent s lent held ∙ ap (items_of s) (sym it.dropins))
 

@@ -8,7 +8,8 @@ use Rattle.std.specs.Prelude.{Some}
 use Rattle.list_laws.specs.Members.{first_there, later_there}
 use Rattle.load_path.specs.Paths.{PathParts}
 use Rattle.edit_sums.specs.Entries.{Entry}
-use Rattle.edit_sums.specs.Sums.{EntryMap, shown}
+use Rattle.edit_sums.specs.Sums.{shown}
+use Rattle.path_maps.specs.Views.{View}
 use Rattle.unit_name.specs.Names.{Name, name_cmp}
 use Rattle.section_reader.specs.Sections.{assignments_of, notes_of}
 use Rattle.dropins.specs.declared.link_names.Folder.{Folder}
@@ -21,22 +22,22 @@ use Rattle.unit_loads.specs.Steps.{AreLinkNamesFrom, AreLinksFrom, lent_items, l
 use Rattle.unit_loads.specs.Units.{AreDropIns, AreLinkNames, AreLinks, file_bytes, file_notes, items_of}
 
 -- the store has each entry at its path
-abbrev pub AreHeld : EntryMap → List (PathParts × Entry) → Type 0
+abbrev pub AreHeld : View → List (PathParts × Entry) → Type 0
 AreHeld s ps = (p : PathParts × Entry) → Contains ps p → finmap.get s p.0 ≡ Some p.1
 
-pub items_lent : (s : EntryMap) (ps : List (PathParts × Entry)) → AreHeld s ps → lent_items ps ≡ items_of s (map entry_path ps)
+pub items_lent : (s : View) (ps : List (PathParts × Entry)) → AreHeld s ps → lent_items ps ≡ items_of s (map entry_path ps)
 items_lent s [] held = refl
 items_lent s (p ∷ ps) held =
     ap (λ o. assignments_of (file_bytes (option_and_then shown o)) ++ lent_items ps) (sym (held p (first_there p ps)))
     ∙ ap (λ xs. assignments_of (file_bytes (option_and_then shown (finmap.get s p.0))) ++ xs) (items_lent s ps (λ q c. held q (later_there p q ps c)))
 
-pub notes_lent : (s : EntryMap) (ps : List (PathParts × Entry)) → AreHeld s ps → lent_notes ps ≡ file_notes s (map entry_path ps)
+pub notes_lent : (s : View) (ps : List (PathParts × Entry)) → AreHeld s ps → lent_notes ps ≡ file_notes s (map entry_path ps)
 notes_lent s [] held = refl
 notes_lent s (p ∷ ps) held =
     ap (λ o. map (note.File p.0) (notes_of (file_bytes (option_and_then shown o))) ++ lent_notes ps) (sym (held p (first_there p ps)))
     ∙ ap (λ xs. map (note.File p.0) (notes_of (file_bytes (option_and_then shown (finmap.get s p.0)))) ++ xs) (notes_lent s ps (λ q c. held q (later_there p q ps c)))
 
-module _ (s : EntryMap) (names fs : List Name) (listed : fs ≡ folders names) where
+module _ (s : View) (names fs : List Name) (listed : fs ≡ folders names) where
   pub drop_ins_lent : (ps : List (PathParts × Entry)) → IsStrictlySortedBy name_cmp (map entry_name ps) → AreDropInsOf s fs ps → AreDropIns s names (map entry_path ps)
   drop_ins_lent ps rising exact =
       let own : AreDropInsOf s (folders names) ps = subst (λ (l : List Name). AreDropInsOf s l ps) listed exact in

@@ -3,7 +3,7 @@
 use Rattle.std.specs.Prelude.{◌≡◌, ◌≢◌, ◌⊎◌, ℕ, List, [], ◌++◌}
 use Rattle.list_laws.specs.Members.{IsAmong}
 use Rattle.load_path.specs.Paths.{PathParts}
-use Rattle.edit_sums.specs.Sums.{EntryMap, visible_at}
+use Rattle.path_maps.specs.Views.{View, seen_at}
 use Rattle.unit_name.specs.Names.{Name}
 use Rattle.dropins.specs.FolderLists.{folders}
 use Rattle.dropins.specs.declared.link_names.Folder.TheVariants.{Wants, Requires}
@@ -23,5 +23,5 @@ pub record IsElsewhere (names : List Name) (p : PathParts) : Type 0 where
   pub of_others : ¬ IsAmong p.folder (unit_folders names)
 
 -- two stores show the same at each path but this one
-abbrev pub AgreeButAt : EntryMap → EntryMap → PathParts → Type 0
-AgreeButAt s t m = (p : PathParts) → p ≢ m → visible_at s p ≡ visible_at t p
+abbrev pub AgreeButAt : View → View → PathParts → Type 0
+AgreeButAt s t m = (p : PathParts) → p ≢ m → seen_at s p ≡ seen_at t p

@@ -5,7 +5,7 @@ use Rattle.std.specs.List.{Contains}
 use Rattle.std.proofs.lemmas.Option.{same_Some}
 use Rattle.list_laws.specs.Members.{IsAmong, IsAmong-append_left, IsAmong-append_right, first_or_later, first_there, later_there}
 use Rattle.load_path.specs.Paths.{PathParts}
-use Rattle.edit_sums.specs.Sums.{EntryMap, visible_at}
+use Rattle.path_maps.specs.Views.{View, seen_at}
 use Rattle.unit_name.specs.Names.{Name}
 use Rattle.section_reader.specs.Sections.{assignments_of, notes_of}
 use Rattle.setting_rules.specs.Rows.{rows_of}
@@ -38,11 +38,11 @@ use Rattle.unit_loads.specs.Units.{AreDropIns, AreLinks, HasAllOf, HasSettings, 
 
 -- Stores that show the same at paths of one component and in a unit's folders have the same unit.
 abbrev pub NearPathsDecide : Type 0
-NearPathsDecide = (s t : EntryMap) (name : Name) (unit : LoadedUnit) → ((p : PathParts) → IsNear unit.names p → visible_at s p ≡ visible_at t p) → IsUnit s name unit → IsUnit t name unit
+NearPathsDecide = (s t : View) (name : Name) (unit : LoadedUnit) → ((p : PathParts) → IsNear unit.names p → seen_at s p ≡ seen_at t p) → IsUnit s name unit → IsUnit t name unit
 
 -- A visible edit elsewhere leaves a unit as it was.
 abbrev pub ElsewhereChangesNothing : Type 0
-ElsewhereChangesNothing = (s t : EntryMap) (name : Name) (unit : LoadedUnit) (m : PathParts) → IsElsewhere unit.names m → AgreeButAt s t m → IsUnit s name unit → IsUnit t name unit
+ElsewhereChangesNothing = (s t : View) (name : Name) (unit : LoadedUnit) (m : PathParts) → IsElsewhere unit.names m → AgreeButAt s t m → IsUnit s name unit → IsUnit t name unit
 
 -- what stands at a place of a list is among it
 placed_among : (ds : List (List ℕ)) (i : ℕ) (d : List ℕ) → slice_get ds i ≡ Some d → IsAmong d ds
@@ -51,22 +51,22 @@ placed_among (x ∷ xs) zero d h = inl (same_Some _ _ h)
 placed_among (x ∷ xs) (suc i) d h = inr (placed_among xs i d h)
 
 -- the same files have the same bytes, and the same assignments and notes
-module _ (s t : EntryMap) where
-  items_same : (files : List PathParts) → ((p : PathParts) → Contains files p → visible_at s p ≡ visible_at t p) → items_of s files ≡ items_of t files
+module _ (s t : View) where
+  items_same : (files : List PathParts) → ((p : PathParts) → Contains files p → seen_at s p ≡ seen_at t p) → items_of s files ≡ items_of t files
   items_same [] same = refl
   items_same (p ∷ ps) same =
       ap (λ o. assignments_of (file_bytes o) ++ items_of s ps) (same p (first_there p ps))
-      ∙ ap (λ xs. assignments_of (file_bytes (visible_at t p)) ++ xs) (items_same ps (λ q c. same q (later_there p q ps c)))
+      ∙ ap (λ xs. assignments_of (file_bytes (seen_at t p)) ++ xs) (items_same ps (λ q c. same q (later_there p q ps c)))
 
-  notes_same : (files : List PathParts) → ((p : PathParts) → Contains files p → visible_at s p ≡ visible_at t p) → file_notes s files ≡ file_notes t files
+  notes_same : (files : List PathParts) → ((p : PathParts) → Contains files p → seen_at s p ≡ seen_at t p) → file_notes s files ≡ file_notes t files
   notes_same [] same = refl
   notes_same (p ∷ ps) same =
       ap (λ o. map (note.File p) (notes_of (file_bytes o)) ++ file_notes s ps) (same p (first_there p ps))
-      ∙ ap (λ xs. map (note.File p) (notes_of (file_bytes (visible_at t p))) ++ xs) (notes_same ps (λ q c. same q (later_there p q ps c)))
+      ∙ ap (λ xs. map (note.File p) (notes_of (file_bytes (seen_at t p))) ++ xs) (notes_same ps (λ q c. same q (later_there p q ps c)))
 
-module _ (s t : EntryMap) (names : List Name) (near : (p : PathParts) → IsNear names p → visible_at s p ≡ visible_at t p) where
+module _ (s t : View) (names : List Name) (near : (p : PathParts) → IsNear names p → seen_at s p ≡ seen_at t p) where
   -- a path in a folder of the unit shows the same
-  shown_in : (ds : List (List ℕ)) → ((d : List ℕ) → IsAmong d ds → IsAmong d (unit_folders names)) → (p : PathParts) (i : ℕ) → slice_get ds i ≡ Some p.folder → visible_at s p ≡ visible_at t p
+  shown_in : (ds : List (List ℕ)) → ((d : List ℕ) → IsAmong d ds → IsAmong d (unit_folders names)) → (p : PathParts) (i : ℕ) → slice_get ds i ≡ Some p.folder → seen_at s p ≡ seen_at t p
   shown_in ds own p i f = near p (inr (own p.folder (placed_among ds i p.folder f)))
 
   -- and the same is taken there
@@ -84,7 +84,7 @@ module _ (s t : EntryMap) (names : List Name) (near : (p : PathParts) → IsNear
       by Wants h = IsAmong-append_left d (dirs_with (ending Wants) (folders names)) _ h
       by Requires h = IsAmong-append_right d (dirs_with (ending Wants) (folders names)) _ h
 
-  drop_in_folder_shown : (o : Owner) (p : PathParts) (i : ℕ) → slice_get (dirs_by o (name_dirs (folders names)) (type_dirs (folders names))) i ≡ Some p.folder → visible_at s p ≡ visible_at t p
+  drop_in_folder_shown : (o : Owner) (p : PathParts) (i : ℕ) → slice_get (dirs_by o (name_dirs (folders names)) (type_dirs (folders names))) i ≡ Some p.folder → seen_at s p ≡ seen_at t p
   drop_in_folder_shown o p i f = shown_in (dirs_by o (name_dirs (folders names)) (type_dirs (folders names))) (drop_in_folder o) p i f
 
   same_drop_in : (p : PathParts) → IsDropIn s names p ↔ IsDropIn t names p
@@ -105,18 +105,18 @@ module _ (s t : EntryMap) (names : List Name) (near : (p : PathParts) → IsNear
     exact = λ n. (λ c. (same_linked folder n).0 ((are.exact n).0 c), λ h. (are.exact n).1 ((same_linked folder n).1 h));
   }
 
-  drop_in_shown : (p : PathParts) → IsDropIn s names p → visible_at s p ≡ visible_at t p
+  drop_in_shown : (p : PathParts) → IsDropIn s names p → seen_at s p ≡ seen_at t p
   drop_in_shown p d = drop_in_folder_shown d.owner p d.place d.stands.folder_is
 
   -- the files of the unit show the same
-  files_shown : (fragment : PathParts) (dropins : List PathParts) → fragment.folder ≡ [] → AreDropIns s names dropins → (p : PathParts) → Contains (fragment ∷ dropins) p → visible_at s p ≡ visible_at t p
+  files_shown : (fragment : PathParts) (dropins : List PathParts) → fragment.folder ≡ [] → AreDropIns s names dropins → (p : PathParts) → Contains (fragment ∷ dropins) p → seen_at s p ≡ seen_at t p
   files_shown fragment dropins own are p c = by (first_or_later fragment p dropins c)
     where
-      by : (fragment ≡ p) ⊎ Contains dropins p → visible_at s p ≡ visible_at t p
+      by : (fragment ≡ p) ⊎ Contains dropins p → seen_at s p ≡ seen_at t p
       by (inl e) = near p (inl (ap (λ (q : PathParts). q.folder) (sym e) ∙ own))
       by (inr d) = drop_in_shown p ((are.exact p).0 d)
 
-module _ (s t : EntryMap) (unit : LoadedUnit) (near : (p : PathParts) → IsNear unit.names p → visible_at s p ≡ visible_at t p) where
+module _ (s t : View) (unit : LoadedUnit) (near : (p : PathParts) → IsNear unit.names p → seen_at s p ≡ seen_at t p) where
   settings_same : (fragment : PathParts) → fragment.folder ≡ [] → HasSettings s fragment unit → HasSettings t fragment unit
   settings_same fragment own h =
       let files = files_shown s t unit.names near fragment unit.dropins own h.dropins_are in

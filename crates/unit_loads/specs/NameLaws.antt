@@ -6,7 +6,7 @@ use Rattle.std.specs.List.Sorted.{IsStrictlySortedBy}
 use Rattle.std.specs.Result.{result_ok}
 use Rattle.list_laws.specs.Members.{IsAmong, IsAmong-append_cases, IsAmong-append_left, IsAmong-append_right, among_from_contains, contains_from_among}
 use Rattle.load_path.specs.Paths.{PathParts}
-use Rattle.edit_sums.specs.Sums.{EntryMap}
+use Rattle.path_maps.specs.Views.{View}
 use Rattle.unit_name.specs.Names.{Name, name_cmp}
 use Rattle.setting_rules.specs.declared.dependency_lists.DependencyList.{DependencyList}
 use Rattle.setting_rules.specs.declared.kinds.DepKind.{DepKind}
@@ -37,19 +37,19 @@ use Rattle.unit_loads.specs.Units.{AreDropIns, HasAllOf, HasSettings, IsStatus, 
 
 -- A unit has a list for each kind that a unit file may set, in the order of the kinds, whatever its status.
 abbrev pub UnitsListAllKinds : Type 0
-UnitsListAllKinds = (s : EntryMap) (name : Name) (unit : LoadedUnit) → IsUnit s name unit → map (λ list. list.kind) unit.deps ≡ settable
+UnitsListAllKinds = (s : View) (name : Name) (unit : LoadedUnit) → IsUnit s name unit → map (λ list. list.kind) unit.deps ≡ settable
 
 -- Each list rises.
 abbrev pub ListsRise : Type 0
-ListsRise = (s : EntryMap) (name : Name) (unit : LoadedUnit) (list : DependencyList) → IsUnit s name unit → Contains unit.deps list → IsStrictlySortedBy name_cmp list.names
+ListsRise = (s : View) (name : Name) (unit : LoadedUnit) (list : DependencyList) → IsUnit s name unit → Contains unit.deps list → IsStrictlySortedBy name_cmp list.names
 
 -- The lists have just the names that the unit names.
 abbrev pub ListsHaveWhatIsNamed : Type 0
-ListsHaveWhatIsNamed = (s : EntryMap) (name : Name) (unit : LoadedUnit) (dep : DepKind) (v : Name) → IsUnit s name unit → IsListed unit.deps dep v ↔ IsNamed s name dep v
+ListsHaveWhatIsNamed = (s : View) (name : Name) (unit : LoadedUnit) (dep : DepKind) (v : Name) → IsUnit s name unit → IsListed unit.deps dep v ↔ IsNamed s name dep v
 
 -- Only a loaded unit names any.
 abbrev pub OthersNameNone : Type 0
-OthersNameNone = (s : EntryMap) (name : Name) (unit : LoadedUnit) (dep : DepKind) (v : Name) → IsUnit s name unit → IsNamed s name dep v → (fragment : PathParts) × (unit.status ≡ Loaded fragment)
+OthersNameNone = (s : View) (name : Name) (unit : LoadedUnit) (dep : DepKind) (v : Name) → IsUnit s name unit → IsNamed s name dep v → (fragment : PathParts) × (unit.status ≡ Loaded fragment)
 
 kind_there : (dep : DepKind) → IsAmong dep kinds
 kind_there Before = inl refl
@@ -135,7 +135,7 @@ module _ (entries : SettingMap) (unit : Name) (links : LinkNames) where
 
 -- ---- what a loaded unit names
 
-module _ (s : EntryMap) (unit : LoadedUnit) (names_are : AreNames s unit.name unit.names) (fragment : PathParts) (fragment_is : (resolution s unit.name).choice ≡ choice.Fragment fragment) (has : HasSettings s fragment unit) where
+module _ (s : View) (unit : LoadedUnit) (names_are : AreNames s unit.name unit.names) (fragment : PathParts) (fragment_is : (resolution s unit.name).choice ≡ choice.Fragment fragment) (has : HasSettings s fragment unit) where
   named_by_link : (dep : DepKind) (v : Name) → HasSource (λ link z. for_unit unit.name link ≡ Some z) (links_for has.links dep) v → IsNamed s unit.name dep v
   named_by_link Wants v from = inr (
     folder.Wants,
@@ -210,7 +210,7 @@ module _ (s : EntryMap) (unit : LoadedUnit) (names_are : AreNames s unit.name un
 
 -- ---- the laws
 
-module _ (s : EntryMap) (unit : LoadedUnit) where
+module _ (s : View) (unit : LoadedUnit) where
   kinds_by : (status : Status) → HasAllOf s unit status → map (λ list. list.kind) unit.deps ≡ settable
   kinds_by (Loaded fragment) h = ap (map (λ (list : DependencyList). list.kind)) h.deps_are
   kinds_by NotFound h = ap (map (λ (list : DependencyList). list.kind)) h.no_deps
@@ -230,7 +230,7 @@ pub lists_rise : ListsRise
 lists_rise s name unit list p c = rises_by s unit unit.status list p.has (among_from_contains list unit.deps c)
 
 -- what a unit has by its own name
-module _ (s : EntryMap) (name : Name) (unit : LoadedUnit) (p : IsUnit s name unit) where
+module _ (s : View) (name : Name) (unit : LoadedUnit) (p : IsUnit s name unit) where
   own_names : AreNames s unit.name unit.names
   own_names = subst (λ (n : Name). AreNames s n unit.names) (sym p.name_is) p.names_are
 

@@ -3,7 +3,7 @@
 use Rattle.std.specs.Prelude.{◌≡◌, ℕ, ◌⊎◌, IsTrue, Ok, Some, List, ◌∷◌, codes}
 use Rattle.std.specs.List.{Contains}
 use Rattle.load_path.specs.Paths.{PathParts}
-use Rattle.edit_sums.specs.Sums.{EntryMap}
+use Rattle.path_maps.specs.Views.{View}
 use Rattle.unit_name.specs.Names.{Name}
 use Rattle.section_reader.specs.declared.assignments.Assignment.{Assignment}
 use Rattle.setting_rules.specs.declared.dependency_lists.DependencyList.{DependencyList}
@@ -30,7 +30,7 @@ pub record IsAssigned (items : List Assignment) (dep : DepKind) (text : List ℕ
   pub has_word : Contains (words_of assignment.value) text
 
 -- a word of the unit's files names v for a kind
-pub record IsNamedByWord (s : EntryMap) (unit : Name) (dep : DepKind) (v : Name) : Type 0 where
+pub record IsNamedByWord (s : View) (unit : Name) (dep : DepKind) (v : Name) : Type 0 where
   pub names : List Name
   pub names_are : AreNames s unit names
   pub fragment : PathParts
@@ -42,7 +42,7 @@ pub record IsNamedByWord (s : EntryMap) (unit : Name) (dep : DepKind) (v : Name)
   pub named : named_by unit text ≡ Ok v
 
 -- a link in a folder of this sort of the unit, which is loaded, gives v
-pub record IsNamedByLink (s : EntryMap) (unit : Name) (folder : Folder) (v : Name) : Type 0 where
+pub record IsNamedByLink (s : View) (unit : Name) (folder : Folder) (v : Name) : Type 0 where
   pub names : List Name
   pub names_are : AreNames s unit names
   pub fragment : PathParts
@@ -57,7 +57,7 @@ kind_of Wants = kind.Wants
 kind_of Requires = kind.Requires
 
 -- The unit names v in a way of this kind: by a word of its files, or by a link.
-abbrev pub IsNamed : EntryMap → Name → DepKind → Name → Type 0
+abbrev pub IsNamed : View → Name → DepKind → Name → Type 0
 IsNamed s unit dep v = IsNamedByWord s unit dep v ⊎ ((folder : Folder) × (kind_of folder ≡ dep) × IsNamedByLink s unit folder v)
 
 -- lists of dependencies have v in one of this kind

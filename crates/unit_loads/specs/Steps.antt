@@ -5,7 +5,8 @@ use Rattle.std.specs.List.{Contains, flat_map}
 use Rattle.std.specs.List.Sorted.{IsStrictlySortedBy}
 use Rattle.load_path.specs.Paths.{PathParts}
 use Rattle.edit_sums.specs.Entries.{Entry}
-use Rattle.edit_sums.specs.Sums.{EntryMap, shown}
+use Rattle.edit_sums.specs.Sums.{shown}
+use Rattle.path_maps.specs.Views.{View}
 use Rattle.unit_name.specs.Names.{Name, name_cmp}
 use Rattle.section_reader.specs.declared.assignments.Assignment.{Assignment}
 use Rattle.section_reader.specs.Sections.{assignments_of, notes_of}
@@ -33,16 +34,16 @@ abbrev pub lent_notes : List (PathParts × Entry) → List UnitNote
 lent_notes ps = flat_map (λ p. map (note.File p.0) (notes_of (file_bytes (shown p.1)))) ps
 
 -- the assignments of a fragment in a store, and of drop-ins that are lent
-abbrev pub items_with : EntryMap → PathParts → List (PathParts × Entry) → List Assignment
+abbrev pub items_with : View → PathParts → List (PathParts × Entry) → List Assignment
 items_with s fragment lent = assignments_of (bytes_at s fragment) ++ lent_items lent
 
 -- the link folders of this sort in a list of folders give these names, in byte order
-pub record AreLinksFrom (s : EntryMap) (folders : List Name) (folder : Folder) (links : List Name) : Type 0 where
+pub record AreLinksFrom (s : View) (folders : List Name) (folder : Folder) (links : List Name) : Type 0 where
   pub rising : IsStrictlySortedBy name_cmp links
   pub exact : (n : Name) → Contains links n ↔ IsLinkedOf s folders folder n
 
 -- these are the names that the link folders in a list of folders give
-pub record AreLinkNamesFrom (s : EntryMap) (folders : List Name) (links : LinkNames) : Type 0 where
+pub record AreLinkNamesFrom (s : View) (folders : List Name) (links : LinkNames) : Type 0 where
   pub wanted_are : AreLinksFrom s folders Wants links.wanted
   pub required_are : AreLinksFrom s folders Requires links.required
 
@@ -52,7 +53,7 @@ with_linked names [] = names
 with_linked names linked = in_byte_order (names ++ linked)
 
 -- what a fragment in a store, drop-ins that are lent and links come to for a unit
-pub record ComesTo (s : EntryMap) (fragment : PathParts) (lent : List (PathParts × Entry)) (unit : Name) (links : LinkNames) (found : Found) : Type 0 where
+pub record ComesTo (s : View) (fragment : PathParts) (lent : List (PathParts × Entry)) (unit : Name) (links : LinkNames) (found : Found) : Type 0 where
   pub dropins : found.dropins ≡ map entry_path lent
   pub values : found.settled.values ≡ rows_of (settings_of (items_with s fragment lent)) unit
   pub deps : found.settled.deps ≡ lists_with (settings_of (items_with s fragment lent)) unit links

@@ -4,7 +4,7 @@ use Rattle.std.specs.Cmp.Lexicographic.{nat_list_cmp_total}
 use Rattle.list_laws.specs.Members.{among_from_contains, contains_from_among}
 use Rattle.list_laws.specs.Rising.{one_rising_list}
 use Rattle.load_path.specs.Paths.{PathParts}
-use Rattle.edit_sums.specs.Sums.{EntryMap}
+use Rattle.path_maps.specs.Views.{View}
 use Rattle.unit_name.specs.Names.{Name, name_cmp}
 use Rattle.setting_rules.specs.declared.dependency_lists.DependencyList.{DependencyList}
 use Rattle.setting_rules.specs.declared.rows.Row.{Row}
@@ -27,7 +27,7 @@ use Rattle.unit_loads.specs.Units.{AreDropIns, AreLinks, AreLinkNames, HasAllOf,
 
 -- Two units of one name in one store are the same unit.
 abbrev pub OneUnit : Type 0
-OneUnit = (s : EntryMap) (name : Name) (a b : LoadedUnit) → IsUnit s name a → IsUnit s name b → a ≡ b
+OneUnit = (s : View) (name : Name) (a b : LoadedUnit) → IsUnit s name a → IsUnit s name b → a ≡ b
 
 -- what stands for a name gives one status
 pub one_status : (c : Choice) (x y : Status) → IsStatus c x → IsStatus c y → x ≡ y
@@ -37,7 +37,7 @@ one_status (choice.Fragment path) x y p q = p ∙ sym q
 one_status (choice.Alias other) x y p q = absurd p
 one_status (choice.Bad cause) x y p q = p ∙ sym q
 
-module _ (s : EntryMap) (names : List Name) where
+module _ (s : View) (names : List Name) where
   -- names have one list of drop-ins
   pub one_dropins : (ps qs : List PathParts) → AreDropIns s names ps → AreDropIns s names qs → ps ≡ qs
   one_dropins ps qs a b = one_order ps qs a.rising b.rising (λ p. (λ c. (b.exact p).1 ((a.exact p).0 c), λ c. (a.exact p).1 ((b.exact p).0 c)))
@@ -62,7 +62,7 @@ record AreAlike (a b : LoadedUnit) : Type 0 where
   notes : a.notes ≡ b.notes
   manual : a.manual ≡ b.manual
 
-module _ (s : EntryMap) (a b : LoadedUnit) (name : a.name ≡ b.name) (names : a.names ≡ b.names) where
+module _ (s : View) (a b : LoadedUnit) (name : a.name ≡ b.name) (names : a.names ≡ b.names) where
   alike_if_loaded : (fragment : PathParts) → HasSettings s fragment a → HasSettings s fragment b → AreAlike a b
   alike_if_loaded fragment p q =
       let dropins = one_dropins s b.names a.dropins b.dropins (subst (λ ns. AreDropIns s ns a.dropins) names p.dropins_are) q.dropins_are in

@@ -6,7 +6,7 @@ use Rattle.std.specs.List.Sorted.{IsStrictlySortedBy}
 use Rattle.load_path.specs.Paths.{PathParts}
 use Rattle.edit_sums.specs.declared.contents.Content.{Content}
 use Rattle.edit_sums.specs.declared.contents.Content.TheVariants.{Gone, Link, File}
-use Rattle.edit_sums.specs.Sums.{EntryMap, visible_at}
+use Rattle.path_maps.specs.Views.{View, seen_at}
 use Rattle.unit_name.specs.Names.{Name, name_cmp}
 use Rattle.section_reader.specs.declared.assignments.Assignment.{Assignment}
 use Rattle.section_reader.specs.Sections.{assignments_of, notes_of}
@@ -46,35 +46,35 @@ file_bytes (Some (Link target)) = []
 file_bytes (Some (File bytes)) = bytes
 
 -- the bytes of the file that is visible at a path
-abbrev pub bytes_at : EntryMap → PathParts → List ℕ
-bytes_at s p = file_bytes (visible_at s p)
+abbrev pub bytes_at : View → PathParts → List ℕ
+bytes_at s p = file_bytes (seen_at s p)
 
 -- the assignments of files, one file behind another
-abbrev pub items_of : EntryMap → List PathParts → List Assignment
+abbrev pub items_of : View → List PathParts → List Assignment
 items_of s files = flat_map (λ p. assignments_of (bytes_at s p)) files
 
 -- the notes on the lines of a file, with its path
-abbrev pub notes_at : EntryMap → PathParts → List UnitNote
+abbrev pub notes_at : View → PathParts → List UnitNote
 notes_at s p = map (note.File p) (notes_of (bytes_at s p))
 
 -- the notes on the lines of files, one file behind another
-abbrev pub file_notes : EntryMap → List PathParts → List UnitNote
+abbrev pub file_notes : View → List PathParts → List UnitNote
 file_notes s files = flat_map (notes_at s) files
 
 -- these are the drop-ins of a unit of these names, by file name
-pub record AreDropIns (s : EntryMap) (names : List Name) (dropins : List PathParts) : Type 0 where
+pub record AreDropIns (s : View) (names : List Name) (dropins : List PathParts) : Type 0 where
   pub rising : IsStrictlySortedBy name_cmp (map file_name dropins)
   pub exact : (p : PathParts) → Contains dropins p ↔ IsDropIn s names p
 
 -- ---- links
 
 -- the link folders of this sort of a unit of these names give these names, in byte order
-pub record AreLinks (s : EntryMap) (names : List Name) (folder : Folder) (links : List Name) : Type 0 where
+pub record AreLinks (s : View) (names : List Name) (folder : Folder) (links : List Name) : Type 0 where
   pub rising : IsStrictlySortedBy name_cmp links
   pub exact : (n : Name) → Contains links n ↔ IsLinked s names folder n
 
 -- these are the names that the link folders of a unit of these names give
-pub record AreLinkNames (s : EntryMap) (names : List Name) (links : LinkNames) : Type 0 where
+pub record AreLinkNames (s : View) (names : List Name) (links : LinkNames) : Type 0 where
   pub wanted_are : AreLinks s names Wants links.wanted
   pub required_are : AreLinks s names Requires links.required
 
@@ -125,11 +125,11 @@ IsStatus (choice.Alias other) status = ⊥
 IsStatus (choice.Bad cause) status = status ≡ Bad cause
 
 -- the settings of a unit with this fragment and these drop-ins
-abbrev pub settings_in : EntryMap → PathParts → List PathParts → SettingMap
+abbrev pub settings_in : View → PathParts → List PathParts → SettingMap
 settings_in s fragment dropins = settings_of (items_of s (fragment ∷ dropins))
 
 -- the unit has what its files and links come to, its fragment being at this path
-pub record HasSettings (s : EntryMap) (fragment : PathParts) (unit : LoadedUnit) : Type 0 where
+pub record HasSettings (s : View) (fragment : PathParts) (unit : LoadedUnit) : Type 0 where
   pub dropins_are : AreDropIns s unit.names unit.dropins
   pub links : LinkNames
   pub links_are : AreLinkNames s unit.names links
@@ -147,14 +147,14 @@ pub record HasNothing (unit : LoadedUnit) : Type 0 where
   pub not_manual : unit.manual ≡ false
 
 -- the unit has what a status lets it have
-abbrev pub HasAllOf : EntryMap → LoadedUnit → Status → Type 0
+abbrev pub HasAllOf : View → LoadedUnit → Status → Type 0
 HasAllOf s unit (Loaded fragment) = HasSettings s fragment unit
 HasAllOf s unit NotFound = HasNothing unit
 HasAllOf s unit Masked = HasNothing unit
 HasAllOf s unit (Bad cause) = HasNothing unit
 
 -- This is the unit of a main name in a store.
-pub record IsUnit (s : EntryMap) (name : Name) (unit : LoadedUnit) : Type 0 where
+pub record IsUnit (s : View) (name : Name) (unit : LoadedUnit) : Type 0 where
   pub main_is : main s name ≡ name
   pub name_is : unit.name ≡ name
   pub names_are : AreNames s name unit.names

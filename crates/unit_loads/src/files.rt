@@ -8,7 +8,7 @@ ghost use Rattle.unit_loads.specs.Units.{bytes_at, file_bytes, notes_at};
 
 use crate::units::UnitNote;
 use plain_values::Items;
-use replica_store::{Content, Path, Placed, Store};
+use replica_store::{Content, Path, Seen, SeenEntry};
 use section_reader::{Assignment, Note, Sections, read};
 use std::alloc::{AllocError, Global};
 
@@ -36,16 +36,16 @@ impl UnitText {
     /// the fragment. It fails for want of memory alone.
     pub fn of(
         alloc: Global,
-        store: &Store,
+        seen: &Seen,
         fragment: &Path,
-        dropins: &[Placed],
+        dropins: &[SeenEntry],
     ) -> Result<UnitText, AllocError>
         ensures items { IfOk result (λ text. text.items
-            ≡ assignments_of (bytes_at store.now fragment.now) ++ lent_items dropins.now) }
-        ensures notes { IfOk result (λ text. text.notes ≡ notes_at store.now fragment.now ++ lent_notes dropins.now) }
+            ≡ assignments_of (bytes_at seen.now fragment.now) ++ lent_items dropins.now) }
+        ensures notes { IfOk result (λ text. text.notes ≡ notes_at seen.now fragment.now ++ lent_notes dropins.now) }
     {
         let mut text = UnitText::new(alloc);
-        text.add_file(alloc, fragment, bytes_of(store.visible(fragment)))?;
+        text.add_file(alloc, fragment, bytes_of(seen.visible(fragment)))?;
         for placed in dropins {
             text.add_drop_in(alloc, placed)?;
         }
@@ -53,11 +53,11 @@ impl UnitText {
     }
 
     // Adds what a drop-in says.
-    fn add_drop_in(&mut self, alloc: Global, placed: &Placed) -> Result<(), AllocError>
+    fn add_drop_in(&mut self, alloc: Global, placed: &SeenEntry) -> Result<(), AllocError>
         ensures items { OnOk result (self.new.items ≡ self.old.items ++ lent_items (placed.now ∷ [])) }
         ensures notes { OnOk result (self.new.notes ≡ self.old.notes ++ lent_notes (placed.now ∷ [])) }
     {
-        self.add_file(alloc, &placed.place()?, bytes_of(placed.visible()))
+        self.add_file(alloc, &placed.path()?, bytes_of(placed.visible()))
     }
 
     // Adds what the file at a path says, which has these bytes.
@@ -96,12 +96,12 @@ fn bytes_of<'a>(content: Option<&'a Content>) -> &'a [u8]
 }
 
 /// The paths of drop-ins, in their order. It fails for want of memory alone, and copies no bytes.
-pub(crate) fn paths_of(alloc: Global, dropins: &[Placed]) -> Result<Vec<Path>, AllocError>
+pub(crate) fn paths_of(alloc: Global, dropins: &[SeenEntry]) -> Result<Vec<Path>, AllocError>
     ensures paths { IfOk result (λ paths. paths.items ≡ map entry_path dropins.now) }
 {
     let mut paths = Vec::new(alloc);
     for placed in dropins {
-        paths.push(placed.place()?)?;
+        paths.push(placed.path()?)?;
     }
     Ok(paths)
 }

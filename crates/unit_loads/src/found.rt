@@ -9,7 +9,7 @@ use crate::settled::Settled;
 use crate::units::{Status, Unit};
 use dropins::UnitFolders;
 use plain_values::Items;
-use replica_store::{Path, Placed, Store};
+use replica_store::{Path, Seen, SeenEntry};
 use std::alloc::{AllocError, Global};
 use unit_name::UnitName;
 
@@ -27,18 +27,18 @@ impl Found {
     /// links. It fails for want of memory alone.
     pub fn of(
         alloc: Global,
-        store: &Store,
+        seen: &Seen,
         name: &UnitName,
         names: &[UnitName],
         fragment: &Path,
     ) -> Result<Found, AllocError>
-        ensures settings { IfOk result (λ found. HasSettings store.now fragment.now
+        ensures settings { IfOk result (λ found. HasSettings seen.now fragment.now
             (found_unit name.now names.now fragment.now found)) }
     {
         let folders = UnitFolders::of(alloc, names)?;
-        let dropins = folders.drop_ins(alloc, store)?;
-        let links = LinkNames::of(alloc, store, &folders)?;
-        Self::of_files(alloc, store, name, fragment, &dropins, links)
+        let dropins = folders.drop_ins(alloc, seen)?;
+        let links = LinkNames::of(alloc, seen, &folders)?;
+        Self::of_files(alloc, seen, name, fragment, &dropins, links)
     }
 
     /// The unit of these names whose fragment is at this path, with these drop-ins and this that they come to.
@@ -61,15 +61,15 @@ impl Found {
     // Those of the unit with these drop-ins and links.
     fn of_files(
         alloc: Global,
-        store: &Store,
+        seen: &Seen,
         name: &UnitName,
         fragment: &Path,
-        dropins: &[Placed],
+        dropins: &[SeenEntry],
         links: LinkNames,
     ) -> Result<Found, AllocError>
-        ensures found { IfOk result (ComesTo store.now fragment.now dropins.now name.now links) }
+        ensures found { IfOk result (ComesTo seen.now fragment.now dropins.now name.now links) }
     {
-        let text = UnitText::of(alloc, store, fragment, dropins)?;
+        let text = UnitText::of(alloc, seen, fragment, dropins)?;
         let settled = Settled::of(alloc, name, text, links)?;
         let dropins = paths_of(alloc, dropins)?;
         Ok(Found {

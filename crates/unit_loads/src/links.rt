@@ -4,7 +4,7 @@ ghost use Rattle.unit_loads.specs.Steps.{AreLinkNamesFrom};
 
 use dropins::{Folder, UnitFolders};
 use plain_values::Items;
-use replica_store::Store;
+use replica_store::Seen;
 use std::alloc::{AllocError, Global};
 use unit_name::UnitName;
 
@@ -19,11 +19,11 @@ pub(crate) struct LinkNames {
 
 impl LinkNames {
     /// What the link folders of a unit with these folders give. It fails for want of memory alone.
-    pub fn of(alloc: Global, store: &Store, folders: &UnitFolders) -> Result<LinkNames, AllocError>
-        ensures links { IfOk result (AreLinkNamesFrom store.now folders.now) }
+    pub fn of(alloc: Global, seen: &Seen, folders: &UnitFolders) -> Result<LinkNames, AllocError>
+        ensures links { IfOk result (AreLinkNamesFrom seen.now folders.now) }
     {
-        let wanted = folders.links(alloc, store, Folder::Wants)?;
-        let required = folders.links(alloc, store, Folder::Requires)?;
+        let wanted = folders.links(alloc, seen, Folder::Wants)?;
+        let required = folders.links(alloc, seen, Folder::Requires)?;
         Ok(LinkNames {
             wanted: Items::from_vec(wanted),
             required: Items::from_vec(required),

@@ -1,5 +1,6 @@
 //! A unit of a store.
 ghost use Rattle.std.specs.Prelude.{◌≡◌, IfOk};
+ghost use Rattle.path_maps.specs.Views.{fleet_of};
 ghost use Rattle.fragment_choice.specs.Resolutions.{main, resolution};
 ghost use Rattle.unit_loads.specs.Units.{HasNothing, IsUnit, no_names};
 
@@ -30,7 +31,7 @@ pub fn load_unit(alloc: Global, index: &AliasIndex, name: &UnitName) -> Result<U
 ///
 /// It makes an index of the whole store; for several units make one and ask for each. It fails for want of memory alone.
 pub fn load_one(alloc: Global, store: &Store, name: &UnitName) -> Result<Unit, AllocError>
-    ensures unit { IfOk result (IsUnit store.now (main store.now name.now)) }
+    ensures unit { IfOk result (IsUnit (fleet_of store.now) (main (fleet_of store.now) name.now)) }
 {
     let index = AliasIndex::of(alloc, store)?;
     let resolved = index.resolve(alloc, name)?;
@@ -51,7 +52,7 @@ pub fn load_resolved(
     let names = index.names_of(alloc, &main)?;
     match choice {
         Choice::Fragment(path) => {
-            let found = Found::of(alloc, index.store(), &main, &names, &path)?;
+            let found = Found::of(alloc, index.seen(), &main, &names, &path)?;
             Ok(found.into_unit(main, names, path))
         }
         Choice::NotFound => unloaded(alloc, main, names, Status::NotFound),

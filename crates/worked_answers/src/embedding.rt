@@ -1,7 +1,7 @@
 //! How a program of one's own takes these libraries in: one function answers scripts, and in one two replicas merge. The
 //! README shows both.
 use fleet_script::{ShellFault, run};
-use replica_store::{Content, ContentFault, EditFault, Path, PathFault, Replica};
+use replica_store::{Content, ContentFault, EditFault, Place, PlaceFault, Replica};
 use script_pipes::Watched;
 use std::alloc::{AllocError, Global};
 use std::sync::Wait;
@@ -12,7 +12,7 @@ use thiserror::Error;
 #[derive(Debug, Drop, Error)]
 enum Fault {
     #[error("{0}")]
-    Path(#[from] PathFault),
+    Place(#[from] PlaceFault),
     #[error("{0}")]
     Content(#[from] ContentFault),
     #[error("{0}")]
@@ -34,16 +34,16 @@ fn answers_to(
     Ok(sink.into_inner())
 }
 
-// Two replicas write at one path without knowing of each other, and meet; whether they then hold the same.
+// Two replicas write at one place without knowing of each other, and meet; whether they then hold the same.
 fn meet(alloc: Global) -> Result<bool, Fault> {
-    let path = Path::parse(alloc, b"/etc/systemd/system/x.service")?;
+    let place = Place::parse(alloc, b"/etc/systemd/system/x.service")?;
     let mut a = Replica::new(alloc, 1);
     let mut b = Replica::new(alloc, 2);
     a.put(
-        path.try_clone()?,
+        place.try_clone()?,
         Content::file(Vec::from_slice(alloc, b"A")?)?,
     )?;
-    b.put(path, Content::file(Vec::from_slice(alloc, b"BB")?)?)?;
+    b.put(place, Content::file(Vec::from_slice(alloc, b"BB")?)?)?;
     a.merge(b.store())?;
     b.merge(a.store())?;
     Ok(a.store().same(b.store()))

@@ -1,5 +1,5 @@
 //! Calls on the folders, the drop-ins and the link folders of units: the store in words, `+`, and the unit's names.
-use crate::edits::{append_names, append_paths, append_placed};
+use crate::edits::{append_names, append_paths, append_seen};
 use dropins::{Folder, UnitFolders, folders, links, order};
 use replica_store::Store;
 use unit_name::UnitName;
@@ -28,8 +28,8 @@ fn told(call: &[u8], store: &Store, names: &[UnitName], out: &mut Answer) -> Res
 fn append_lent(out: &mut Answer, store: &Store, names: &[UnitName]) -> Result<(), LineFault> {
     let folders = UnitFolders::of(out.alloc, names)?;
     append_names(out, folders.names())?;
-    for placed in &folders.drop_ins(out.alloc, store)? {
-        append_placed(out, placed)?;
+    for seen in &folders.drop_ins(out.alloc, &store.fleet())? {
+        append_seen(out, seen)?;
     }
     Ok(())
 }

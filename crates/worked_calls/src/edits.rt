@@ -1,6 +1,8 @@
-//! How edits and stores are written: an edit as `COUNTER.WRITER:PATH` for a removal, with `=TEXT` behind it for a file and
+//! How edits and stores are written: an edit as `COUNTER.WRITER:PLACE` for a removal, with `=TEXT` behind it for a file and
 //! with `>TARGET` for a link.
-use replica_store::{Content, Edit, Entries, Path, Placed, Store, Version};
+use replica_store::{
+    Content, Edit, Entries, Path, Place, Placed, SeenEntries, SeenEntry, Store, Version,
+};
 use unit_name::UnitName;
 use worked_lines::{Answer, LineFault};
 
@@ -20,16 +22,16 @@ pub fn append_content(out: &mut Answer, content: &Content) -> Result<(), LineFau
     }
 }
 
-// Writes a content behind its version and its path.
+// Writes a content behind its version and its place.
 fn append_at(
     out: &mut Answer,
     version: Version,
-    path: &Path,
+    place: &Place,
     content: &Content,
 ) -> Result<(), LineFault> {
     append_version(out, version)?;
     out.write(b":")?;
-    out.write_path(path)?;
+    out.write_place(place)?;
     append_content(out, content)
 }
 
@@ -38,7 +40,7 @@ pub fn append_edit(out: &mut Answer, edit: &Edit) -> Result<(), LineFault> {
     append_at(out, edit.version, &edit.place, &edit.content)
 }
 
-/// Writes an entry with its path, behind a space if something stands there.
+/// Writes an entry with its place, behind a space if something stands there.
 pub fn append_placed(out: &mut Answer, placed: &Placed) -> Result<(), LineFault> {
     let entry = placed.entry();
     out.part(b" ")?;
@@ -58,7 +60,30 @@ pub fn append_entries(out: &mut Answer, mut entries: Entries<'_>) -> Result<(), 
     Ok(())
 }
 
-/// Writes all that a store holds, in path order.
+/// Writes an entry of a scope with its path, behind a space if something stands there.
+pub fn append_seen(out: &mut Answer, seen: &SeenEntry) -> Result<(), LineFault> {
+    let entry = seen.entry();
+    out.part(b" ")?;
+    append_version(out, entry.version)?;
+    out.write(b":")?;
+    out.write_path(&seen.path()?)?;
+    append_content(out, &entry.content)
+}
+
+/// Writes entries of a scope, each behind a space if something stands there; `nothing` where there are none.
+pub fn append_all_seen(out: &mut Answer, mut entries: SeenEntries<'_>) -> Result<(), LineFault> {
+    let Some(first) = entries.next_entry() else {
+        out.part(b" ")?;
+        return out.write(b"nothing");
+    };
+    append_seen(out, &first)?;
+    while let Some(seen) = entries.next_entry() {
+        append_seen(out, &seen)?;
+    }
+    Ok(())
+}
+
+/// Writes all that a store holds, in place order.
 pub fn append_store(out: &mut Answer, store: &Store) -> Result<(), LineFault> {
     append_entries(out, store.entries())
 }
@@ -68,6 +93,15 @@ pub fn append_paths(out: &mut Answer, paths: &[Path]) -> Result<(), LineFault> {
     for path in paths {
         out.part(b" ")?;
         out.write_path(path)?;
+    }
+    out.or(b"none")
+}
+
+/// Writes places, parted by spaces.
+pub fn append_places(out: &mut Answer, places: &[Place]) -> Result<(), LineFault> {
+    for place in places {
+        out.part(b" ")?;
+        out.write_place(place)?;
     }
     out.or(b"none")
 }

@@ -19,6 +19,7 @@ mod names;
 mod orders;
 mod paths;
 mod pieces;
+mod places;
 mod replicas;
 mod script_lines;
 mod sections;
@@ -35,6 +36,7 @@ fn answer(words: &mut Words, out: &mut Answer) -> Result<(), LineFault> {
     match_word!(words.word()?;
         b"again" => again::answer(words, out),
         b"path" => paths::answer(words, out),
+        b"place" => places::answer(words, out),
         b"name" => names::answer(words, out),
         b"section" => sections::answer(words, out),
         b"setting" => settings::answer(words, out),

@@ -10,6 +10,7 @@ use worked_lines::{Answer, LineFault, Words, match_word};
 pub fn answer(words: &mut Words, out: &mut Answer) -> Result<(), LineFault> {
     match_word!(words.word()?;
         b"of" => append_piece(out, &piece(words)?),
+        b"flat" => append_piece(out, &Piece::from_flat(words.alloc, &words.flat_edits()?)?),
         b"copy" => append_piece(out, &piece(words)?.try_clone()?),
         b"split" => split(words, out, &mut Answer::new(words.alloc)),
         b"only" => only(words, out),
@@ -47,7 +48,7 @@ fn asked(words: &mut Words) -> Result<Digest, LineFault> {
     Ok(digest(words.alloc, &holder(words)?)?)
 }
 
-// Writes how many paths a piece carries, and what it carries.
+// Writes how many places a piece carries, and what it carries.
 fn append_piece(out: &mut Answer, piece: &Piece) -> Result<(), LineFault> {
     if piece.is_empty() {
         return out.write(b"empty");
@@ -72,11 +73,11 @@ pub fn split(words: &mut Words, out: &mut Answer, between: &mut Answer) -> Resul
     append_piece(out, &second)
 }
 
-// What a piece carries at some paths.
+// What a piece carries at some places.
 fn only(words: &mut Words, out: &mut Answer) -> Result<(), LineFault> {
-    let paths = words.paths()?;
+    let places = words.places()?;
     let piece = piece(words)?;
-    append_piece(out, &piece.only(&paths)?)
+    append_piece(out, &piece.only(&places)?)
 }
 
 // What is cut of one replica for the digest of another.
@@ -93,12 +94,12 @@ fn between(words: &mut Words, out: &mut Answer) -> Result<(), LineFault> {
     append_piece(out, &delta_between(words.alloc, &from, &to)?)
 }
 
-// What is cut for a digest at some paths.
+// What is cut for a digest at some places.
 fn delta_at_some(words: &mut Words, out: &mut Answer) -> Result<(), LineFault> {
-    let paths = words.paths()?;
+    let places = words.places()?;
     let held = holder(words)?;
     let asked = asked(words)?;
-    append_piece(out, &delta_at(words.alloc, &held, &asked, &paths)?)
+    append_piece(out, &delta_at(words.alloc, &held, &asked, &places)?)
 }
 
 // A replica that takes a piece.
@@ -108,30 +109,30 @@ fn taken(words: &mut Words, out: &mut Answer) -> Result<(), LineFault> {
     append_changed(out, count, replica.store())
 }
 
-// The digest of a replica at some paths.
+// The digest of a replica at some places.
 fn versions_at(words: &mut Words, out: &mut Answer) -> Result<(), LineFault> {
-    let paths = words.paths()?;
+    let places = words.places()?;
     let held = holder(words)?;
-    append_digest(out, &digest_at(words.alloc, &held, &paths)?)
+    append_digest(out, &digest_at(words.alloc, &held, &places)?)
 }
 
-// The version of a digest at a path.
+// The version of a digest at a place.
 fn version_at(words: &mut Words, out: &mut Answer) -> Result<(), LineFault> {
-    let path = words.path()?;
+    let place = words.place()?;
     let digest = asked(words)?;
-    match digest.get(&path) {
+    match digest.get(&place) {
         Some(version) => append_version(out, version),
         None => out.write(b"nothing"),
     }
 }
 
-// Writes all paths and versions of a digest.
+// Writes all places and versions of a digest.
 fn append_digest(out: &mut Answer, digest: &Digest) -> Result<(), LineFault> {
-    for (path, version) in digest.versions() {
+    for (place, version) in digest.versions() {
         out.part(b" ")?;
         append_version(out, *version)?;
         out.write(b":")?;
-        out.write_path(path)?;
+        out.write_place(place)?;
     }
     Ok(())
 }

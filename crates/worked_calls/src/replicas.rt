@@ -59,17 +59,17 @@ pub fn put(
     out: &mut Answer,
     between: &mut Answer,
 ) -> Result<(), LineFault> {
-    let (path, content) = placed_of(words.alloc, words.word()?)?;
+    let (place, content) = placed_of(words.alloc, words.word()?)?;
     let mut replica = replica(writer, words)?;
-    let mut version = replica.put(path.try_clone()?, content.try_clone()?);
+    let mut version = replica.put(place.try_clone()?, content.try_clone()?);
     if let Err(EditFault::Memory) = version {
         append_store(between, replica.store())?;
-        version = replica.put(path, content);
+        version = replica.put(place, content);
     }
     append_edited(out, version, &replica)
 }
 
-/// A replica that removes what is visible at a path, twice where the first time is refused memory; what it holds between
+/// A replica that removes what is visible at a place, twice where the first time is refused memory; what it holds between
 /// is written too.
 pub fn removed(
     writer: u32,
@@ -77,12 +77,12 @@ pub fn removed(
     out: &mut Answer,
     between: &mut Answer,
 ) -> Result<(), LineFault> {
-    let path = words.path()?;
+    let place = words.place()?;
     let mut replica = replica(writer, words)?;
-    let mut version = replica.remove(path.try_clone()?);
+    let mut version = replica.remove(place.try_clone()?);
     if let Err(EditFault::Memory) = version {
         append_store(between, replica.store())?;
-        version = replica.remove(path);
+        version = replica.remove(place);
     }
     append_edited(out, version, &replica)
 }

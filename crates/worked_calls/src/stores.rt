@@ -1,20 +1,22 @@
 //! Calls on stores.
 use crate::edits::{
-    append_content, append_entries, append_paths, append_placed, append_store, append_version,
+    append_all_seen, append_content, append_places, append_seen, append_store, append_version,
 };
-use replica_store::{Content, Entry, Placed, Store};
-use worked_lines::{Answer, LineFault, Words, byte_of, edit_of, is, match_word};
+use replica_store::{Content, Entry, SeenEntry, Store};
+use worked_lines::{Answer, LineFault, Words, byte_of, edit_of, match_word};
 
 /// Writes what a call on stores answers.
 pub fn answer(words: &mut Words, out: &mut Answer) -> Result<(), LineFault> {
     let call = words.word()?;
     match_word!(call;
         b"join" => joined(words, out),
+        b"flat" => append_store(out, &Store::from_flat(words.alloc, &words.flat_edits()?)?),
         b"merge" => merged(words, out),
         b"absorb" => absorbed(words, out),
-        b"get" | b"visible" => at_path(call, words, out),
-        b"entries_in" | b"folder" => in_folder(call, words, out),
-        b"placed_at" | b"visible_at" => at_parts(call, words, out),
+        b"get" | b"visible" | b"seen" => at_place(call, words, out),
+        b"entries_in" => in_folder(words, out),
+        b"folder" => of_folder(words, out),
+        b"entry_at" => at_parts(words, out),
         _ => told(call, &words.store()?, words, out),
     )
 }
@@ -27,7 +29,7 @@ fn told(call: &[u8], first: &Store, words: &mut Words, out: &mut Answer) -> Resu
         b"same" => out.either(first.same(&words.store()?), b"yes", b"no"),
         b"high" => out.print(&first.high()),
         b"len" => append_sizes(out, first),
-        b"list" => append_paths(out, &first.list()?),
+        b"list" => append_places(out, &first.list()?),
     )
 }
 
@@ -62,7 +64,7 @@ fn absorbed(words: &mut Words, out: &mut Answer) -> Result<(), LineFault> {
     append_changed(out, count, &first)
 }
 
-// Writes how many paths a store holds, and in how many directories they stand.
+// Writes how many places a store holds, and in how many scopes they stand.
 fn append_sizes(out: &mut Answer, store: &Store) -> Result<(), LineFault> {
     out.print(&store.len())?;
     out.write(b" in ")?;
@@ -86,44 +88,47 @@ fn append_entry(out: &mut Answer, entry: Option<&Entry>) -> Result<(), LineFault
     append_content(out, &entry.content)
 }
 
-// What a store holds at a path, or what is visible there.
-fn at_path(call: &[u8], words: &mut Words, out: &mut Answer) -> Result<(), LineFault> {
-    let path = words.path()?;
+// What a store holds at a place, what is visible there, or what the fleet sees at its path.
+fn at_place(call: &[u8], words: &mut Words, out: &mut Answer) -> Result<(), LineFault> {
+    let place = words.place()?;
     let store = words.store()?;
-    if is(call, b"visible") {
-        return append_visible(out, store.visible(&path));
-    }
-    append_entry(out, store.get(&path))
+    match_word!(call;
+        b"visible" => append_visible(out, store.visible(&place)),
+        b"seen" => append_visible(out, store.fleet().visible(&place.path)),
+        _ => append_entry(out, store.get(&place)),
+    )
 }
 
-// The entries of a folder, or its paths.
-fn in_folder(call: &[u8], words: &mut Words, out: &mut Answer) -> Result<(), LineFault> {
+// The entries that the fleet sees in a folder.
+fn in_folder(words: &mut Words, out: &mut Answer) -> Result<(), LineFault> {
     let rank = byte_of(words.word()?)?;
     let folder = words.text()?;
     let store = words.store()?;
-    if is(call, b"folder") {
-        return append_paths(out, &store.folder(rank, &folder)?);
-    }
-    append_entries(out, store.entries_in(rank, &folder))
+    append_all_seen(out, store.fleet().entries_in(rank, &folder))
 }
 
-// What is visible at the path of these parts, or what is held there.
-fn at_parts(call: &[u8], words: &mut Words, out: &mut Answer) -> Result<(), LineFault> {
+// The places of a folder of a scope.
+fn of_folder(words: &mut Words, out: &mut Answer) -> Result<(), LineFault> {
+    let scope = words.scope()?;
+    let rank = byte_of(words.word()?)?;
+    let folder = words.text()?;
+    append_places(out, &words.store()?.folder(&scope, rank, &folder)?)
+}
+
+// What is held at the path of these parts.
+fn at_parts(words: &mut Words, out: &mut Answer) -> Result<(), LineFault> {
     let rank = byte_of(words.word()?)?;
     let folder = words.text()?;
     let name = words.text()?;
     let store = words.store()?;
-    if is(call, b"visible_at") {
-        return append_visible(out, store.visible_at(rank, &folder, &name));
-    }
-    append_held(out, store.placed_at(rank, &folder, &name))
+    append_held(out, store.fleet().entry_at(rank, &folder, &name))
 }
 
 // Writes an entry behind the name of its path, or that there is none.
-fn append_held(out: &mut Answer, held: Option<Placed>) -> Result<(), LineFault> {
-    let Some(placed) = held else {
+fn append_held(out: &mut Answer, held: Option<SeenEntry>) -> Result<(), LineFault> {
+    let Some(seen) = held else {
         return out.write(b"nothing");
     };
-    out.write(placed.name().as_slice())?;
-    append_placed(out, &placed)
+    out.write(seen.name().as_slice())?;
+    append_seen(out, &seen)
 }

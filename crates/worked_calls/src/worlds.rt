@@ -8,7 +8,7 @@ use delta_gossip::{Event, Places, World, exchange, run_world, sweep};
 use replica_store::Replica;
 use std::alloc::Global;
 use worked_lines::{
-    Answer, LineFault, Words, cut_at, each_of, edit_of, index_of, match_word, parts_of, path_of,
+    Answer, LineFault, Words, cut_at, each_of, edit_of, index_of, match_word, parts_of, place_of,
     writer_of,
 };
 
@@ -129,6 +129,6 @@ fn cut(alloc: Global, node: usize, word: &[u8]) -> Result<Event, LineFault> {
     };
     let ask = index_of(ask)?;
     let names = parts_of(alloc, names)?;
-    let places = Some(Places::new(each_of(alloc, &names, path_of)?));
+    let places = Some(Places::new(each_of(alloc, &names, place_of)?));
     Ok(Event::Cut { node, ask, places })
 }

@@ -1,6 +1,7 @@
 //! The answer of a call.
 use crate::faults::LineFault;
 use load_path::Path;
+use replica_store::{Place, Scope};
 use std::alloc::Global;
 use std::fmt::Display;
 use unit_name::UnitName;
@@ -115,6 +116,15 @@ impl Answer {
             Some(name) => self.spell(name.bytes()),
             None => self.write(b"none"),
         }
+    }
+
+    /// Writes a place: its path, behind its host and a colon where it has a host.
+    pub fn write_place(&mut self, place: &Place) -> Result<(), LineFault> {
+        if let Scope::Host(host) = &place.scope {
+            self.write(host.bytes())?;
+            self.write(b":")?;
+        }
+        self.write_path(&place.path)
     }
 
     /// Writes a path, its directory as `E`, `R`, `L` or `U`.

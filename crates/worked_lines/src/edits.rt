@@ -1,9 +1,9 @@
 //! Edits in words.
 //!
-//! An edit is `COUNTER.WRITER:PATH` for a removal, with `=TEXT` behind it for a file and with `>TARGET` for a link. In a
+//! An edit is `COUNTER.WRITER:PLACE` for a removal, with `=TEXT` behind it for a file and with `>TARGET` for a link. In a
 //! list of edits the version may be left out: each that has none is then later than those before it.
 use crate::faults::LineFault;
-use crate::spelled::{cut_at, file_of, link_of, number_of, path_of, writer_of};
+use crate::spelled::{cut_at, file_of, link_of, number_of, place_of, writer_of};
 use edit_sums::Content;
 use replica_store::{Edit, Place, Version};
 use std::alloc::Global;
@@ -18,19 +18,19 @@ pub fn version_of(word: &[u8]) -> Result<Version, LineFault> {
 
 // What a word writes before its content, and the content.
 fn cut_content(alloc: Global, word: &[u8]) -> Result<(&[u8], Content), LineFault> {
-    if let Some((path, text)) = cut_at(word, b'=') {
-        return Ok((path, file_of(alloc, text)?));
+    if let Some((place, text)) = cut_at(word, b'=') {
+        return Ok((place, file_of(alloc, text)?));
     }
-    if let Some((path, target)) = cut_at(word, b'>') {
-        return Ok((path, link_of(alloc, target)?));
+    if let Some((place, target)) = cut_at(word, b'>') {
+        return Ok((place, link_of(alloc, target)?));
     }
     Ok((word, Content::gone()))
 }
 
 /// The place and the content that a word writes.
 pub fn placed_of(alloc: Global, word: &[u8]) -> Result<(Place, Content), LineFault> {
-    let (path, content) = cut_content(alloc, word)?;
-    Ok((path_of(alloc, path)?, content))
+    let (place, content) = cut_content(alloc, word)?;
+    Ok((place_of(alloc, place)?, content))
 }
 
 // The edit of a version whose place and content a word writes.

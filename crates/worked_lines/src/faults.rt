@@ -2,7 +2,7 @@
 use delta_pieces::TakeFault;
 use edit_sums::ContentFault;
 use load_path::PathFault;
-use replica_store::Rest;
+use replica_store::{HostFault, PlaceFault, Rest};
 use std::alloc::{AllocError, AllocFailed};
 use unit_name::NameFault;
 
@@ -43,6 +43,24 @@ impl From<PathFault> for LineFault {
     fn from(fault: PathFault) -> LineFault {
         match fault {
             PathFault::Memory => LineFault::Memory,
+            _ => LineFault::Words,
+        }
+    }
+}
+
+impl From<HostFault> for LineFault {
+    fn from(fault: HostFault) -> LineFault {
+        match fault {
+            HostFault::Memory => LineFault::Memory,
+            _ => LineFault::Words,
+        }
+    }
+}
+
+impl From<PlaceFault> for LineFault {
+    fn from(fault: PlaceFault) -> LineFault {
+        match fault {
+            PlaceFault::Memory => LineFault::Memory,
             _ => LineFault::Words,
         }
     }

@@ -1,7 +1,7 @@
 //! What single words stand for.
 use crate::faults::LineFault;
 use edit_sums::Content;
-use load_path::Path;
+use replica_store::{HostName, Place, Scope};
 use script_words::unescape;
 use std::alloc::Global;
 use unit_name::UnitName;
@@ -53,18 +53,51 @@ pub fn writer_of(word: &[u8]) -> Result<u32, LineFault> {
     u32::try_from(number_of(word)?).map_err(|_| LineFault::Words)
 }
 
-/// The path that a word writes: whole, or with `E`, `R`, `L` or `U` for one of the four directories in their order.
-pub fn path_of(alloc: Global, word: &[u8]) -> Result<Path, LineFault> {
-    let directory: &[u8] = match word.first() {
-        Some(b'E') => b"/etc/systemd/system",
-        Some(b'R') => b"/run/systemd/system",
-        Some(b'L') => b"/usr/local/lib/systemd/system",
-        Some(b'U') => b"/usr/lib/systemd/system",
-        _ => return Ok(Path::parse(alloc, word)?),
-    };
-    let mut text = Vec::from_slice(alloc, directory)?;
-    text.extend_from_slice(&word[1..])?;
-    Ok(Path::parse(alloc, &text)?)
+// What stands for a letter: one of the four directories in their order.
+fn directory_of(letter: u8) -> Option<&'static [u8]> {
+    match letter {
+        b'E' => Some(b"/etc/systemd/system"),
+        b'R' => Some(b"/run/systemd/system"),
+        b'L' => Some(b"/usr/local/lib/systemd/system"),
+        b'U' => Some(b"/usr/lib/systemd/system"),
+        _ => None,
+    }
+}
+
+// Adds a path to a text, its first letter as a directory if it stands for one.
+fn add_path(text: &mut Vec<u8>, path: &[u8]) -> Result<(), LineFault> {
+    if let Some((letter, rest)) = path.split_first() {
+        if let Some(directory) = directory_of(*letter) {
+            text.extend_from_slice(directory)?;
+            text.extend_from_slice(rest)?;
+            return Ok(());
+        }
+    }
+    text.extend_from_slice(path)?;
+    Ok(())
+}
+
+/// The scope that a word writes: `*` for the fleet, else a host's name.
+pub fn scope_of(alloc: Global, word: &[u8]) -> Result<Scope, LineFault> {
+    if is(word, b"*") {
+        return Ok(Scope::Fleet);
+    }
+    Ok(Scope::Host(HostName::parse(alloc, word)?))
+}
+
+/// The place that a word writes: its path, behind its host and a colon where it has a host; the path whole, or with `E`,
+/// `R`, `L` or `U` for one of the four directories in their order.
+pub fn place_of(alloc: Global, word: &[u8]) -> Result<Place, LineFault> {
+    let mut text = Vec::new(alloc);
+    match cut_at(word, b':') {
+        Some((host, path)) => {
+            text.extend_from_slice(host)?;
+            text.push(b':')?;
+            add_path(&mut text, path)?;
+        }
+        None => add_path(&mut text, word)?,
+    }
+    Ok(Place::parse(alloc, &text)?)
 }
 
 /// The unit's name that a word is.

@@ -2,12 +2,11 @@
 use crate::edits::listed_edit;
 use crate::faults::LineFault;
 use crate::spelled::{
-    each_of, file_of, index_of, is, name_of, number_of, path_of, spelled_name_of, text_of,
-    writer_of,
+    each_of, file_of, index_of, is, name_of, number_of, place_of, scope_of, spelled_name_of,
+    text_of, writer_of,
 };
 use edit_sums::Content;
-use load_path::Path;
-use replica_store::{Edit, Store};
+use replica_store::{Edit, FlatEdit, Place, Scope, Store};
 use script_words::cut_word;
 use std::alloc::Global;
 use unit_name::UnitName;
@@ -86,9 +85,14 @@ impl<'a> Words<'a> {
         writer_of(self.word()?)
     }
 
-    /// The next word as a path.
-    pub fn path(&mut self) -> Result<Path, LineFault> {
-        path_of(self.alloc, self.word()?)
+    /// The next word as a place.
+    pub fn place(&mut self) -> Result<Place, LineFault> {
+        place_of(self.alloc, self.word()?)
+    }
+
+    /// The next word as a scope: `*` for the fleet, else a host's name.
+    pub fn scope(&mut self) -> Result<Scope, LineFault> {
+        scope_of(self.alloc, self.word()?)
     }
 
     /// The next word as the content of a file.
@@ -111,9 +115,9 @@ impl<'a> Words<'a> {
         each_of(self.alloc, &self.list()?, spelled_name_of)
     }
 
-    /// The paths that a list of words writes.
-    pub fn paths(&mut self) -> Result<Vec<Path>, LineFault> {
-        each_of(self.alloc, &self.list()?, path_of)
+    /// The places that a list of words writes.
+    pub fn places(&mut self) -> Result<Vec<Place>, LineFault> {
+        each_of(self.alloc, &self.list()?, place_of)
     }
 
     /// The numbers that a list of words writes.
@@ -126,6 +130,25 @@ impl<'a> Words<'a> {
         let mut edits = Vec::new(self.alloc);
         for (place, word) in self.list()?.iter().enumerate() {
             edits.push(listed_edit(self.alloc, word, place)?)?;
+        }
+        Ok(edits)
+    }
+
+    /// The edits that a list of words writes, as a store without hosts had them: what their words say of hosts is left out.
+    pub fn flat_edits(&mut self) -> Result<Vec<FlatEdit>, LineFault> {
+        let mut edits = Vec::new(self.alloc);
+        for edit in self.edits()? {
+            let Edit {
+                place,
+                version,
+                content,
+            } = edit;
+            let Place { scope: _, path } = place;
+            edits.push(FlatEdit {
+                path,
+                version,
+                content,
+            })?;
         }
         Ok(edits)
     }

@@ -1,8 +1,7 @@
 //! What stands beside a node while it is worked at.
 use join_law::Version;
-use load_path::Path;
 use node_histories::NodeName;
-use replica_store::Store;
+use replica_store::{Place, Store};
 use shared_node::{Seat, Told};
 use std::alloc::Global;
 use std::fmt::Display;
@@ -63,19 +62,19 @@ impl<N: NodeName> Bench<N> {
 /// Writes a number of takes, and the versions and names of what a store holds.
 pub fn append_store(out: &mut Answer, takes: u64, store: &Store) -> Result<(), LineFault> {
     out.write(format!(in out.alloc; "takes {takes}")?.as_bytes())?;
-    for path in &store.list()? {
-        append_held(out, store, path)?;
+    for place in &store.list()? {
+        append_held(out, store, place)?;
     }
     Ok(())
 }
 
-// Writes what a store holds at a path.
-fn append_held(out: &mut Answer, store: &Store, path: &Path) -> Result<(), LineFault> {
-    let Some(entry) = store.get(path) else {
+// Writes what a store holds at a place.
+fn append_held(out: &mut Answer, store: &Store, place: &Place) -> Result<(), LineFault> {
+    let Some(entry) = store.get(place) else {
         return Ok(());
     };
     out.write(b" ")?;
-    out.write(path.name())?;
+    out.write(place.path.name())?;
     out.write(b" ")?;
     append_version(out, entry.version)
 }

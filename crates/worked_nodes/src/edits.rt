@@ -6,7 +6,7 @@ use worked_lines::{LineFault, Words};
 
 /// The next words as one edit: a place, a counter, a writer and the content of a file.
 pub fn one_edit(words: &mut Words) -> Result<Vec<Edit>, LineFault> {
-    let place = words.path()?;
+    let place = words.place()?;
     let counter = words.number()?;
     let writer = words.writer()?;
     let content = words.file()?;

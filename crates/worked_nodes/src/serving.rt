@@ -10,7 +10,7 @@ use worked_lines::{CountingGate, LineFault, Words, match_word};
 // The message that a word and those behind it write.
 fn message_of(word: &[u8], words: &mut Words) -> Result<Message, LineFault> {
     match_word!(word;
-        b"edit" => Ok(Message::Edit(words.path()?, words.file()?)),
+        b"edit" => Ok(Message::Edit(words.place()?, words.file()?)),
         b"absorb" => Ok(Message::Absorb(one_piece(words)?)),
         b"end" => Ok(Message::End),
     )

@@ -68,11 +68,11 @@ fn edit<N: NodeName, R: Wait>(
     bench: &mut Bench<N>,
     words: &mut Words,
 ) -> Result<(), LineFault> {
-    let (place, path, content) = (words.index()?, words.path()?, words.file()?);
-    let Some(seat) = bench.seat(place) else {
+    let (at, place, content) = (words.index()?, words.place()?, words.file()?);
+    let Some(seat) = bench.seat(at) else {
         return bench.tell("no seat");
     };
-    let taken = node.edit(rt, seat, path, content);
+    let taken = node.edit(rt, seat, place, content);
     let Some(version) = keep_told(bench, taken)? else {
         return Ok(());
     };

@@ -3,8 +3,8 @@ ghost use Rattle.std.specs.Prelude.{◌≡◌};
 
 use crate::endings::end_refused;
 use edit_sums::Content;
-use load_path::Path;
 use node_histories::NodeName;
+use replica_store::Place;
 use shared_node::{Blank, Closed, Node, Seat};
 use std::alloc::{AllocError, Global};
 use std::sync::Wait;
@@ -39,10 +39,10 @@ struct Job<N: NodeName> {
     views: u64,
 }
 
-// The path of a seat's own file.
-fn path_of(alloc: Global, seat: usize) -> Result<Path, LineFault> {
+// The place of a seat's own file.
+fn place_of(alloc: Global, seat: usize) -> Result<Place, LineFault> {
     let text = format!(in alloc; "/etc/systemd/system/crowd-{seat}.service")?;
-    Path::parse(alloc, text.as_bytes()).map_err(|_| LineFault::Memory)
+    Place::parse(alloc, text.as_bytes()).map_err(|_| LineFault::Memory)
 }
 
 // What a seat writes at its edit of this number.
@@ -61,9 +61,9 @@ pub fn make_edits<N: NodeName, R: Wait>(
     edits: u64,
 ) -> Result<(), LineFault> {
     for number in 0..edits {
-        let path = path_of(alloc, seat.number())?;
+        let place = place_of(alloc, seat.number())?;
         let content = file_of(alloc, seat.number(), number)?;
-        if node.edit(rt, seat, path, content).is_err() {
+        if node.edit(rt, seat, place, content).is_err() {
             return Err(LineFault::Memory);
         }
     }

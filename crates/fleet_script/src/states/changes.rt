@@ -2,15 +2,15 @@
 ghost use Rattle.std.specs.Prelude.{◌≡◌, ◌<◌, length, vec_len, IfOk, OnOk, OnErr, MatchResult};
 ghost use Rattle.script_commands.specs.declared.commands.Command.TheVariants.{Node, Put, Link, Remove, Workers};
 ghost use Rattle.fleet_script.specs.Does.{Writes};
-ghost use Rattle.fleet_script.specs.Holds.{Executes, Goes, HasNoPlace, IsPlace, kept_in};
+ghost use Rattle.fleet_script.specs.Holds.{Executes, Goes, HasNoSite, IsSite, kept_in};
 
 use crate::states::{Shell, Told};
 use edit_sums::Content;
-use load_path::Path;
+use load_places::Place;
 use plain_values::Bytes;
 use replica_store::Replica;
 use script_answers::{Crew, put_done};
-use script_commands::{Fault, LineRefusal, read_file, read_link, read_path};
+use script_commands::{Fault, LineRefusal, read_file, read_link, read_place};
 use std::alloc::Global;
 
 impl Shell {
@@ -33,28 +33,28 @@ impl Shell {
         Ok(text)
     }
 
-    pub(super) fn put(&mut self, alloc: Global, node: &[u8], path: &[u8], text: &[u8]) -> Told
-        ensures done { Executes self.old self.new (Put node.now path.now text.now) result }
+    pub(super) fn put(&mut self, alloc: Global, node: &[u8], place: &[u8], text: &[u8]) -> Told
+        ensures done { Executes self.old self.new (Put node.now place.now text.now) result }
         ensures crew { self.new.workers ≡ self.old.workers }
     {
-        let (at, path) = self.place(alloc, node, path)?;
-        self.write(alloc, at, path, read_file(alloc, text)?)
+        let (at, place) = self.site(alloc, node, place)?;
+        self.write(alloc, at, place, read_file(alloc, text)?)
     }
 
-    pub(super) fn link(&mut self, alloc: Global, node: &[u8], path: &[u8], target: &[u8]) -> Told
-        ensures done { Executes self.old self.new (Link node.now path.now target.now) result }
+    pub(super) fn link(&mut self, alloc: Global, node: &[u8], place: &[u8], target: &[u8]) -> Told
+        ensures done { Executes self.old self.new (Link node.now place.now target.now) result }
         ensures crew { self.new.workers ≡ self.old.workers }
     {
-        let (at, path) = self.place(alloc, node, path)?;
-        self.write(alloc, at, path, read_link(alloc, target)?)
+        let (at, place) = self.site(alloc, node, place)?;
+        self.write(alloc, at, place, read_link(alloc, target)?)
     }
 
-    pub(super) fn remove(&mut self, alloc: Global, node: &[u8], path: &[u8]) -> Told
-        ensures done { Executes self.old self.new (Remove node.now path.now) result }
+    pub(super) fn remove(&mut self, alloc: Global, node: &[u8], place: &[u8]) -> Told
+        ensures done { Executes self.old self.new (Remove node.now place.now) result }
         ensures crew { self.new.workers ≡ self.old.workers }
     {
-        let (at, path) = self.place(alloc, node, path)?;
-        let version = match self.nodes[at].remove(path) {
+        let (at, place) = self.site(alloc, node, place)?;
+        let version = match self.nodes[at].remove(place) {
             Ok(version) => version,
             Err(fault) => return Err(Fault::from(fault)),
         };
@@ -74,25 +74,25 @@ impl Shell {
         Ok(text)
     }
 
-    // Where a command writes: the number of the node of a name, and the path that a text writes.
-    fn place(&self, alloc: Global, node: &[u8], path: &[u8]) -> Result<(usize, Path), Fault>
-        ensures within { IfOk result (λ place. place.0 < length self.now.nodes.items) }
-        ensures found { MatchResult result (λ place. IsPlace (kept_in self.now) node.now path.now place.0 place.1)
-            (HasNoPlace (kept_in self.now) node.now path.now) }
+    // Where a command writes: the number of the node of a name, and the place that a text writes.
+    fn site(&self, alloc: Global, node: &[u8], place: &[u8]) -> Result<(usize, Place), Fault>
+        ensures within { IfOk result (λ site. site.0 < length self.now.nodes.items) }
+        ensures found { MatchResult result (λ site. IsSite (kept_in self.now) node.now place.now site.0 site.1)
+            (HasNoSite (kept_in self.now) node.now place.now) }
     {
         let at = self.node_at(alloc, node)?;
-        let path = read_path(alloc, path)?;
-        Ok((at, path))
+        let place = read_place(alloc, place)?;
+        Ok((at, place))
     }
 
     // A node puts its next edit.
-    fn write(&mut self, alloc: Global, at: usize, path: Path, content: Content) -> Told
+    fn write(&mut self, alloc: Global, at: usize, place: Place, content: Content) -> Told
         requires within { at < vec_len self.old.nodes }
         ensures done { Goes (kept_in self.old) (kept_in self.new) (λ before outcome after.
-            Writes before outcome after at path content) result }
+            Writes before outcome after at place content) result }
         ensures crew { self.new.workers ≡ self.old.workers }
     {
-        let version = match self.nodes[at].put(path, content) {
+        let version = match self.nodes[at].put(place, content) {
             Ok(version) => version,
             Err(fault) => return Err(Fault::from(fault)),
         };

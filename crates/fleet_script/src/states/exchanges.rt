@@ -10,11 +10,11 @@ ghost use Rattle.fleet_script.specs.Holds.{Executes, IsJoinedAt, kept_in};
 use crate::states::{Shell, Told};
 use delta_gossip::sweep;
 use delta_pieces::{Piece, delta_at, delta_between, digest_at};
-use load_path::Path;
+use load_places::Place;
 use plain_values::Bytes;
 use replica_store::Replica;
 use script_answers::{merge_done, part_done};
-use script_commands::{Fault, LineRefusal, Words, read_paths};
+use script_commands::{Fault, LineRefusal, Words, read_places};
 use std::alloc::{AllocError, Global};
 use std::mem;
 
@@ -37,15 +37,15 @@ impl Shell {
         piece: &[u8],
         from: &[u8],
         to: &[u8],
-        paths: Words<'_>,
+        places: Words<'_>,
     ) -> Told
-        ensures done { Executes self.old self.new (Part piece.now from.now to.now paths.entry) result }
+        ensures done { Executes self.old self.new (Part piece.now from.now to.now places.entry) result }
         ensures crew { self.new.workers ≡ self.old.workers }
     {
         let from = self.node_at(alloc, from)?;
         let to = self.node_at(alloc, to)?;
-        let paths = read_paths(alloc, paths)?;
-        let cut = self.cut(alloc, from, to, &paths)?;
+        let places = read_places(alloc, places)?;
+        let cut = self.cut(alloc, from, to, &places)?;
         let text = part_done(alloc, cut.len())?;
         self.pieces.insert(Bytes::from_slice(alloc, piece)?, cut)?;
         Ok(text)
@@ -77,7 +77,7 @@ impl Shell {
 }
 
 impl Shell {
-    // Joins the store of one node into that of another, and answers how many paths changed. A node
+    // Joins the store of one node into that of another, and answers how many places changed. A node
     // has all that it holds, so it is not joined into itself.
     fn merge_nodes(&mut self, alloc: Global, from: usize, to: usize) -> Result<u64, AllocError>
         requires from_within { from < vec_len self.old.nodes }
@@ -97,25 +97,25 @@ impl Shell {
         outcome
     }
 
-    // What one node cuts for the ask of another, at these paths, or at all where none are given. The
-    // versions at the paths are asked with, and no others.
+    // What one node cuts for the ask of another, at these places, or at all where none are given. The
+    // versions at the places are asked with, and no others.
     fn cut(
         &self,
         alloc: Global,
         from: usize,
         to: usize,
-        paths: &[Path],
+        places: &[Place],
     ) -> Result<Piece, AllocError>
         requires from_within { from < vec_len self.now.nodes }
         requires to_within { to < vec_len self.now.nodes }
         ensures cut { IfOk result (λ piece. (d : Replicated) → piece ≡ cut
             (slice_index_or self.now.nodes.items from d).store
-            (digest_of (slice_index_or self.now.nodes.items to d).store) (if_any paths.now)) }
+            (digest_of (slice_index_or self.now.nodes.items to d).store) (if_any places.now)) }
     {
-        if paths.is_empty() {
+        if places.is_empty() {
             return delta_between(alloc, &self.nodes[from], &self.nodes[to]);
         }
-        let asked = digest_at(alloc, &self.nodes[to], paths)?;
-        delta_at(alloc, &self.nodes[from], &asked, paths)
+        let asked = digest_at(alloc, &self.nodes[to], places)?;
+        delta_at(alloc, &self.nodes[from], &asked, places)
     }
 }

@@ -27,31 +27,34 @@ impl Shell {
         let alloc = rt.alloc();
         match parse(line)? {
             Command::Node { name, writer } => self.node(alloc, name.as_slice(), writer),
-            Command::Put { node, path, text } => self.put(
+            Command::Put { node, place, text } => self.put(
                 alloc,
                 node.as_slice(),
-                path.as_slice(),
+                place.as_slice(),
                 text.as_slice(),
             ),
-            Command::Link { node, path, target } => self.link(
+            Command::Link {
+                node,
+                place,
+                target,
+            } => self.link(alloc, node.as_slice(), place.as_slice(), target.as_slice()),
+            Command::Remove { node, place } => self.remove(
                 alloc,
                 node.as_slice(),
-                path.as_slice(),
-                target.as_slice(),
+                place.as_slice(),
             ),
-            Command::Remove { node, path } => self.remove(alloc, node.as_slice(), path.as_slice()),
             Command::Merge { from, to } => self.merge(alloc, from.as_slice(), to.as_slice()),
             Command::Part {
                 piece,
                 from,
                 to,
-                paths,
+                places,
             } => self.part(
                 alloc,
                 piece.as_slice(),
                 from.as_slice(),
                 to.as_slice(),
-                paths,
+                places,
             ),
             Command::Send { piece, node } => self.send(alloc, piece.as_slice(), node.as_slice()),
             Command::Sweep => self.sweep(alloc),

@@ -1,7 +1,7 @@
 use Rattle.std.proofs.Common.{◌∙◌, ap, sym}
 use Rattle.std.specs.FinMap as finmap
 use Rattle.replica_store.specs.Replicas.{Replicated}
-use Rattle.crowds.proofs.Held.{crowd_takes, crowd_paths_held}
+use Rattle.crowds.proofs.Held.{crowd_takes, crowd_places_held}
 use Rattle.crowds.proofs.crowding.crowd_at.Goals as goal
 
 pub returns-in_ok-closed-in-Ok-clause-takes : goal.returns-in_ok-closed-in-Ok-clause-takes
@@ -11,5 +11,5 @@ pub returns-in_ok-closed-in-Ok-clause-paths : goal.returns-in_ok-closed-in-Ok-cl
 returns-in_ok-closed-in-Ok-clause-paths g c =
     let closed = c.in_ok-closed-in-Ok in
     let held =
-    crowd_paths_held c.args.seats c.args.edits c.in-Ok.seats.items c.in-Ok.ensures.count c.in-Ok.ensures.worked _ _ closed.ensures.agree (sym closed.ensures.takes ∙ closed.ensures.sum) closed.ensures.legal in
+    crowd_places_held c.args.seats c.args.edits c.in-Ok.seats.items c.in-Ok.ensures.count c.in-Ok.ensures.worked _ _ closed.ensures.agree (sym closed.ensures.takes ∙ closed.ensures.sum) closed.ensures.legal in
     c.len.ensures.len ∙ ap finmap.len (c.store.ensures.store ∙ ap (λ (r : Replicated). r.store) closed.ensures.replica) ∙ held

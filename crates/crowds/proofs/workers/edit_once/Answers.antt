@@ -1,6 +1,6 @@
 use Rattle.std.proofs.Common.{◌+◌, ◌≤◌, ◌∙◌, ap, sym, subst, List}
 use Rattle.node_histories.specs.declared.events.HistoryEvent.{HistoryEvent}
-use Rattle.crowds.specs.Crowds.{crowd_path}
+use Rattle.crowds.specs.Crowds.{crowd_place}
 use Rattle.crowds.specs.Workers.{own_edits}
 use Rattle.crowds.proofs.Own.{own_more}
 use Rattle.crowds.proofs.workers.edit_once.Goals as goal
@@ -8,6 +8,6 @@ use Rattle.crowds.proofs.workers.edit_once.Goals as goal
 pub returns-in-Ok-clause-own : goal.returns-in-Ok-clause-own
 returns-in-Ok-clause-own g c =
     let worker = c.args.seat.now.number in
-    let at = c.in_ok-path.ensures.path ∙ ap crowd_path c.number.ensures.number in
+    let at = c.in_ok-place.ensures.place ∙ ap crowd_place c.number.ensures.number in
     subst (λ (h : List HistoryEvent). own_edits worker c.args.seat.now.seen + 1 ≤ own_edits worker h) (sym c.in-Ok.ensures.told.1)
     (own_more worker c.args.seat.now.seen _ _ at c.in-Ok.ensures.taken)

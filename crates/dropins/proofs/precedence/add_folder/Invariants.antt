@@ -8,7 +8,7 @@ abbrev pub invariant-loop-placed : goal.invariant-loop-placed
 invariant-loop-placed l =
     (f : List ℕ)
     → option_or (first_for l.found.items f) (first_said (said_for l.search f) l.entries)
-    ≡ option_or (first_for l.initial.found.items f) (take_at l.store l.search (path l.level l.dir f))
+    ≡ option_or (first_for l.initial.found.items f) (take_at l.seen l.search (path l.level l.dir f))
 
 abbrev pub decreases-loop-placed : goal.decreases-loop-placed
 decreases-loop-placed l = length l.entries

@@ -8,7 +8,7 @@ use Rattle.dropins.proofs.precedence.taken.Goals as goal
 
 pub returns : goal.returns
 returns c =
-    let s = c.args.store.now in
+    let s = c.args.seen.now in
     let x = c.args.search in
     record {
       taken =

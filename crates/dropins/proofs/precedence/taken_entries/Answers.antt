@@ -16,12 +16,12 @@ use Rattle.dropins.proofs.precedence.taken_entries.Goals as goal
 pub returns-clause-rising : goal.returns-clause-rising
 returns-clause-rising c =
     IfOk-weaker c.unmasked.result (λ taken. taken.items ≡ unmasked c.in_ok-takes.takes.entries) (λ taken. IsStrictlySortedBy name_cmp (map entry_name taken.items))
-    (λ taken e. rising c.args.store.now c.args.search c.args.name_dirs.now c.args.type_dirs.now c.in_ok-takes.takes c.unmasked.ensures.ordered c.in_ok-takes.ensures.taken taken.items e)
+    (λ taken e. rising c.args.seen.now c.args.search c.args.name_dirs.now c.args.type_dirs.now c.in_ok-takes.takes c.unmasked.ensures.ordered c.in_ok-takes.ensures.taken taken.items e)
     c.unmasked.ensures.entries
 
 pub returns-clause-exact : goal.returns-clause-exact
 returns-clause-exact c =
-    let s = c.args.store.now in
+    let s = c.args.seen.now in
     let ds = c.args.name_dirs.now in
     let ts = c.args.type_dirs.now in
     IfOk-weaker c.unmasked.result (λ taken. taken.items ≡ unmasked c.in_ok-takes.takes.entries) (λ taken. (p : PathParts × Entry) → Contains taken.items p ↔ (IsTakenOver s c.args.search ds ts (At p.0) p.0 × (finmap.get s p.0 ≡ Some p.1)))

@@ -3,4 +3,4 @@ use Rattle.fragment_choice.proofs.Indexing.{IsOwnBelow}
 use Rattle.fragment_choice.proofs.aliases.linked_names.Given as goal
 
 abbrev pub invariant-loop-level : goal.invariant-loop-level
-invariant-loop-level l = Collects (IsOwnBelow l.store l.level) l.initial.names.keys l.names.keys
+invariant-loop-level l = Collects (IsOwnBelow l.seen l.level) l.initial.names.keys l.names.keys

@@ -7,6 +7,6 @@ use Rattle.fragment_choice.proofs.choices.own_choice.Given as goal
 
 abbrev pub invariant-loop-level : goal.invariant-loop-level
 invariant-loop-level l = record {
-  said : first_said (says l.store l.name l.own) (drop l.level levels) ≡ own_choice l.store l.name l.own;
+  said : first_said (says l.seen l.name l.own) (drop l.level levels) ≡ own_choice l.seen l.name l.own;
   lawful : 0 < l.level → IsName l.own;
 }

@@ -8,12 +8,12 @@ use Rattle.fragment_choice.proofs.choices.says.Goals as goal
 
 pub returns-in-None : goal.returns-in-None
 returns-in-None c =
-    let store = c.args.store.now in
+    let store = c.args.seen.now in
     record { said = nothing_says store c.args.name.now c.args.own.now c.args.level (c.in-None.ensures.held ∙ ap (λ b. finmap.get store (path_at c.args.level [] b)) c.bytes.ensures.bytes); lawful = c.bytes.ensures.lawful }
 
 pub returns-in-Some : goal.returns-in-Some
 returns-in-Some c =
-    let store = c.args.store.now in
+    let store = c.args.seen.now in
     let name = c.args.name.now in
     let own = c.args.own.now in
     let placed = c.in-Some.placed in

@@ -4,7 +4,7 @@ use Rattle.parallel_load.specs.Sources.{visible_name, visible_names}
 use Rattle.parallel_load.proofs.sources.add_visible.Given as goal
 
 abbrev pub invariant-loop-placed : goal.invariant-loop-placed
-invariant-loop-placed l = l.names.items ++ filter_map visible_name l.entries ≡ l.initial.names.items ++ visible_names l.store l.level
+invariant-loop-placed l = l.names.items ++ filter_map visible_name l.entries ≡ l.initial.names.items ++ visible_names l.seen l.level
 
 abbrev pub decreases-loop-placed : goal.decreases-loop-placed
 decreases-loop-placed l = length l.entries

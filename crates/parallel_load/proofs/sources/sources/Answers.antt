@@ -6,4 +6,4 @@ pub returns : goal.returns
 returns c =
     let within = c.loop-level.invariant.1 in
     let no = c.loop-level-test.false in
-    record { sources = sources_are c.args.store.now c.args.extra.now c.loop-level.names.items c.loop-level.level c.loop-level.invariant.0 (omega arith) }
+    record { sources = sources_are c.args.seen.now c.args.extra.now c.loop-level.names.items c.loop-level.level c.loop-level.invariant.0 (omega arith) }

@@ -1,13 +1,13 @@
 use Rattle.std.proofs.Common.{◌≡◌, ◌+◌, length}
 use Rattle.std.specs.Prelude.{max}
 use Rattle.edit_sums.specs.Sums.{greatest_counter}
-use Rattle.path_maps.specs.PathMaps.{listed}
+use Rattle.path_maps.specs.PlaceMaps.{all_listed}
 use Rattle.path_maps.proofs.counts.count_entries.Given as goal
 
 abbrev pub invariant-loop-placed : goal.invariant-loop-placed
 invariant-loop-placed l =
-    (l.counts.len + length l.entries ≡ length (listed l.ranks)) ×
-    (max l.counts.high (greatest_counter l.entries) ≡ greatest_counter (listed l.ranks))
+    (l.counts.len + length l.entries ≡ length (all_listed l.scopes)) ×
+    (max l.counts.high (greatest_counter l.entries) ≡ greatest_counter (all_listed l.scopes))
 
 abbrev pub decreases-loop-placed : goal.decreases-loop-placed
 decreases-loop-placed l = length l.entries

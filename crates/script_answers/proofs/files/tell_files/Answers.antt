@@ -1,4 +1,5 @@
 use Rattle.std.proofs.Common.{sym, ap, ◌∙◌}
+use Rattle.path_maps.specs.Views.{fleet_of}
 use Rattle.fragment_choice.specs.declared.resolutions.Resolution.{Resolution}
 use Rattle.fragment_choice.specs.Resolutions.{main}
 use Rattle.fragment_choice.specs.ResolutionLaws.{mains_are_their_own}
@@ -8,9 +9,9 @@ use Rattle.script_answers.proofs.files.tell_files.Goals as goal
 -- the main name that was found is its own main, and its fragment is a file
 pub files_of_unit-requires-clause-main : goal.files_of_unit-requires-clause-main
 files_of_unit-requires-clause-main c =
-    let s = c.args.store.now in
+    let s = fleet_of c.args.store.now in
     let e = ap (λ (r : Resolution). r.main) c.in_ok-main.ensures.resolution in
     ap (main s) e ∙ (mains_are_their_own s c.in-Ok.name).0 ∙ sym e
 
 pub files_of_unit-requires-clause-file : goal.files_of_unit-requires-clause-file
-files_of_unit-requires-clause-file c = fragments_are_files c.args.store.now c.in-Ok.name c.in-Fragment.path (sym (ap (λ (r : Resolution). r.choice) c.in_ok-main.ensures.resolution) ∙ c.in-Fragment.is)
+files_of_unit-requires-clause-file c = fragments_are_files (fleet_of c.args.store.now) c.in-Ok.name c.in-Fragment.path (sym (ap (λ (r : Resolution). r.choice) c.in_ok-main.ensures.resolution) ∙ c.in-Fragment.is)

@@ -19,7 +19,7 @@ returns-clause-rising c =
 
 pub returns-clause-exact : goal.returns-clause-exact
 returns-clause-exact c =
-    let s = c.args.store.now in
+    let s = c.args.seen.now in
     let taken = c.in_ok-taken.taken.items in
     let dirs = c.deref.ensures.value ∙ c.in_ok-dirs.ensures.dirs ∙ ap (λ w. dirs_with w c.names.result.now) c.ending.ensures.ending ∙ ap (dirs_with (ending c.args.folder)) c.names.ensures.names in
     IfOk-weaker c.unit_names.result (λ units. units.items ≡ filter is_name (map entry_name c.deref-2.result.now)) (λ units. (n : Name) → Contains units.items n ↔ IsLinkedOf s c.args.self.now c.args.folder n)

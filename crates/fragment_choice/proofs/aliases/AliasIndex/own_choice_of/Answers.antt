@@ -1,5 +1,5 @@
 use Rattle.std.proofs.Common.{Some, ap, sym, ◌∙◌}
-use Rattle.edit_sums.specs.Sums.{EntryMap}
+use Rattle.path_maps.specs.Views.{View}
 use Rattle.fragment_choice.specs.declared.choices.Choice.{Choice}
 use Rattle.fragment_choice.specs.Choices.{own_choice}
 use Rattle.fragment_choice.proofs.aliases.AliasIndex.own_choice_of.Goals as goal
@@ -8,9 +8,9 @@ pub returns-in_ok-try_clone-in-Some-Some : goal.returns-in_ok-try_clone-in-Some-
 returns-in_ok-try_clone-in-Some-Some c =
     let known = c.self.invariant.known.each c.args.name.now c.in-Some-Some.field-0.now (sym c.in-Some-Some.ensures.value) in
     let same = ap (λ (x : Choice). Some x) (c.in_ok-try_clone-in-Some-Some.ensures.copy ∙ c.in-Some-Some.said-is) ∙ sym c.in-Some-Some.field-0-is in
-    record { choice = same ∙ known ∙ ap (λ (s : EntryMap). own_choice s c.args.name.now c.args.name.now) c.self.view_is }
+    record { choice = same ∙ known ∙ ap (λ (s : View). own_choice s c.args.name.now c.args.name.now) c.self.view_is }
 
 pub returns-in-Some-None : goal.returns-in-Some-None
 returns-in-Some-None c =
     let known = c.self.invariant.known.each c.args.name.now c.in-Some-None.field-0.now (sym c.in-Some-None.ensures.value) in
-    record { choice = sym c.in-Some-None.field-0-is ∙ known ∙ ap (λ (s : EntryMap). own_choice s c.args.name.now c.args.name.now) c.self.view_is }
+    record { choice = sym c.in-Some-None.field-0-is ∙ known ∙ ap (λ (s : View). own_choice s c.args.name.now c.args.name.now) c.self.view_is }

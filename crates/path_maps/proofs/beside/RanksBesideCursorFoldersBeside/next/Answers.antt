@@ -1,4 +1,6 @@
-use Rattle.std.proofs.Common.{◌∙◌, sym, subst, IsTrue}
+use Rattle.std.proofs.Common.{◌∙◌, sym, subst, refl, IsTrue}
+use Rattle.std.specs.Option.{option_copied}
+use Rattle.join_law.specs.Maps.{or_empty}
 use Rattle.std.specs.FinMap.Entries.{is_sorted}
 use Rattle.path_maps.specs.PathMaps.{FolderMap, bytes_cmp}
 use Rattle.path_maps.proofs.LeftBehind.{first_folders, more_ranks}
@@ -19,5 +21,5 @@ pub returns : goal.returns
 returns c = record {
   first =
       sym c.self.view_is
-      ∙ next_ranks c.self.inside.ranks.now c.in_ok-rank.rest.now c.self.inside.others.now c.in_ok-rank.field-0-0.now _ _ _ c.in_ok-rank.ensures.cases.0 c.pairs.ensures.pairs c.get.ensures.value c.folders_of.ensures.folders;
+      ∙ next_ranks c.self.inside.ranks.now c.in_ok-rank.rest.now (or_empty (option_copied c.self.inside.others)) c.in_ok-rank.field-0-0.now _ _ _ c.in_ok-rank.ensures.cases.0 c.pairs.ensures.pairs refl c.folders_of.ensures.folders;
 }

@@ -1,52 +1,56 @@
 use Rattle.std.proofs.Common.{◌≡◌, ◌+◌, ◌-◌, ◌^◌, ◌≤◌, None, cond, sym, subst, ap, ◌∙◌, arith}
 use Rattle.std.specs.Prelude.{IsSome}
 use Rattle.std.specs.FinMap as finmap
-use Rattle.load_path.specs.Paths.{PathParts}
+use Rattle.load_places.specs.Places.{PlaceParts}
 use Rattle.path_maps.proofs.Edits.{one_held, joined_edit, kept_edit}
 use Rattle.path_maps.proofs.LookUps.{is_new, added_new, held_not_new, counted_with, fits_with}
 use Rattle.path_maps.proofs.stores.Store.join_edit.Goals as goal
 
 pub invariant_of-self-2 : goal.invariant_of-self-2
 invariant_of-self-2 c =
-    let q : PathParts = record { rank = c.into_parts-rank.result.0; folder = c.into_parts-rank.result.1; name = c.into_parts-rank.result.2 } in
-    let new = added_new c.in_ok-added.added (is_new c.self.inside.ranks c.self.invariant.ranks c.args.self.now c.self.view_is q) (one_held (record c.args.edit { place = q })).not_least c.in_ok-added.ensures.added in
+    let q : PlaceParts = record { scope = c.args.edit.place.scope; path = record { rank = c.into_parts-rank.result.0; folder = c.into_parts-rank.result.1; name = c.into_parts-rank.result.2 } } in
+    let parts : q ≡ c.args.edit.place = λ i. record { scope = c.args.edit.place.scope; path = c.into_parts-rank.ensures.parts i } in
+    let new = added_new c.in_ok-added.added (is_new c.self.inside.scopes c.self.invariant.scopes c.args.self.now c.self.view_is q) (one_held (record c.args.edit { place = q })).not_least c.in_ok-added.ensures.added in
     let len : c.self.inside.len ≡ finmap.len c.args.self.now = c.self.invariant.counted.counted ∙ ap (λ s. finmap.len s) c.self.view_is in
     let counted : c.self.inside.len + c.from.result ≡ cond (finmap.contains_key c.args.self.now c.args.edit.place) (finmap.len c.args.self.now) (finmap.len c.args.self.now + 1) =
     (λ i. len i + c.from.ensures i)
-    ∙ counted_with c.self.inside.ranks c.self.invariant.ranks c.args.self.now c.self.view_is q c.in_ok-added.added new
-    ∙ ap (λ (p : PathParts). cond (finmap.contains_key c.args.self.now p) (finmap.len c.args.self.now) (finmap.len c.args.self.now + 1)) c.into_parts-rank.ensures.parts in
-    let room = subst (λ (p : PathParts). finmap.get c.args.self.now p ≡ None → finmap.len c.args.self.now + 1 ≤ 2 ^ 64 - 1) (sym c.into_parts-rank.ensures.parts) c.if-is_full_for.ensures.room in
+    ∙ counted_with c.self.inside.scopes c.self.invariant.scopes c.args.self.now c.self.view_is q c.in_ok-added.added new
+    ∙ ap (λ (p : PlaceParts). cond (finmap.contains_key c.args.self.now p) (finmap.len c.args.self.now) (finmap.len c.args.self.now + 1)) parts in
+    let room = subst (λ (p : PlaceParts). finmap.get c.args.self.now p ≡ None → finmap.len c.args.self.now + 1 ≤ 2 ^ 64 - 1) (sym parts) c.if-is_full_for.ensures.room in
     let now = c.self.invariant.fits in
     let most : finmap.len c.args.self.now ≤ 2 ^ 64 - 1 = omega (arith, len, now) in
-    let more = fits_with c.self.inside.ranks c.self.invariant.ranks c.args.self.now c.self.view_is q (2 ^ 64 - 1) c.in_ok-added.added new most room in
+    let more = fits_with c.self.inside.scopes c.self.invariant.scopes c.args.self.now c.self.view_is q (2 ^ 64 - 1) c.in_ok-added.added new most room in
     let from = c.from.ensures in
     let fits : c.self.inside.len + c.from.result ≤ 2 ^ 64 - 1 = omega (arith, more, from, len) in
     rw c.max-self-inside.ensures
-    (kept_edit c.self.inside.ranks c.join_to.new.map c.args.self.now c.self.inside.len c.self.inside.high (c.self.inside.len + c.from.result) c.args.edit q
-    c.into_parts-rank.ensures.parts c.into_parts-rank.ensures.lawful c.self.view_is c.self.invariant c.in_ok-added.ensures.valid c.in_ok-added.ensures.ok counted fits)
+    (kept_edit c.self.inside.scopes c.join_to.new.map c.args.self.now c.self.inside.len c.self.inside.high (c.self.inside.len + c.from.result) c.args.edit q
+    parts c.into_parts-rank.ensures.lawful c.self.view_is c.self.invariant c.in_ok-added.ensures.valid c.in_ok-added.ensures.ok counted fits)
 
 pub overflow_add-self : goal.overflow_add-self
 overflow_add-self c =
-    let q : PathParts = record { rank = c.into_parts-rank.result.0; folder = c.into_parts-rank.result.1; name = c.into_parts-rank.result.2 } in
-    let new = added_new c.in_ok-added.added (is_new c.self.inside.ranks c.self.invariant.ranks c.args.self.now c.self.view_is q) (one_held (record c.args.edit { place = q })).not_least c.in_ok-added.ensures.added in
+    let q : PlaceParts = record { scope = c.args.edit.place.scope; path = record { rank = c.into_parts-rank.result.0; folder = c.into_parts-rank.result.1; name = c.into_parts-rank.result.2 } } in
+    let parts : q ≡ c.args.edit.place = λ i. record { scope = c.args.edit.place.scope; path = c.into_parts-rank.ensures.parts i } in
+    let new = added_new c.in_ok-added.added (is_new c.self.inside.scopes c.self.invariant.scopes c.args.self.now c.self.view_is q) (one_held (record c.args.edit { place = q })).not_least c.in_ok-added.ensures.added in
     let len : c.self.inside.len ≡ finmap.len c.args.self.now = c.self.invariant.counted.counted ∙ ap (λ s. finmap.len s) c.self.view_is in
-    let room = subst (λ (p : PathParts). finmap.get c.args.self.now p ≡ None → finmap.len c.args.self.now + 1 ≤ 2 ^ 64 - 1) (sym c.into_parts-rank.ensures.parts) c.if-is_full_for.ensures.room in
+    let room = subst (λ (p : PlaceParts). finmap.get c.args.self.now p ≡ None → finmap.len c.args.self.now + 1 ≤ 2 ^ 64 - 1) (sym parts) c.if-is_full_for.ensures.room in
     let range = c.self.ranges.1.0.1 in
     let most : finmap.len c.args.self.now ≤ 2 ^ 64 - 1 = omega (arith, len, range) in
-    let fits = fits_with c.self.inside.ranks c.self.invariant.ranks c.args.self.now c.self.view_is q (2 ^ 64 - 1) c.in_ok-added.added new most room in
+    let fits = fits_with c.self.inside.scopes c.self.invariant.scopes c.args.self.now c.self.view_is q (2 ^ 64 - 1) c.in_ok-added.added new most room in
     let from = c.from.ensures in
     omega (arith, fits, from, len)
 
 pub returns-clause-ok : goal.returns-clause-ok
 returns-clause-ok c =
-    joined_edit c.self.inside.ranks c.join_to.new.map c.args.self.now c.args.edit
-    (record { rank = c.into_parts-rank.result.0; folder = c.into_parts-rank.result.1; name = c.into_parts-rank.result.2 })
-    c.into_parts-rank.ensures.parts c.self.view_is c.self.invariant.ranks c.in_ok-added.ensures.valid c.in_ok-added.ensures.ok
+    let q : PlaceParts = record { scope = c.args.edit.place.scope; path = record { rank = c.into_parts-rank.result.0; folder = c.into_parts-rank.result.1; name = c.into_parts-rank.result.2 } } in
+    let parts : q ≡ c.args.edit.place = λ i. record { scope = c.args.edit.place.scope; path = c.into_parts-rank.ensures.parts i } in
+    joined_edit c.self.inside.scopes c.join_to.new.map c.args.self.now c.args.edit
+    q parts c.self.view_is c.self.invariant.scopes c.in_ok-added.ensures.valid c.in_ok-added.ensures.ok
 
 pub returns-in_err-added-clause-held : goal.returns-in_err-added-clause-held
 returns-in_err-added-clause-held c held =
-    let q : PathParts = record { rank = c.into_parts-rank.result.0; folder = c.into_parts-rank.result.1; name = c.into_parts-rank.result.2 } in
+    let q : PlaceParts = record { scope = c.args.edit.place.scope; path = record { rank = c.into_parts-rank.result.0; folder = c.into_parts-rank.result.1; name = c.into_parts-rank.result.2 } } in
+    let parts : q ≡ c.args.edit.place = λ i. record { scope = c.args.edit.place.scope; path = c.into_parts-rank.ensures.parts i } in
     let is_ok = c.in_err-added.ensures.in_place tt
-    (held_not_new c.self.inside.ranks c.self.invariant.ranks c.args.self.now c.self.view_is q
-    (subst (λ (p : PathParts). IsSome (finmap.get c.args.self.now p)) (sym c.into_parts-rank.ensures.parts) held)) in
+    (held_not_new c.self.inside.scopes c.self.invariant.scopes c.args.self.now c.self.view_is q
+    (subst (λ (p : PlaceParts). IsSome (finmap.get c.args.self.now p)) (sym parts) held)) in
     cc (is_ok)

@@ -10,7 +10,7 @@ use Rattle.unit_loads.proofs.found.Found.of.Goals as goal
 
 pub returns : goal.returns
 returns c =
-    let s = c.args.store.now in
+    let s = c.args.seen.now in
     let name = c.args.name.now in
     let names = c.args.names.now in
     let fragment = c.args.fragment.now in

@@ -13,7 +13,7 @@ returns c =
     let links = c.args.links in
     let text = c.in_ok-text.ensures in
     let settled = c.in_ok-settled.ensures in
-    let items = items_with c.args.store.now c.args.fragment.now c.args.dropins.now in
+    let items = items_with c.args.seen.now c.args.fragment.now c.args.dropins.now in
     record {
       found = record {
         dropins = c.from_vec.ensures.elements ∙ c.in_ok-dropins.ensures.paths;

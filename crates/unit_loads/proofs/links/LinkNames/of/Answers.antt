@@ -6,7 +6,7 @@ use Rattle.unit_loads.proofs.links.LinkNames.of.Goals as goal
 
 pub returns : goal.returns
 returns c =
-    let s = c.args.store.now in
+    let s = c.args.seen.now in
     let folders = c.args.folders.now in
     record {
       links = record {

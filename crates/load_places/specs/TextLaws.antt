@@ -1,0 +1,129 @@
+-- Each place and its text give each other.
+use Rattle.std.specs.Prelude.{◌≡◌, ℕ, zero, suc, ◌+◌, ◌<◌, ◌==◌, Bool, true, false, cond, ◌&&◌, ◌||◌, nat_lt, nat_le, List, [], ◌∷◌, ◌++◌, length, take, drop, position, Option, Some, None, Result, Ok, Err, IsTrue, refl}
+use Rattle.std.specs.List.{list_all, position_from}
+use Rattle.std.proofs.Common.{sym, ap, subst, ◌∙◌, ⊎_elim, arith, append_assoc, add-one}
+use Rattle.std.proofs.Math.Seq.{take-append_seam, drop-append_seam, drop-append-add}
+use Rattle.std.proofs.lemmas.Bool.{cases_Bool, cond-true, cond-false, and_parts}
+use Rattle.std.proofs.lemmas.Bool.Decides.{nat_tests}
+use Rattle.std.proofs.lemmas.Iterator.Adapters.{position_from-zero}
+use Rattle.load_path.specs.Paths.{PathParts, IsPath, directory_of, has_folder, path_of, text_of}
+use Rattle.load_path.specs.TextLaws.{are_their_texts}
+use Rattle.load_path.specs.declared.paths.PathFault.{PathFault}
+use Rattle.load_places.specs.Hosts.{host_of, is_host, is_host_byte}
+use Rattle.load_places.specs.Places.{PlaceParts}
+use Rattle.load_places.specs.declared.hosts.HostFault.{HostFault}
+use Rattle.load_places.specs.declared.places.Scope.{Scope}
+use Rattle.load_places.specs.declared.places.Scope.TheVariants.{Fleet, Host}
+use Rattle.load_places.specs.Texts.{AreTheirTexts, IsScope, host_end, in_scope_of, is_colon, of_host, place_cut, place_of, place_text}
+
+-- a byte of a host's name is no colon and no slash
+plain_byte : (b : ℕ) → is_host_byte b ≡ true → (is_colon b ≡ false) × ((b == 47) ≡ false)
+plain_byte b h = (grind (arith, nat_tests, h), grind (arith, nat_tests, h))
+
+-- the first colon stands behind the bytes of a host's name
+colon_from : (i : ℕ) (h rest : List ℕ) → list_all is_host_byte h ≡ true → position_from is_colon i (h ++ 58 ∷ rest) ≡ Some (i + length h)
+colon_from i [] rest all = ap Some (omega arith)
+colon_from i (b ∷ h) rest all =
+    let parts = and_parts _ _ all in
+    cond-false _ _ _ (plain_byte b parts.0).0 ∙ colon_from (i + 1) h rest parts.1 ∙ ap Some (omega arith)
+
+colon_behind : (h rest : List ℕ) → list_all is_host_byte h ≡ true → position is_colon (h ++ 58 ∷ rest) ≡ Some (length h)
+colon_behind h rest all = position_from-zero is_colon (h ++ 58 ∷ rest) ∙ colon_from 0 h rest all ∙ ap Some (omega arith)
+
+host_bytes : (h : List ℕ) → is_host h ≡ true → (list_all is_host_byte h ≡ true) × (nat_lt 0 (length h) ≡ true)
+host_bytes h is = let outer = and_parts _ _ is in (outer.1, (and_parts _ _ outer.0).0)
+
+ends_host : (h rest : List ℕ) → is_host h ≡ true → host_end (h ++ 58 ∷ rest) ≡ Some (length h)
+ends_host [] rest is = let some = (host_bytes [] is).1 in cc (some)
+ends_host (b ∷ h) rest is =
+    let all = (host_bytes (b ∷ h) is).0 in
+    cond-false _ _ _ (plain_byte b (and_parts _ _ all).0).1 ∙ colon_behind (b ∷ h) rest all
+
+-- the text of a path begins with a slash
+no_host : (path : PathParts) → path.rank < 4 → host_end (text_of path) ≡ None
+unfolding text_of
+no_host path lt = by path.rank lt
+  where
+    by : (rank : ℕ) → rank < 4 → host_end (text_of (record path { rank = rank })) ≡ None
+    by zero lt = refl
+    by (suc zero) lt = refl
+    by (suc (suc zero)) lt = refl
+    by (suc (suc (suc zero))) lt = refl
+    by (suc (suc (suc (suc rank)))) lt = absurd (omega (arith, lt))
+
+read_back : (place : PlaceParts) → IsScope place.scope → IsPath place.path → place_of (place_text place) ≡ Ok place
+read_back place scope path = by place.scope scope
+  where
+    by : (s : Scope) → IsScope s → place_of (place_text (record { scope = s; path = place.path })) ≡ Ok (record { scope = s; path = place.path })
+    by Fleet _ = ap (λ o. place_cut o (text_of place.path)) (no_host place.path path.directory) ∙ ap (in_scope_of Fleet) (are_their_texts.read_back place.path path)
+    by (Host h) is =
+        let text = text_of place.path in
+        ap place_of (append_assoc h (58 ∷ []) text)
+        ∙ ap (λ o. place_cut o (h ++ 58 ∷ text)) (ends_host h text is)
+        ∙ ap (λ (t : List ℕ). of_host (host_of t) (path_of (drop (length h + 1) (h ++ 58 ∷ text)))) (take-append_seam h (58 ∷ text))
+        ∙ ap (λ (t : List ℕ). of_host (host_of h) (path_of t)) (drop-append-add h (58 ∷ text) 1)
+        ∙ ap (λ r. of_host r (path_of text)) (cond-true _ _ _ is)
+        ∙ ap (in_scope_of (Host h)) (are_their_texts.read_back place.path path)
+
+-- what is found at a colon
+cut_there : (i : ℕ) (text : List ℕ) (at : ℕ) → position_from is_colon i text ≡ Some at → (k : ℕ) × (at ≡ i + k) × (take k text ++ 58 ∷ drop (suc k) text ≡ text)
+cut_there i [] at e = cc (e)
+cut_there i (b ∷ text) at e = ⊎_elim
+    (λ colon.
+    let here : Some i ≡ Some at = sym (cond-true _ _ _ colon) ∙ e in
+    let at_is : at ≡ i = cc in
+    let b_is : b ≡ 58 = grind (arith, nat_tests, colon) in
+    (0, omega (arith, at_is), ap (λ (c : ℕ). c ∷ text) (sym b_is)))
+    (λ other.
+    let later = cut_there (i + 1) text at (sym (cond-false _ _ _ other) ∙ e) in
+    (suc later.0, omega (arith, later.1), ap (λ (t : List ℕ). b ∷ t) later.2))
+    (cases_Bool (is_colon b))
+
+cut_at : (text : List ℕ) (at : ℕ) → position is_colon text ≡ Some at → take at text ++ 58 ∷ drop (at + 1) text ≡ text
+cut_at text at e =
+    let there = cut_there 0 text at (sym (position_from-zero is_colon text) ∙ e) in
+    let at_is : at ≡ there.0 = omega (arith, there.1) in
+    ap (λ n. take n text ++ 58 ∷ drop (n + 1) text) at_is ∙ ap (λ n. take there.0 text ++ 58 ∷ drop n text) (add-one there.0) ∙ there.2
+
+end_cuts : (text : List ℕ) (at : ℕ) → host_end text ≡ Some at → take at text ++ 58 ∷ drop (at + 1) text ≡ text
+end_cuts [] at e = cc (e)
+end_cuts (b ∷ text) at e = ⊎_elim
+    (λ slash. let wrong = sym (cond-true _ _ _ slash) ∙ e in cc (wrong))
+    (λ other. cut_at (b ∷ text) at (sym (cond-false _ _ _ other) ∙ e))
+    (cases_Bool (b == 47))
+
+-- what was read in a scope is written so
+written_in : (scope : Scope) (text : List ℕ) (place : PlaceParts) → in_scope_of scope (path_of text) ≡ Ok place → (place.scope ≡ scope) × (text_of place.path ≡ text) × IsPath place.path
+written_in scope text place e = by (path_of text) refl e
+  where
+    by : (r : Result PathParts PathFault) → path_of text ≡ r → in_scope_of scope r ≡ Ok place → (place.scope ≡ scope) × (text_of place.path ≡ text) × IsPath place.path
+    by (Ok path) at h =
+        let same : record { scope = scope; path = path } ≡ place = cc (h) in
+        let written = are_their_texts.written_back text path at in
+        subst (λ (p : PlaceParts). (p.scope ≡ scope) × (text_of p.path ≡ text) × IsPath p.path) same (refl, written.0, written.1)
+    by (Err fault) at h = cc (h)
+
+written_back : (text : List ℕ) (place : PlaceParts) → place_of text ≡ Ok place → (place_text place ≡ text) × IsScope place.scope × IsPath place.path
+written_back text place e = by (host_end text) refl e
+  where
+    by : (o : Option ℕ) → host_end text ≡ o → place_cut o text ≡ Ok place → (place_text place ≡ text) × IsScope place.scope × IsPath place.path
+    by None at h =
+        let written = written_in Fleet text place h in (
+          ap (λ (s : Scope). place_text (record { scope = s; path = place.path })) written.0 ∙ written.1,
+          subst IsScope (sym written.0) tt,
+          written.2,
+        )
+    by (Some n) at h = ⊎_elim
+        (λ good.
+        let front = take n text in
+        let written = written_in (Host front) (drop (n + 1) text) place (sym (ap (λ r. of_host r (path_of (drop (n + 1) text))) (cond-true _ _ _ good)) ∙ h) in (
+          ap (λ (s : Scope). place_text (record { scope = s; path = place.path })) written.0 ∙ append_assoc front (58 ∷ []) (text_of place.path) ∙ ap (λ (t : List ℕ). front ++ 58 ∷ t) written.1 ∙ end_cuts text n at,
+          subst IsScope (sym written.0) good,
+          written.2,
+        ))
+        (λ bad. let wrong = sym (ap (λ r. of_host r (path_of (drop (n + 1) text))) (cond-false _ _ _ bad)) ∙ h in cc (wrong))
+        (cases_Bool (is_host (take n text)))
+
+-- each place and its text give each other
+pub places_their_texts : AreTheirTexts
+places_their_texts = record { read_back = read_back; written_back = written_back }

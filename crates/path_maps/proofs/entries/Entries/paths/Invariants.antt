@@ -1,8 +1,0 @@
-use Rattle.std.proofs.Common.{◌≡◌, ◌++◌, map, length}
-use Rattle.path_maps.proofs.entries.Entries.paths.Given as goal
-
-abbrev pub invariant-loop-placed : goal.invariant-loop-placed
-invariant-loop-placed l = l.paths.items ++ map (λ p. p.0) l.self ≡ map (λ p. p.0) l.fn.self
-
-abbrev pub decreases-loop-placed : goal.decreases-loop-placed
-decreases-loop-placed l = length l.self

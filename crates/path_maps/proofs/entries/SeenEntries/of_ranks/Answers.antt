@@ -1,0 +1,14 @@
+use Rattle.std.proofs.Common.{ap, ◌∙◌}
+use Rattle.std.specs.List.{flat_map}
+use Rattle.path_maps.specs.PathMaps.{RankMap}
+use Rattle.path_maps.specs.Cursors.{by_rank}
+use Rattle.path_maps.proofs.LeftBehind.{ranks_listed}
+use Rattle.path_maps.proofs.entries.SeenEntries.of_ranks.Goals as goal
+
+pub returns : goal.returns
+returns c = record {
+  entries =
+      c.from_folder.ensures.entries
+      ∙ ap (λ (rs : RankMap). flat_map (λ xs. xs) (flat_map (λ xs. xs) (by_rank rs))) c.pairs-ranks.ensures.pairs
+      ∙ ranks_listed c.args.ranks.now;
+}

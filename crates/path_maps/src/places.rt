@@ -1,0 +1,220 @@
+//! The entries of a store, one after another in place order: scopes that are left, and what each has.
+ghost use Rattle.std.specs.Prelude.{◌≡◌, ◌∷◌, [], map, IfOk, MatchOption};
+ghost use Rattle.std.specs.List.{flat_map};
+ghost use Rattle.std.specs.Option.{option_copied};
+ghost use Rattle.load_places.specs.Places.{place_cmp};
+ghost use Rattle.edit_sums.specs.Sums.{shown};
+ghost use Rattle.path_maps.specs.Cursors.{left_of};
+ghost use Rattle.path_maps.specs.Kept.{HasLawfulPaths};
+ghost use Rattle.path_maps.specs.PlaceMaps.{all_listed, placed};
+ghost use Rattle.path_maps.specs.Views.{within};
+
+use crate::cursors::{Cursor, Nested};
+use crate::entries::{SeenEntries, SeenEntry};
+use crate::stores::{RankMap, ScopeMap};
+use edit_sums::{Content, Entry};
+use load_places::{Place, Scope};
+use plain_values::Bytes;
+use std::alloc::{AllocError, Global};
+use std::cmp::Ordering;
+use std::marker::Model;
+
+/// An entry with its place, lent.
+#[derive(Drop)]
+pub struct Placed<'a> {
+    scope: &'a Scope,
+    entry: SeenEntry<'a>,
+}
+
+impl<'a> Model for Placed<'a> {
+    ghost use Rattle.load_places.specs.Places.{PlaceParts};
+    ghost use Rattle.edit_sums.specs.Entries.{Entry};
+    ghost use Rattle.path_maps.specs.Views.{within};
+
+    ghost Value = { PlaceParts × Entry };
+
+    ghost view = { λ p. (within p.scope.now p.entry.0, p.entry.1) };
+}
+
+impl<'a> Placed<'a> {
+    // An entry of a scope.
+    pub(crate) fn new(scope: &'a Scope, entry: SeenEntry<'a>) -> Self
+        ensures placed { result ≡ (within scope.now entry.entry.0, entry.entry.1) }
+    {
+        Placed { scope, entry }
+    }
+
+    /// Its place. It fails for want of memory alone, and copies no bytes.
+    pub fn place(&self) -> Result<Place, AllocError>
+        ensures place { IfOk result (λ place. place ≡ self.now.0) }
+    {
+        Ok(Place {
+            scope: self.scope.try_clone()?,
+            path: self.entry.path()?,
+        })
+    }
+
+    /// For whom it is. It takes no memory.
+    pub fn scope(&self) -> &'a Scope
+        ensures scope { result.now ≡ self.now.0.scope }
+    {
+        self.scope
+    }
+
+    /// The name in its folder, which is the last component of its path. It takes no memory.
+    pub fn name(&self) -> &'a Bytes
+        ensures name { result.now ≡ self.now.0.path.name }
+    {
+        self.entry.name()
+    }
+
+    /// What is visible at its place: the entry's content, if it is no removal. It takes no memory.
+    pub fn visible(&self) -> Option<&'a Content>
+        ensures visible { option_copied result ≡ shown self.now.1 }
+    {
+        self.entry.visible()
+    }
+
+    /// Where a place stands: before the place of this entry, at it, or behind it. It takes no memory.
+    pub fn order_of(&self, place: &Place) -> Ordering
+        ensures order { result ≡ place_cmp place.now self.now.0 }
+    {
+        place
+            .scope
+            .cmp(self.scope)
+            .then(self.entry.order_of(&place.path))
+    }
+
+    /// The entry. It takes no memory.
+    pub fn entry(&self) -> &'a Entry
+        ensures entry { result.now ≡ self.now.1 }
+    {
+        self.entry.entry()
+    }
+}
+
+// The entries that are left of a scope.
+#[derive(Drop)]
+struct ScopeLeft<'a> {
+    scope: &'a Scope,
+    entries: SeenEntries<'a>,
+}
+
+impl<'a> Model for ScopeLeft<'a> {
+    ghost use Rattle.std.specs.Prelude.{List};
+    ghost use Rattle.load_places.specs.Places.{PlaceParts};
+    ghost use Rattle.edit_sums.specs.Entries.{Entry};
+    ghost use Rattle.path_maps.specs.PlaceMaps.{placed};
+
+    ghost Value = { List (PlaceParts × Entry) };
+
+    ghost view = { λ s. placed s.scope.now s.entries };
+}
+
+impl<'a> Cursor<Placed<'a>> for ScopeLeft<'a> {
+    ghost left = { λ s. s };
+
+    #[inline(always)]
+    fn next(&mut self) -> Option<Placed<'a>> {
+        let entry = self.entries.next_entry()?;
+        let scope = self.scope;
+        Some(Placed::new(scope, entry))
+    }
+}
+
+// The scopes that are left.
+#[derive(Drop)]
+struct ScopesLeft<'a> {
+    scopes: &'a [(Scope, RankMap)],
+}
+
+impl<'a> Model for ScopesLeft<'a> {
+    ghost use Rattle.std.specs.Prelude.{List};
+    ghost use Rattle.load_places.specs.Places.{PlaceParts};
+    ghost use Rattle.edit_sums.specs.Entries.{Entry};
+    ghost use Rattle.path_maps.specs.Cursors.{by_scope};
+    ghost use Rattle.path_maps.specs.Kept.{HasLawfulPaths};
+
+    ghost Value = { List (List (PlaceParts × Entry)) };
+
+    ghost view = { λ s. by_scope s.scopes.now };
+
+    ghost invariant = { λ s. HasLawfulPaths s.scopes.now };
+}
+
+impl<'a> Cursor<ScopeLeft<'a>> for ScopesLeft<'a> {
+    ghost left = { λ s. s };
+
+    fn next(&mut self) -> Option<ScopeLeft<'a>> {
+        let ((scope, ranks), rest) = self.scopes.split_first()?;
+        self.scopes = rest;
+        Some(ScopeLeft {
+            scope,
+            entries: SeenEntries::of_ranks(ranks),
+        })
+    }
+}
+
+/// The entries of a store that are left, in place order.
+#[derive(Drop)]
+pub struct Entries<'a> {
+    // By scope.
+    entries: Nested<ScopeLeft<'a>, ScopesLeft<'a>>,
+}
+
+impl<'a> Model for Entries<'a> {
+    ghost use Rattle.std.specs.Prelude.{List};
+    ghost use Rattle.load_places.specs.Places.{PlaceParts};
+    ghost use Rattle.edit_sums.specs.Entries.{Entry};
+    ghost use Rattle.path_maps.specs.Cursors.{left_of};
+
+    ghost Value = { List (PlaceParts × Entry) };
+
+    ghost view = { λ e. left_of e.entries.inner e.entries.outer };
+}
+
+impl<'a> Entries<'a> {
+    // Those of maps by scope whose paths are lawful.
+    pub(crate) fn of_scopes(scopes: &'a ScopeMap) -> Self
+        requires paths { HasLawfulPaths scopes.now }
+        ensures entries { result ≡ all_listed scopes.now }
+    {
+        let scopes = scopes.pairs();
+        Entries {
+            entries: Nested {
+                inner: None,
+                outer: ScopesLeft { scopes },
+            },
+        }
+    }
+
+    // Entries of one scope.
+    pub(crate) fn of_scope(scope: &'a Scope, entries: SeenEntries<'a>) -> Self
+        ensures entries { result ≡ placed scope.now entries.entry }
+    {
+        Entries {
+            entries: Nested {
+                inner: Some(ScopeLeft { scope, entries }),
+                outer: ScopesLeft { scopes: &[] },
+            },
+        }
+    }
+
+    /// Takes the first of them, if there is one. O(1), without memory.
+    pub fn next_entry(&mut self) -> Option<Placed<'a>>
+        ensures first { MatchOption result ((self.old ≡ []) × (self.new ≡ [])) (λ placed. self.old ≡ placed ∷ self.new) }
+    {
+        self.entries.next()
+    }
+
+    /// The places of all of them. It fails for want of memory alone, and copies no bytes.
+    pub fn places(mut self, alloc: Global) -> Result<Vec<Place>, AllocError>
+        ensures places { IfOk result (λ places. places.items ≡ map (λ p. p.0) self.entry) }
+    {
+        let mut places = Vec::new(alloc);
+        while let Some(placed) = self.next_entry() {
+            places.push(placed.place()?)?;
+        }
+        Ok(places)
+    }
+}

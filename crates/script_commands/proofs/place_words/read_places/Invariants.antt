@@ -1,0 +1,10 @@
+use Rattle.std.proofs.Common.{◌≡◌, length}
+use Rattle.script_commands.specs.Places.{places_of}
+use Rattle.script_commands.specs.Each.{values_then}
+use Rattle.script_commands.proofs.place_words.read_places.Given as goal
+
+abbrev pub invariant-loop-text : goal.invariant-loop-text
+invariant-loop-text l = places_of l.fn.texts ≡ values_then l.places.items (places_of l.texts)
+
+abbrev pub decreases-loop-text : goal.decreases-loop-text
+decreases-loop-text l = length l.texts

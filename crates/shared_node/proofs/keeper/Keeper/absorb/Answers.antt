@@ -1,0 +1,8 @@
+use Rattle.std.proofs.Common.{ℕ, [], ◌∷◌, ◌++◌, ap, ◌∙◌}
+use Rattle.node_histories.specs.declared.events.HistoryEvent.TheVariants.{Absorbed}
+use Rattle.shared_node.proofs.keeper.Keeper.absorb.Goals as goal
+
+pub returns-in-None-clause-accepted : goal.returns-in-None-clause-accepted
+returns-in-None-clause-accepted g c =
+    c.finish.ensures.accepted ∙ c.in-Ok.ensures.accepted
+    ∙ ap (λ (n : ℕ). c.args.self.now.accepted ++ Absorbed n c.args.piece ∷ []) c.number.ensures.number

@@ -1,0 +1,72 @@
+//! Calls on hosts and places, written in full.
+use crate::orders::append_signs;
+use replica_store::{HostFault, HostName, Place, PlaceFault};
+use std::alloc::Global;
+use worked_lines::{Answer, LineFault, Words, each_of, match_word, text_of};
+
+/// Writes what a call on hosts or places answers.
+pub fn answer(words: &mut Words, out: &mut Answer) -> Result<(), LineFault> {
+    let call = words.word()?;
+    match_word!(call;
+        b"host" => host(words, out),
+        b"hosts" => append_signs(out, &each_of(words.alloc, &words.list()?, host_of)?),
+        b"parse" => parse(words, out),
+        b"order" => append_signs(out, &full_places(words)?),
+        _ => of_place(call, &full_place_of(words.alloc, words.word()?)?, out),
+    )
+}
+
+// What a call answers of one place.
+fn of_place(call: &[u8], place: &Place, out: &mut Answer) -> Result<(), LineFault> {
+    match_word!(call;
+        b"text" => append_text(out, place),
+        b"clone" => append_clone(out, place),
+    )
+}
+
+// The name of a clone of a host, or the host's fault.
+fn host(words: &mut Words, out: &mut Answer) -> Result<(), LineFault> {
+    match HostName::parse(words.alloc, &words.text()?) {
+        Ok(host) => out.write(host.try_clone()?.bytes()),
+        Err(HostFault::Memory) => Err(LineFault::Memory),
+        Err(fault) => out.print(&fault),
+    }
+}
+
+// The host that a word spells.
+fn host_of(alloc: Global, word: &[u8]) -> Result<HostName, LineFault> {
+    Ok(HostName::parse(alloc, &text_of(alloc, word)?)?)
+}
+
+// The place that a text writes, or its fault.
+fn parse(words: &mut Words, out: &mut Answer) -> Result<(), LineFault> {
+    match Place::parse(words.alloc, &words.text()?) {
+        Ok(place) => out.write_place(&place),
+        Err(PlaceFault::Memory) => Err(LineFault::Memory),
+        Err(fault) => out.print(&fault),
+    }
+}
+
+// The place that a word spells in full.
+fn full_place_of(alloc: Global, word: &[u8]) -> Result<Place, LineFault> {
+    Ok(Place::parse(alloc, &text_of(alloc, word)?)?)
+}
+
+// The places that a list of words spells in full.
+fn full_places(words: &mut Words) -> Result<Vec<Place>, LineFault> {
+    each_of(words.alloc, &words.list()?, full_place_of)
+}
+
+// Writes the text of a place, behind what stands there.
+fn append_text(out: &mut Answer, place: &Place) -> Result<(), LineFault> {
+    out.write(b"> ")?;
+    Ok(place.append_to(&mut out.bytes)?)
+}
+
+// Writes a clone of a place, and whether it and its scope are the same.
+fn append_clone(out: &mut Answer, place: &Place) -> Result<(), LineFault> {
+    let copy = place.try_clone()?;
+    out.write_place(&copy)?;
+    out.either(copy == *place, b" same", b" other")?;
+    out.either(copy.scope.try_clone()? == place.scope, b" same", b" other")
+}
