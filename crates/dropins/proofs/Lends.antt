@@ -14,7 +14,7 @@ use Rattle.dropins.specs.declared.precedence.Take.{Take}
 use Rattle.dropins.specs.declared.precedence.Take.TheVariants.{Nothing, Placed}
 use Rattle.dropins.specs.Taken.{Candidate, as_found, candidate_at, IsTaken, IsTakenOver}
 use Rattle.dropins.specs.Taken.Candidate.{Mask, At}
-use Rattle.load_path.specs.Levels.{levels}
+use Rattle.load_places.specs.Levels.{levels}
 use Rattle.dropins.specs.Walks.{lent, path, take_at, take_of, taken, taken_in, took, took_in, took_over}
 use Rattle.dropins.specs.OverLaws.{NoneStands, over_is_either, over_of_names, over_of_types}
 use Rattle.dropins.specs.WalkLaws.{found_iff_taken, found_is_taken, found_name, none_stands, path_or, found_path}

@@ -4,7 +4,7 @@ use Rattle.std.specs.Prelude.{◌⊎◌, slice_get}
 use Rattle.std.specs.Option.{option_and_then}
 use Rattle.list_laws.specs.Agreements.{agree_everywhere}
 use Rattle.load_path.specs.Paths.{PathParts, path_cmp}
-use Rattle.load_path.specs.Levels.{IsLevel, level_of}
+use Rattle.load_places.specs.Levels.{IsLevel, level_of}
 use Rattle.load_path.specs.PathLaws.{path_cmp_total, path_cmp-IsAntisymmetric}
 use Rattle.path_maps.specs.Views.{View, seen_at}
 use Rattle.dropins.specs.Taken.Candidate.{Mask, At}

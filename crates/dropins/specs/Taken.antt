@@ -6,7 +6,7 @@ use Rattle.std.specs.FinMap as finmap
 use Rattle.std.specs.List.{Contains}
 use Rattle.std.specs.Str.{bytes_eq}
 use Rattle.load_path.specs.Paths.{PathParts}
-use Rattle.load_path.specs.Levels.{IsLevel, level_of}
+use Rattle.load_places.specs.Levels.{IsLevel, level_of}
 use Rattle.edit_sums.specs.Entries.{Entry}
 use Rattle.path_maps.specs.Views.{View, seen_at}
 use Rattle.edit_sums.specs.declared.contents.Content.{Content}

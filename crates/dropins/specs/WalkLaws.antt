@@ -12,8 +12,8 @@ use Rattle.dropins.specs.Taken.Candidate.{Mask, At}
 use Rattle.dropins.specs.declared.precedence.Search.{Search}
 use Rattle.dropins.specs.declared.precedence.Search.TheVariants.{DropIns, Links}
 use Rattle.dropins.specs.Taken.{Candidate, is_conf, is_null, content_as_drop_in, as_found, candidate_at, Stands, IsTaken, TakenFor}
-use Rattle.load_path.specs.Levels.{levels}
-use Rattle.load_path.specs.LevelLaws.{level_is}
+use Rattle.load_places.specs.Levels.{levels}
+use Rattle.load_places.specs.LevelLaws.{level_is}
 use Rattle.dropins.specs.Walks.{path, taken_in, taken}
 use Rattle.list_laws.specs.FirstSaid.{IsFirst, first_is, none_says}
 

@@ -7,7 +7,7 @@ use Rattle.std.specs.Str.{bytes_eq}
 use Rattle.edit_sums.specs.Entries.{Entry}
 use Rattle.list_laws.specs.FirstSaid.{first_said}
 use Rattle.load_path.specs.Paths.{PathParts}
-use Rattle.load_path.specs.Levels.{first_level}
+use Rattle.load_places.specs.Levels.{first_level}
 use Rattle.edit_sums.specs.Sums.{shown}
 use Rattle.path_maps.specs.Views.{View}
 use Rattle.dropins.specs.declared.precedence.Take.{Take}

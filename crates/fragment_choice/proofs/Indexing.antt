@@ -27,7 +27,7 @@ use Rattle.fragment_choice.specs.declared.choices.Choice.TheVariants.{Alias}
 use Rattle.fragment_choice.specs.Choices.{own_path, own_choice}
 use Rattle.fragment_choice.specs.LinkedNames.{is_link, unit_of}
 use Rattle.fragment_choice.specs.LinkLaws.{ByLink, alias_same, own_link}
-use Rattle.load_path.specs.Levels.{IsLevel}
+use Rattle.load_places.specs.Levels.{IsLevel}
 use Rattle.fragment_choice.specs.Indexes.{AreOwnChoices, IsIndexOf, IsAny, IsOwnAt, IsOwnEntry, IsOwnLink, Collects, Puts, PutsSaid, owners_at, names_in}
 use Rattle.fragment_choice.proofs.Gathering.{read, unread}
 

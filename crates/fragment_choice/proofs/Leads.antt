@@ -11,7 +11,7 @@ use Rattle.unit_name.specs.Names.{Name, IsName, is_name, kind, shape, instance}
 use Rattle.unit_name.specs.Forms.{template_of, with_instance}
 use Rattle.unit_name.specs.NameLaws.{instances_have_the_template, templates_keep_parts}
 use Rattle.list_laws.specs.FirstSaid.{first_said}
-use Rattle.load_path.specs.Levels.{levels}
+use Rattle.load_places.specs.Levels.{levels}
 use Rattle.fragment_choice.specs.declared.choices.Choice.{Choice}
 use Rattle.fragment_choice.specs.declared.choices.Choice.TheVariants.{NotFound, Masked, Alias, Bad}
 use Rattle.fragment_choice.specs.declared.choices.Cause.TheVariants.{Kind, Shape, Target}

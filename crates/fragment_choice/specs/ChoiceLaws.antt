@@ -10,8 +10,8 @@ use Rattle.unit_name.specs.Names.{Name}
 use Rattle.unit_name.specs.Forms.{template_of}
 use Rattle.list_laws.specs.Agreements.{agree_everywhere}
 use Rattle.list_laws.specs.FirstSaid.{first_same}
-use Rattle.load_path.specs.Levels.{IsLevel, levels}
-use Rattle.load_path.specs.LevelLaws.{first_at, both_say}
+use Rattle.load_places.specs.Levels.{IsLevel, levels}
+use Rattle.load_places.specs.LevelLaws.{first_at, both_say}
 use Rattle.fragment_choice.specs.declared.choices.Choice.{Choice}
 use Rattle.fragment_choice.specs.declared.choices.Choice.TheVariants.{NotFound, Masked}
 use Rattle.fragment_choice.specs.Choices.{choice, content_says, is_null, link_says, last_component, own_choice, own_path, says}

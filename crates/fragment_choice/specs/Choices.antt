@@ -6,7 +6,7 @@ use Rattle.std.specs.List.{after_last}
 use Rattle.std.specs.Str.{bytes_eq}
 use Rattle.std.specs.Ordering.{eq_by_cmp}
 use Rattle.load_path.specs.Paths.{PathParts}
-use Rattle.load_path.specs.Levels.{first_level}
+use Rattle.load_places.specs.Levels.{first_level}
 use Rattle.edit_sums.specs.declared.contents.Content.{Content}
 use Rattle.edit_sums.specs.declared.contents.Content.TheVariants.{Gone, Link, File}
 use Rattle.path_maps.specs.Views.{View, seen_at}

@@ -11,7 +11,7 @@ use Rattle.unit_name.specs.declared.names.Shape.TheVariants.{Plain, Template, In
 use Rattle.unit_name.specs.Names.{Name, shape, instance, kind, is_name}
 use Rattle.unit_name.specs.Forms.{template_of, with_instance}
 use Rattle.list_laws.specs.FirstSaid.{first_said}
-use Rattle.load_path.specs.Levels.{levels}
+use Rattle.load_places.specs.Levels.{levels}
 use Rattle.fragment_choice.specs.declared.choices.Choice.{Choice}
 use Rattle.fragment_choice.specs.declared.choices.Choice.TheVariants.{NotFound, Masked, Fragment, Bad}
 use Rattle.fragment_choice.specs.declared.resolutions.Resolution.{Resolution}

@@ -9,7 +9,7 @@ use Rattle.edit_sums.specs.Entries.{Entry}
 use Rattle.edit_sums.specs.Sums.{shown}
 use Rattle.path_maps.specs.Views.{View, seen_at}
 use Rattle.load_path.specs.Paths.{PathParts}
-use Rattle.load_path.specs.Levels.{IsLevel}
+use Rattle.load_places.specs.Levels.{IsLevel}
 use Rattle.unit_name.specs.Names.{Name, name_cmp, IsName, instance}
 use Rattle.unit_name.specs.Forms.{template_of, with_instance}
 use Rattle.fragment_choice.specs.declared.choices.Choice.{Choice}

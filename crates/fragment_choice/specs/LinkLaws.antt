@@ -11,8 +11,8 @@ use Rattle.unit_name.specs.declared.names.Shape.TheVariants.{Plain, Template, In
 use Rattle.unit_name.specs.Names.{Name, IsName, is_name, kind, shape, instance}
 use Rattle.unit_name.specs.Forms.{template_at, template_of, with_instance}
 use Rattle.unit_name.specs.NameLaws.{instances_have_the_template, templates_keep_parts}
-use Rattle.load_path.specs.Levels.{IsLevel}
-use Rattle.load_path.specs.LevelLaws.{said_by}
+use Rattle.load_places.specs.Levels.{IsLevel}
+use Rattle.load_places.specs.LevelLaws.{said_by}
 use Rattle.fragment_choice.specs.declared.choices.Choice.{Choice}
 use Rattle.fragment_choice.specs.declared.choices.Choice.TheVariants.{NotFound, Masked, Fragment, Alias, Bad}
 use Rattle.fragment_choice.specs.declared.choices.Cause.TheVariants.{Kind, Shape, Target}

@@ -25,8 +25,8 @@ use Rattle.fragment_choice.specs.declared.choices.Choice.{Choice}
 use Rattle.fragment_choice.specs.declared.choices.Choice.TheVariants.{NotFound, Masked, Bad}
 use Rattle.fragment_choice.specs.declared.choices.Cause.TheVariants as cause
 use Rattle.fragment_choice.specs.Choices.{alias_of, alias_to, choice, content_says, is_bad_kind, is_null, is_same, is_self, is_that, last_component, link_says, own_choice, own_path, says, shapes_agree, target_says}
-use Rattle.load_path.specs.Levels.{IsLevel}
-use Rattle.load_path.specs.LevelLaws.{said_by, none_said, all_none}
+use Rattle.load_places.specs.Levels.{IsLevel}
+use Rattle.load_places.specs.LevelLaws.{said_by, none_said, all_none}
 
 -- a link that is passed over: it leads to the name o that it has itself, or to the template of o
 pub record IsPassedOver (o : Name) (x : Content) : Type 0 where

@@ -1,5 +1,3 @@
 pub mod Paths
 pub mod PathLaws
 pub mod TextLaws
-pub mod Levels
-pub mod LevelLaws

@@ -1,16 +1,7 @@
-//! Laws on paths, for all of them, and on levels, for all answers at them.
-ghost use Rattle.load_path.specs.LevelLaws.{LeastLevelDecides, LevelsAreNumbered, SilenceIsEverywhere};
+//! Laws on paths, for all of them.
 ghost use Rattle.load_path.specs.Paths.{AreTheirTexts};
 
 /// The text of each path is read as that path, and what is read as a path is its text.
 pub fn paths_are_their_texts()
     ensures law { AreTheirTexts }
-{}
-
-/// Each level stands in the list of levels at its own place; the least level that says something decides; and nothing is
-/// said just where no level says anything.
-pub fn level_laws<B>()
-    ensures numbered { LevelsAreNumbered }
-    ensures least { LeastLevelDecides B }
-    ensures silence { SilenceIsEverywhere B }
 {}

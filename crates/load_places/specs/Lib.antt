@@ -3,3 +3,5 @@ pub mod Places
 pub mod PlaceLaws
 pub mod Texts
 pub mod TextLaws
+pub mod Levels
+pub mod LevelLaws

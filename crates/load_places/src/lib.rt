@@ -1,14 +1,17 @@
-//! Places: a path of the load path, for the whole fleet or for one host. An edit's content stands at a place.
+//! Places: a path of the load path, for the whole fleet or for one host. An edit's content stands at a place. A place's
+//! level is what has precedence: of all that stands for a name, the first level that says something counts.
 //!
-//! Promise: places are their texts.
+//! Promise: places are their texts; units are exact.
 #![tactic(auto)]
 
 mod hosts;
 mod laws;
+mod levels;
 mod places;
 mod texts;
 
 pub use hosts::{HOST_LIMIT, HostFault, HostName};
-pub use laws::places_are_their_texts;
+pub use laws::{level_laws, places_are_their_texts};
+pub use levels::LEVELS;
 pub use places::{Place, Scope};
 pub use texts::PlaceFault;

@@ -2,7 +2,7 @@
 -- Source: systemd.unit(5), "Description" and "[Unit] Section Options"; that all names of the load path are loaded, and the limit, are this project's own.
 use Rattle.std.specs.Prelude.{◌≡◌, ◌≢◌, ◌⊎◌, ℕ, IsSome, List}
 use Rattle.list_laws.specs.Members.{IsAmong}
-use Rattle.load_path.specs.Levels.{IsLevel}
+use Rattle.load_places.specs.Levels.{IsLevel}
 use Rattle.path_maps.specs.Views.{View, seen_at}
 use Rattle.unit_name.specs.declared.names.Shape.TheVariants.{Template}
 use Rattle.unit_name.specs.Names.{Name, name_cmp, IsName, shape}

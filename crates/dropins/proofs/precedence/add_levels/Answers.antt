@@ -1,9 +1,9 @@
 use Rattle.std.proofs.Common.{◌∙◌, ap, arith, sym, take, ◌≡◌}
 use Rattle.std.specs.Option.{option_or}
-use Rattle.load_path.specs.Levels.{levels}
+use Rattle.load_places.specs.Levels.{levels}
 use Rattle.dropins.specs.Walks.{first_for, took_in}
 use Rattle.list_laws.specs.FirstSaid.{first_said, said_more}
-use Rattle.load_path.specs.LevelLaws.{level_is}
+use Rattle.load_places.specs.LevelLaws.{level_is}
 use Rattle.dropins.proofs.precedence.add_levels.Goals as goal
 
 pub loop-level-preserved : goal.loop-level-preserved

@@ -1,7 +1,7 @@
 use Rattle.std.proofs.Common.{◌≡◌, ℕ, List, take}
 use Rattle.std.specs.Option.{option_or}
 use Rattle.list_laws.specs.FirstSaid.{first_said}
-use Rattle.load_path.specs.Levels.{levels}
+use Rattle.load_places.specs.Levels.{levels}
 use Rattle.dropins.specs.Walks.{first_for, took_in}
 use Rattle.dropins.proofs.precedence.add_levels.Given as goal
 

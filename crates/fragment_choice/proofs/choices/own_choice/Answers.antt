@@ -1,6 +1,6 @@
 use Rattle.std.proofs.Common.{sym, ◌∙◌, arith}
 use Rattle.fragment_choice.specs.Choices.{says}
-use Rattle.load_path.specs.LevelLaws.{said_there, passed_over}
+use Rattle.load_places.specs.LevelLaws.{said_there, passed_over}
 use Rattle.fragment_choice.proofs.choices.own_choice.Goals as goal
 
 pub returns-in-Some : goal.returns-in-Some

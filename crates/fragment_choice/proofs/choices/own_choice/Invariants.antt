@@ -1,6 +1,6 @@
 use Rattle.std.proofs.Common.{◌≡◌, ◌<◌, drop}
 use Rattle.list_laws.specs.FirstSaid.{first_said}
-use Rattle.load_path.specs.Levels.{levels}
+use Rattle.load_places.specs.Levels.{levels}
 use Rattle.unit_name.specs.Names.{IsName}
 use Rattle.fragment_choice.specs.Choices.{says, own_choice}
 use Rattle.fragment_choice.proofs.choices.own_choice.Given as goal

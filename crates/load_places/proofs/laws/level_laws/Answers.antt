@@ -1,5 +1,5 @@
-use Rattle.load_path.specs.LevelLaws.{level_is, least_level_decides, silence_is_everywhere}
-use Rattle.load_path.proofs.laws.level_laws.Goals as goal
+use Rattle.load_places.specs.LevelLaws.{level_is, least_level_decides, silence_is_everywhere}
+use Rattle.load_places.proofs.laws.level_laws.Goals as goal
 
 pub returns-clause-numbered : goal.returns-clause-numbered
 returns-clause-numbered g c = level_is

@@ -4,7 +4,7 @@ use Rattle.std.specs.Prelude.{◌↔◌}
 use Rattle.std.specs.Option.{option_or}
 use Rattle.list_laws.specs.FirstSaid.{first_said, first_is, none_says}
 use Rattle.list_laws.specs.FirstLaws.{BothSay, said_from, all_silent, place_decides, both_decide}
-use Rattle.load_path.specs.Levels.{IsLevel, levels, first_level}
+use Rattle.load_places.specs.Levels.{IsLevel, levels, first_level}
 
 -- each level stands at its own place in the list
 abbrev pub LevelsAreNumbered : Type 0
@@ -23,7 +23,11 @@ level_is zero other h = refl
 level_is (suc zero) other h = refl
 level_is (suc (suc zero)) other h = refl
 level_is (suc (suc (suc zero))) other h = refl
-level_is (suc (suc (suc (suc l)))) other h = absurd (omega arith)
+level_is (suc (suc (suc (suc zero)))) other h = refl
+level_is (suc (suc (suc (suc (suc zero))))) other h = refl
+level_is (suc (suc (suc (suc (suc (suc zero)))))) other h = refl
+level_is (suc (suc (suc (suc (suc (suc (suc zero))))))) other h = refl
+level_is (suc (suc (suc (suc (suc (suc (suc (suc l)))))))) other h = absurd (omega arith)
 
 -- from a level on: this one, then the greater ones
 pub next_level : {B : Type 0} (f : ℕ → Option B) (l : ℕ) → IsLevel l → first_said f (drop l levels) ≡ option_or (f l) (first_said f (drop (suc l) levels))
