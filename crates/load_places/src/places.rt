@@ -1,6 +1,6 @@
 //! Places: where a content stands, and for whom.
 ghost use Rattle.std.specs.Prelude.{◌≡◌, IfOk};
-ghost use Rattle.load_places.specs.Places.{scope_cmp, place_cmp, scope_sort, scope_bytes};
+ghost use Rattle.load_places.specs.Places.{scope_cmp};
 
 use crate::hosts::HostName;
 use load_path::Path;
@@ -18,23 +18,13 @@ pub enum Scope {
 }
 
 impl Scope {
-    // The place of its sort in the order.
-    fn sort(&self) -> u8
-        ensures sort { result ≡ scope_sort self.now }
+    /// Where the scope stands: before the scope of a host, at it, or behind it. It takes no memory.
+    pub fn cmp_host(&self, host: &HostName) -> Ordering
+        ensures order { result ≡ scope_cmp self.now (Scope.Host host.now) }
     {
         match self {
-            Scope::Fleet => 0,
-            Scope::Host(_) => 1,
-        }
-    }
-
-    // The bytes of its host; the fleet has none.
-    fn bytes(&self) -> &[u8]
-        ensures bytes { result.now ≡ scope_bytes self.now }
-    {
-        match self {
-            Scope::Fleet => &[],
-            Scope::Host(host) => host.bytes(),
+            Scope::Fleet => Ordering::Less,
+            Scope::Host(own) => own.cmp(host),
         }
     }
 
@@ -100,9 +90,12 @@ impl Ord for Scope {
     ghost matches_eq = { λ x y. refl };
 
     fn cmp(&self, other: &Self) -> Ordering {
-        self.sort()
-            .cmp(&other.sort())
-            .then(self.bytes().cmp(&other.bytes()))
+        match (self, other) {
+            (Scope::Fleet, Scope::Fleet) => Ordering::Equal,
+            (Scope::Fleet, Scope::Host(_)) => Ordering::Less,
+            (Scope::Host(_), Scope::Fleet) => Ordering::Greater,
+            (Scope::Host(own), Scope::Host(host)) => own.cmp(host),
+        }
     }
 }
 

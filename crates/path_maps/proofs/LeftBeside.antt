@@ -24,7 +24,7 @@ use Rattle.path_maps.specs.PathMaps.{NameMap, FolderMap, RankMap, bytes_cmp, at_
 use Rattle.path_maps.specs.PathMapLaws.{IsInFolder, IsInRank, of_folder, of_rank}
 use Rattle.path_maps.specs.PlaceMaps.{ScopeMap, all_listed, in_scope, look_up_place, placed, ranks_of}
 use Rattle.path_maps.specs.PlaceMapLaws.{IsInScope, of_scope}
-use Rattle.path_maps.specs.Views.{within}
+use Rattle.path_maps.specs.Scopes.{within}
 use Rattle.path_maps.specs.Beside.{Compared, beside, by_scope_beside, placed_compared, scopes_beside, held_in_names, held_in_folders, names_beside, folders_beside, ranks_beside, by_folder_beside, by_rank_beside}
 use Rattle.path_maps.specs.Cursors.{AreNamesLeft}
 use Rattle.path_maps.proofs.LeftBehind.{back_keys}

@@ -24,7 +24,7 @@ use Rattle.path_maps.specs.PathMaps.{NameMap, FolderMap, RankMap, NamesBelow, Fo
 use Rattle.path_maps.specs.PathMapLaws.{entries-flat, get-flat, found_lawful}
 use Rattle.path_maps.specs.PlaceMaps.{ScopeMap, AreScopes, all_held, look_up_place, ranks_of}
 use Rattle.path_maps.specs.PlaceMapLaws.{get-held, scope_lawful}
-use Rattle.path_maps.specs.Views.{View}
+use Rattle.path_maps.specs.Scopes.{PathMap}
 use Rattle.path_maps.specs.Kept.{AreLawful}
 use Rattle.path_maps.specs.Cursors.{or_nothing}
 use Rattle.path_maps.specs.Folders.{is_in, names_in}
@@ -46,8 +46,8 @@ module _ (m : RankMap) (q : PathParts) where
     at_name_of v e = of_folder ∙ ap written_at e
 
 -- what the look-ups find is held
-pub seen_is : (m : RankMap) → AreRanks m → (v : View) → flat m ≡ v → (q : PathParts) (x : Option Entry) → look_up m q ≡ x → x ≡ finmap.get v q
-seen_is m is v e q x h = sym h ∙ sym (get-flat m is q) ∙ ap (λ (t : View). finmap.get t q) e
+pub seen_is : (m : RankMap) → AreRanks m → (v : PathMap) → flat m ≡ v → (q : PathParts) (x : Option Entry) → look_up m q ≡ x → x ≡ finmap.get v q
+seen_is m is v e q x h = sym h ∙ sym (get-flat m is q) ∙ ap (λ (t : PathMap). finmap.get t q) e
 
 -- a value that is held was written
 was_written : (v : Versioned Content) → ¬ IsLeast (IsUpTo content_cmp) v → IsSome (written v)
@@ -172,8 +172,8 @@ abbrev pub names_lent : ℕ → Option (Bor (List ℕ) × Bor NameMap) → List 
 names_lent rank x = or_nothing (option_map (λ f. in_folder rank f.0.now f.1.now) x)
 
 -- all entries in path order
-listed_seen : (m : RankMap) (v : View) → AreRanks m → flat m ≡ v → listed m ≡ finmap.entries v
-listed_seen m v is e = sym (entries-flat m is) ∙ ap (λ (t : View). finmap.entries t) e
+listed_seen : (m : RankMap) (v : PathMap) → AreRanks m → flat m ≡ v → listed m ≡ finmap.entries v
+listed_seen m v is e = sym (entries-flat m is) ∙ ap (λ (t : PathMap). finmap.entries t) e
 
 module _ (m : RankMap) (rank : ℕ) (folder : List ℕ) where
   found_names : (x : Option (Bor (List ℕ) × Bor NameMap)) → IsFound m rank folder x → names_lent rank x ≡ in_folder rank folder (names_in m rank folder)
@@ -185,7 +185,7 @@ module _ (m : RankMap) (rank : ℕ) (folder : List ℕ) where
   found_paths (Some f) h = h
 
   -- what a folder that was looked for has
-  pub found_entries : (v : View) → AreRanks m → flat m ≡ v → (x : Option (Bor (List ℕ) × Bor NameMap)) → IsFound m rank folder x → names_lent rank x ≡ filter (λ p. is_in rank folder p.0) (finmap.entries v)
+  pub found_entries : (v : PathMap) → AreRanks m → flat m ≡ v → (x : Option (Bor (List ℕ) × Bor NameMap)) → IsFound m rank folder x → names_lent rank x ≡ filter (λ p. is_in rank folder p.0) (finmap.entries v)
   found_entries v are e x h = found_names x h ∙ sym (folder-listed rank folder m are) ∙ ap (filter (λ p. is_in rank folder p.0)) (listed_seen m v are e)
 
   pub found_lawful_paths : AreLawful m → (x : Option (Bor (List ℕ) × Bor NameMap)) → IsFound m rank folder x → IfSome x (λ f. AllKeys IsPath (in_folder rank f.0.now f.1.now))

@@ -27,7 +27,7 @@ use Rattle.path_maps.specs.PathMaps.{NameMap, FolderMap, RankMap, bytes_cmp, Nam
 use Rattle.path_maps.specs.PathMapLaws.{folders_chain, folders_itself, names_chain}
 use Rattle.path_maps.specs.PlaceMaps.{ScopeMap, ScopesBelow, AreScopes, all_held, look_up_place}
 use Rattle.path_maps.specs.PlaceMapLaws.{get-held}
-use Rattle.path_maps.specs.Views.{within}
+use Rattle.path_maps.specs.Scopes.{within}
 
 bytes_same : (x y : List ℕ) → bytes_cmp x y ≡ Equal → x ≡ y
 bytes_same = slice_cmp-IsAntisymmetric nat_cmp-IsAntisymmetric

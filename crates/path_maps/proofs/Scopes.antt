@@ -11,8 +11,8 @@ use Rattle.path_maps.specs.PathMaps.{flat}
 use Rattle.path_maps.specs.PathMapLaws.{get-flat}
 use Rattle.path_maps.specs.PlaceMaps.{ScopeMap, AreScopes, all_held, ranks_of}
 use Rattle.path_maps.specs.PlaceMapLaws.{get-held, scope_lawful}
-use Rattle.path_maps.specs.Views.{View, scope_of, within}
-use Rattle.path_maps.specs.ViewLaws.{get-scope_of}
+use Rattle.path_maps.specs.Scopes.{PathMap, scope_of, within}
+use Rattle.path_maps.specs.ScopeLaws.{get-scope_of}
 
 pub scope_seen : (m : ScopeMap) → AreScopes m → (s : EntryMap) → all_held m ≡ s → (scope : Scope) → flat (ranks_of m scope) ≡ scope_of s scope
 scope_seen m is s e scope =
@@ -27,5 +27,5 @@ scope_kept m len high k scope = record {
 }
 
 -- what is held at a place is seen in its scope at its path
-pub there : (s : EntryMap) (v : View) (q : PlaceParts) → v ≡ scope_of s q.scope → finmap.get v q.path ≡ finmap.get s q
-there s v q is = ap (λ (u : View). finmap.get u q.path) is ∙ get-scope_of q.scope s q.path
+pub there : (s : EntryMap) (v : PathMap) (q : PlaceParts) → v ≡ scope_of s q.scope → finmap.get v q.path ≡ finmap.get s q
+there s v q is = ap (λ (u : PathMap). finmap.get u q.path) is ∙ get-scope_of q.scope s q.path

@@ -11,7 +11,11 @@ use Rattle.std.specs.declared.cmp.Ordering.TheVariants.{Equal}
 use Rattle.sorted_pairs.specs.Places.{IsAt}
 use Rattle.sorted_pairs.specs.PlaceLaws.{find_at, find_gap}
 use Rattle.sorted_pairs.specs.SearchLaws.{search_finds}
-use Rattle.path_maps.specs.PathMaps.{bytes_cmp}
+use Rattle.load_places.specs.Places.{scope_cmp}
+use Rattle.load_places.specs.PlaceLaws.{scope_cmp_total}
+use Rattle.load_places.specs.declared.places.Scope.{Scope}
+use Rattle.path_maps.specs.PathMaps.{RankMap, bytes_cmp}
+use Rattle.path_maps.specs.PlaceMaps.{IsFoundAt, ScopeMap}
 use Rattle.path_maps.specs.Folders.{IsPlaceOf}
 
 module _ {V : Type 0} (k : List ℕ) where
@@ -45,3 +49,9 @@ pub unnamed_nowhere : {V : Type 0} (pairs : List (List ℕ × V)) → IsTrue (is
 unnamed_nowhere [] s named = refl
 unnamed_nowhere (([], v) ∷ es) s named = absurd (named ([], v) refl refl)
 unnamed_nowhere ((b ∷ bytes, v) ∷ es) s named = find_gap bytes_cmp [] nat_list_cmp_total ((b ∷ bytes, v) ∷ es) 0 s refl
+
+-- what an answer of a search among scopes says
+pub scope_places : (scope : Scope) (es : ScopeMap) (r : Result ℕ ℕ) → IsTrue (is_sorted scope_cmp es) → IsSearchInRange r (length es) → IsBinarySearchResult (λ (e : Scope × RankMap). scope_cmp e.0 scope) es r
+    → IfOk r (λ i. i < length es) × IfOk r (IsFoundAt es scope) × IfErr r (λ _. find scope_cmp scope es ≡ None)
+scope_places scope es (Ok i) s range found = (range, λ d. find_at scope_cmp scope es i d (search_finds scope_cmp scope_cmp_total scope es (Ok i) s range found).0, tt)
+scope_places scope es (Err i) s range found = (tt, tt, find_gap scope_cmp scope scope_cmp_total es i s (search_finds scope_cmp scope_cmp_total scope es (Err i) s range found).1)

@@ -11,7 +11,7 @@ use Rattle.load_places.specs.Places.{PlaceParts}
 use Rattle.load_places.specs.declared.places.Scope.{Scope}
 use Rattle.path_maps.specs.PathMaps.{NameMap, FolderMap, RankMap, bytes_cmp, in_folder, in_rank, listed, look_up}
 use Rattle.path_maps.specs.PlaceMaps.{ScopeMap, all_listed, look_up_place, ranks_of}
-use Rattle.path_maps.specs.Views.{within}
+use Rattle.path_maps.specs.Scopes.{within}
 use Rattle.path_maps.specs.Cursors.{AreNamesLeft, AreFoldersLeft}
 
 -- an entry with its key, and what the other holds there

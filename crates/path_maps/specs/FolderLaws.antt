@@ -63,7 +63,7 @@ module _ {A E : Type 0} (test : A → Bool) where
           | false ↦ λ t. ap (λ (l : List (A × E)). l ++ filter (λ p. test p.0) (spread part es)) (apart e.0 e.1 t) ∙ filter-spread es p.1
         ] refl
 
-number_test : (a b : ℕ) → eq_by_cmp nat_cmp a b ≡ (a == b)
+pub number_test : (a b : ℕ) → eq_by_cmp nat_cmp a b ≡ (a == b)
 number_test a b = by (nat_cmp a b) refl
   where
     by : (o : Ordering) → nat_cmp a b ≡ o → is_eq o ≡ (a == b)

@@ -1,6 +1,6 @@
 pub mod Spread
 pub mod SpreadLaws
-pub mod Views
+pub mod Scopes
 pub mod PathMaps
 pub mod PathMapLaws
 pub mod PlaceMaps
@@ -11,4 +11,8 @@ pub mod Kept
 pub mod Cursors
 pub mod Beside
 pub mod Changes
+pub mod ScopeLaws
+pub mod Views
+pub mod Sights
 pub mod ViewLaws
+pub mod SeenLaws

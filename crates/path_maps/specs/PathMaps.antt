@@ -15,7 +15,7 @@ use Rattle.edit_sums.specs.declared.contents.Content.{Content}
 use Rattle.edit_sums.specs.Contents.{content_cmp}
 use Rattle.edit_sums.specs.Entries.{Entry}
 use Rattle.path_maps.specs.Spread.{spread}
-use Rattle.path_maps.specs.Views.{View}
+use Rattle.path_maps.specs.Scopes.{PathMap}
 
 -- by name, of one folder; by folder, of one rank; by rank
 abbrev pub NameMap : Type 0
@@ -69,5 +69,5 @@ abbrev pub listed : RankMap → List (PathParts × Entry)
 listed = spread in_rank
 
 -- the map from paths to entries
-abbrev pub flat : RankMap → View
+abbrev pub flat : RankMap → PathMap
 flat m = finmap.from_sorted (listed m)

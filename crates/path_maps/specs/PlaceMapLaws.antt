@@ -15,7 +15,7 @@ use Rattle.load_path.specs.Paths.{PathParts, path_cmp}
 use Rattle.load_places.specs.Places.{PlaceParts, scope_cmp, place_cmp}
 use Rattle.load_places.specs.PlaceLaws.{scope_cmp_total, scope_cmp-IsAntisymmetric, place_cmp-IsAntisymmetric}
 use Rattle.load_places.specs.declared.places.Scope.{Scope}
-use Rattle.edit_sums.specs.Entries.{Entry, IsBelow, larger}
+use Rattle.edit_sums.specs.Entries.{IsBelow, larger}
 use Rattle.edit_sums.specs.Sums.{IsStoreBelow, join}
 use Rattle.edit_sums.specs.SumLaws.{same_store}
 use Rattle.edit_sums.specs.GreatestLaws.{get-join}
@@ -24,7 +24,7 @@ use Rattle.path_maps.specs.PathMapLaws.{all_lawful, find-listed, folders_chain, 
 use Rattle.path_maps.specs.PlaceMaps.{ScopeMap, ScopesBelow, AreScopes, all_held, all_listed, in_scope, look_up_place, placed, ranks_of}
 use Rattle.path_maps.specs.Spread.{AllKeys, AllValues}
 use Rattle.path_maps.specs.SpreadLaws.{find-spread, sorted-spread}
-use Rattle.path_maps.specs.Views.{within}
+use Rattle.path_maps.specs.Scopes.{within}
 
 -- ---- in one scope places are as their paths
 

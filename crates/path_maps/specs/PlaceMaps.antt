@@ -1,6 +1,6 @@
 -- Maps of paths by scope, and the one map from places to entries that they are.
 -- Source (maps of joins are joins): Shapiro, Preguica, Baquero, Zawirski 2011; the rest is this project's own.
-use Rattle.std.specs.Prelude.{List, Option, map}
+use Rattle.std.specs.Prelude.{◌≡◌, ℕ, List, Option, Some, map, slice_index_or}
 use Rattle.std.specs.FinMap as finmap
 use Rattle.std.specs.FinMap.{find}
 use Rattle.join_law.specs.Maps.{IsMap, MapBelow, or_empty}
@@ -11,7 +11,7 @@ use Rattle.edit_sums.specs.Entries.{Entry}
 use Rattle.edit_sums.specs.Sums.{EntryMap}
 use Rattle.path_maps.specs.PathMaps.{RankMap, RanksBelow, AreRanks, listed, look_up}
 use Rattle.path_maps.specs.Spread.{spread}
-use Rattle.path_maps.specs.Views.{within}
+use Rattle.path_maps.specs.Scopes.{within}
 
 -- what each scope has, by rank, folder and name
 abbrev pub ScopeMap : Type 0
@@ -28,6 +28,10 @@ AreScopes = IsMap scope_cmp RanksBelow AreRanks
 -- what a scope has
 abbrev pub ranks_of : ScopeMap → Scope → RankMap
 ranks_of m scope = or_empty (find scope_cmp scope m)
+
+-- what a scope has stands at this place of the list
+abbrev pub IsFoundAt : ScopeMap → Scope → ℕ → Type 0
+IsFoundAt m scope at = (d : Scope × RankMap) → find scope_cmp scope m ≡ Some (slice_index_or m at d).1
 
 -- what is written at a place: a look-up of its scope, and then three
 abbrev pub look_up_place : ScopeMap → PlaceParts → Option Entry

@@ -1,39 +1,96 @@
--- What is seen of a store: entries by path. Units are read from what is seen, and from nothing else of a store.
+-- What is seen of a store: entries by level, folder and name. Units are read from what is seen, and from nothing else of a store.
 -- Source: this project's own.
-use Rattle.std.specs.Prelude.{Option, List, [], ◌∷◌, if◌then◌else◌}
-use Rattle.std.specs.Option.{option_and_then}
-use Rattle.std.specs.Ordering.{eq_by_cmp}
+use Rattle.std.specs.Prelude.{ℕ, ◌+◌, ◌/◌, ◌%◌, ◌==◌, Option, Some, None, List, [], ◌++◌, map, if◌then◌else◌, refl}
+use Rattle.std.specs.Option.{option_and_then, option_map}
+use Rattle.std.specs.Str.{bytes_eq}
+use Rattle.std.specs.Coded.{Coded, code_by, coded×, coded_ℕ, coded_list, coded_option}
 use Rattle.std.specs.FinMap as finmap
-use Rattle.std.specs.FinMap.{FinMap}
-use Rattle.load_path.specs.Paths.{PathParts, path_cmp}
-use Rattle.load_places.specs.Places.{PlaceParts, scope_cmp}
+use Rattle.load_path.specs.Paths.{PathParts}
+use Rattle.load_path.specs.PathLaws.{coded_path}
+use Rattle.load_places.specs.Levels.{Looker}
+use Rattle.load_places.specs.Places.{PlaceParts}
 use Rattle.load_places.specs.declared.places.Scope.{Scope}
-use Rattle.load_places.specs.declared.places.Scope.TheVariants.{Fleet}
+use Rattle.load_places.specs.declared.places.Scope.TheVariants.{Fleet, Host}
 use Rattle.edit_sums.specs.declared.contents.Content.{Content}
 use Rattle.edit_sums.specs.Entries.{Entry}
-use Rattle.edit_sums.specs.Sums.{EntryMap, shown}
+use Rattle.edit_sums.specs.EntryCodes.{coded_entry}
+use Rattle.edit_sums.specs.Sums.{EntryMap}
+use Rattle.path_maps.specs.Folders.{path_at}
+use Rattle.path_maps.specs.Scopes.{PathMap, scope_of, shown_at}
 
--- at each path at most one entry
-abbrev pub View : Type 0
-View = FinMap path_cmp Entry
+-- a host that looks, and what it has for itself
+pub record Own : Type 0 where
+  pub host : List ℕ
+  pub held : PathMap
 
--- the visible content at a path
+-- what is looked at: what a host has for itself, if one looks, and what the fleet has
+pub record View : Type 0 where
+  pub own : Option Own
+  pub fleet : PathMap
+
+-- what a host looks at, or what is looked at without one; it sees nothing of other hosts
+abbrev pub own_of : EntryMap → List ℕ → Own
+own_of s host = record { host = host; held = scope_of s (Host host) }
+
+abbrev pub view_of : EntryMap → Looker → View
+view_of s host = record { own = option_map (own_of s) host; fleet = scope_of s Fleet }
+
+-- ---- by level
+
+-- an entry at a level: its path has the level in the place of its rank
+abbrev pub at_level : ℕ → PathParts × Entry → PathParts × Entry
+at_level level e = (path_at level e.0.folder e.0.name, e.1)
+
+-- an own entry of a rank is seen at the level of twice the rank, and one of the fleet's at twice the rank and one
+abbrev pub seen_own : PathParts × Entry → PathParts × Entry
+seen_own e = at_level (e.0.rank + e.0.rank) e
+
+abbrev pub seen_fleets : PathParts × Entry → PathParts × Entry
+seen_fleets e = at_level (e.0.rank + e.0.rank + 1) e
+
+abbrev pub entries_own : Option Own → List (PathParts × Entry)
+entries_own None = []
+entries_own (Some own) = map seen_own (finmap.entries own.held)
+
+-- what is seen by level, folder and name
+unfoldable pub seen : View → PathMap
+seen v = finmap.from_entries (entries_own v.own ++ map seen_fleets (finmap.entries v.fleet))
+
+-- the visible content that is seen at a path, which has a level in the place of its rank
 abbrev pub seen_at : View → PathParts → Option Content
-seen_at v p = option_and_then shown (finmap.get v p)
+seen_at v p = shown_at (seen v) p
 
--- the place of a path in a scope
-abbrev pub within : Scope → PathParts → PlaceParts
-within scope path = record { scope = scope; path = path }
+-- whose directories have a level; nothing is seen at a host's levels where none looks
+abbrev pub own_scope : Option Own → Scope
+own_scope None = Fleet
+own_scope (Some own) = Host own.host
 
--- the entries of places in a scope, by path
-abbrev pub entries_of : Scope → List (PlaceParts × Entry) → List (PathParts × Entry)
-entries_of scope [] = []
-entries_of scope (e ∷ es) = if eq_by_cmp scope_cmp scope e.0.scope then (e.0.path, e.1) ∷ entries_of scope es else entries_of scope es
+abbrev pub scope_at : View → ℕ → Scope
+scope_at v level = if level % 2 == 0 then own_scope v.own else Fleet
 
--- what a store holds in a scope
-unfoldable pub scope_of : EntryMap → Scope → View
-scope_of s scope = finmap.from_sorted (entries_of scope (finmap.entries s))
+-- the place of what is seen at a path
+abbrev pub seen_place : View → PathParts → PlaceParts
+seen_place v p = record { scope = scope_at v p.rank; path = path_at (p.rank / 2) p.folder p.name }
 
--- what each host of the fleet sees of a store
-abbrev pub fleet_of : EntryMap → View
-fleet_of s = scope_of s Fleet
+-- ---- by place
+
+-- what a host that looks has for itself, if this is its name
+abbrev pub held_by_own : Own → List ℕ → Option PathMap
+held_by_own own host = if bytes_eq host own.host then Some own.held else None
+
+-- what is looked at of a scope
+abbrev pub held_by : View → Scope → Option PathMap
+held_by v Fleet = Some v.fleet
+held_by v (Host host) = option_and_then (λ own. held_by_own own host) v.own
+
+-- the visible content at a place that is looked at
+abbrev pub content_at : View → PlaceParts → Option Content
+content_at v place = option_and_then (λ held. shown_at held place.path) (held_by v place.scope)
+
+-- ---- how a view is stored
+
+abbrev pub coded_own : Coded Own
+coded_own = code_by (List ℕ × PathMap) (coded× (coded_list coded_ℕ) (finmap.code coded_path coded_entry)) (λ o. (o.host, o.held)) (λ t. record { host = t.0; held = t.1 }) (λ _. refl)
+
+abbrev pub coded_view : Coded View
+coded_view = code_by (Option Own × PathMap) (coded× (coded_option coded_own) (finmap.code coded_path coded_entry)) (λ v. (v.own, v.fleet)) (λ t. record { own = t.0; fleet = t.1 }) (λ _. refl)

@@ -11,7 +11,7 @@ ghost use Rattle.path_maps.specs.PathMaps.{AreNames, AreFolders, listed};
 ghost use Rattle.path_maps.specs.Spread.{AllKeys};
 
 use crate::cursors::{Cursor, Nested};
-use crate::entries::SeenEntry;
+use crate::entries::PathEntry;
 use crate::meets::meet;
 use crate::stores::{FolderMap, NameMap, RankMap};
 use edit_sums::{Content, Entry};
@@ -57,11 +57,11 @@ impl<'a> Model for NamesBeside<'a> {
     ghost invariant = { λ n. AreNamesBeside n.rank n.folder.now n.names.now n.others.now };
 }
 
-impl<'a> Cursor<Both<'a, SeenEntry<'a>>> for NamesBeside<'a> {
+impl<'a> Cursor<Both<'a, PathEntry<'a>>> for NamesBeside<'a> {
     ghost left = { λ n. n };
 
     #[inline(always)]
-    fn next(&mut self) -> Option<Both<'a, SeenEntry<'a>>> {
+    fn next(&mut self) -> Option<Both<'a, PathEntry<'a>>> {
         let ((name, value), rest) = self.names.split_first()?;
         let entry = value.entry()?;
         let (held, others) = meet(self.others, name);
@@ -69,7 +69,7 @@ impl<'a> Cursor<Both<'a, SeenEntry<'a>>> for NamesBeside<'a> {
         self.names = rest;
         self.others = others;
         Some(Both {
-            placed: SeenEntry::new(rank, folder, name, entry),
+            placed: PathEntry::new(rank, folder, name, entry),
             held: entry_of(held),
         })
     }
@@ -232,7 +232,7 @@ impl<'a> PathsBeside<'a> {
 
     // Takes the first of them, if there is one, and what the other store holds there.
     #[inline(always)]
-    pub(crate) fn next_both(&mut self) -> Option<Both<'a, SeenEntry<'a>>>
+    pub(crate) fn next_both(&mut self) -> Option<Both<'a, PathEntry<'a>>>
         ensures first { MatchOption result ((self.old ≡ []) × (self.new ≡ [])) (λ both. self.old ≡ both ∷ self.new) }
     {
         self.entries.next()

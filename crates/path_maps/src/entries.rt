@@ -21,14 +21,14 @@ use std::marker::Model;
 
 /// An entry with its path, lent.
 #[derive(Drop)]
-pub struct SeenEntry<'a> {
+pub struct PathEntry<'a> {
     rank: u8,
     folder: &'a Bytes,
     name: &'a Bytes,
     entry: &'a Entry,
 }
 
-impl<'a> Model for SeenEntry<'a> {
+impl<'a> Model for PathEntry<'a> {
     ghost use Rattle.load_path.specs.Paths.{PathParts, IsPath};
     ghost use Rattle.edit_sums.specs.Entries.{Entry};
 
@@ -39,13 +39,13 @@ impl<'a> Model for SeenEntry<'a> {
     ghost invariant = { λ p. IsPath (record { rank = p.rank; folder = p.folder.now; name = p.name.now }) };
 }
 
-impl<'a> SeenEntry<'a> {
+impl<'a> PathEntry<'a> {
     // An entry at a lawful path.
     pub(crate) fn new(rank: u8, folder: &'a Bytes, name: &'a Bytes, entry: &'a Entry) -> Self
         requires path { IsPath (path_at rank folder.now name.now) }
         ensures placed { result ≡ (path_at rank folder.now name.now, entry.now) }
     {
-        SeenEntry {
+        PathEntry {
             rank,
             folder,
             name,
@@ -117,15 +117,15 @@ impl<'a> Model for NamesLeft<'a> {
     ghost invariant = { λ n. AreNamesLeft n.rank n.folder.now n.names.now };
 }
 
-impl<'a> Cursor<SeenEntry<'a>> for NamesLeft<'a> {
+impl<'a> Cursor<PathEntry<'a>> for NamesLeft<'a> {
     ghost left = { λ n. n };
 
-    fn next(&mut self) -> Option<SeenEntry<'a>> {
+    fn next(&mut self) -> Option<PathEntry<'a>> {
         let ((name, value), rest) = self.names.split_first()?;
         let entry = value.entry()?;
         let (rank, folder) = (self.rank, self.folder);
         self.names = rest;
-        Some(SeenEntry::new(rank, folder, name, entry))
+        Some(PathEntry::new(rank, folder, name, entry))
     }
 }
 
@@ -201,12 +201,12 @@ type AllFolders<'a> = Nested<FoldersLeft<'a>, RanksLeft<'a>>;
 
 /// The entries of a scope that are left, in path order.
 #[derive(Drop)]
-pub struct SeenEntries<'a> {
+pub struct PathEntries<'a> {
     // By folder and by rank.
     entries: Nested<NamesLeft<'a>, AllFolders<'a>>,
 }
 
-impl<'a> Model for SeenEntries<'a> {
+impl<'a> Model for PathEntries<'a> {
     ghost use Rattle.std.specs.Prelude.{List};
     ghost use Rattle.load_path.specs.Paths.{PathParts};
     ghost use Rattle.edit_sums.specs.Entries.{Entry};
@@ -217,14 +217,21 @@ impl<'a> Model for SeenEntries<'a> {
     ghost view = { λ e. left_of e.entries.inner (left_of e.entries.outer.inner e.entries.outer.outer) };
 }
 
-impl<'a> SeenEntries<'a> {
+impl<'a> PathEntries<'a> {
     // Those of maps of maps whose paths are lawful.
     pub(crate) fn of_ranks(ranks: &'a RankMap) -> Self
         requires paths { AllKeys IsPath (listed ranks.now) }
         ensures entries { result ≡ listed ranks.now }
     {
         let ranks = ranks.pairs();
-        SeenEntries::from_folder(None, RanksLeft { ranks })
+        PathEntries::from_folder(None, RanksLeft { ranks })
+    }
+
+    // None.
+    pub(crate) fn none() -> Self
+        ensures entries { result ≡ [] }
+    {
+        PathEntries::from_folder(None, RanksLeft { ranks: &[] })
     }
 
     // Those of the names in a folder, whose paths are lawful; none, where there is no folder.
@@ -240,14 +247,14 @@ impl<'a> SeenEntries<'a> {
                 names: names.pairs(),
             }),
         };
-        SeenEntries::from_folder(names, RanksLeft { ranks: &[] })
+        PathEntries::from_folder(names, RanksLeft { ranks: &[] })
     }
 
     // Those of a folder, if there is one, and those of ranks behind it.
     fn from_folder(names: Option<NamesLeft<'a>>, ranks: RanksLeft<'a>) -> Self
         ensures entries { result ≡ left_of names.entry (flat_map (λ xs. xs) ranks.entry) }
     {
-        SeenEntries {
+        PathEntries {
             entries: Nested {
                 inner: names,
                 outer: Nested {
@@ -259,7 +266,7 @@ impl<'a> SeenEntries<'a> {
     }
 
     /// Takes the first of them, if there is one. O(1), without memory.
-    pub fn next_entry(&mut self) -> Option<SeenEntry<'a>>
+    pub fn next_entry(&mut self) -> Option<PathEntry<'a>>
         ensures first { MatchOption result ((self.old ≡ []) × (self.new ≡ [])) (λ placed. self.old ≡ placed ∷ self.new) }
     {
         self.entries.next()

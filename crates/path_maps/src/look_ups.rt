@@ -4,10 +4,14 @@ ghost use Rattle.std.specs.Option.{option_copied};
 ghost use Rattle.std.specs.Ordering.{nat_cmp};
 ghost use Rattle.std.specs.FinMap.{find, is_sorted};
 ghost use Rattle.join_law.specs.Maps.{or_empty};
+ghost use Rattle.load_places.specs.Places.{scope_cmp};
+ghost use Rattle.load_places.specs.declared.places.Scope.TheVariants.{Host};
 ghost use Rattle.path_maps.specs.Folders.{IsPlaceOf};
 ghost use Rattle.path_maps.specs.PathMaps.{bytes_cmp};
+ghost use Rattle.path_maps.specs.PlaceMaps.{IsFoundAt};
 
-use crate::stores::{NameMap, RankMap};
+use crate::stores::{NameMap, RankMap, ScopeMap};
+use load_places::{HostName, Scope};
 use plain_values::{Bytes, order};
 use std::cmp::Ordering;
 
@@ -82,4 +86,25 @@ pub fn folder_at<'a>(
     let folders = ranks?.get(&rank)?;
     let (folder, names) = pair_at(folders.pairs(), folder)?;
     Some((folder, names))
+}
+
+// What a host has for itself, if anything. O(log n), without memory.
+pub fn host_at<'a>(scopes: &'a ScopeMap, host: &HostName) -> Option<&'a RankMap>
+    ensures ranks { option_copied result ≡ find scope_cmp (Host host.now) scopes.now }
+{
+    let pairs = scopes.pairs();
+    match host_place(pairs, host) {
+        Ok(at) => Some(&pairs[at].1),
+        Err(_) => None,
+    }
+}
+
+// Where a host stands among scopes, or as an error where it would stand.
+fn host_place(pairs: &[(Scope, RankMap)], host: &HostName) -> Result<usize, usize>
+    requires sorted { IsTrue (is_sorted scope_cmp pairs.now) }
+    ensures within { IfOk result (λ at. at < length pairs.now) }
+    ensures found { IfOk result (λ at. IsFoundAt pairs.now (Host host.now) at) }
+    ensures absent { IfErr result (λ _. find scope_cmp (Host host.now) pairs.now ≡ None) }
+{
+    pairs.binary_search_by(|pair| pair.0.cmp_host(host))
 }

@@ -7,10 +7,10 @@ ghost use Rattle.edit_sums.specs.Sums.{shown};
 ghost use Rattle.path_maps.specs.Cursors.{left_of};
 ghost use Rattle.path_maps.specs.Kept.{HasLawfulPaths};
 ghost use Rattle.path_maps.specs.PlaceMaps.{all_listed, placed};
-ghost use Rattle.path_maps.specs.Views.{within};
+ghost use Rattle.path_maps.specs.Scopes.{within};
 
 use crate::cursors::{Cursor, Nested};
-use crate::entries::{SeenEntries, SeenEntry};
+use crate::entries::{PathEntries, PathEntry};
 use crate::stores::{RankMap, ScopeMap};
 use edit_sums::{Content, Entry};
 use load_places::{Place, Scope};
@@ -23,13 +23,13 @@ use std::marker::Model;
 #[derive(Drop)]
 pub struct Placed<'a> {
     scope: &'a Scope,
-    entry: SeenEntry<'a>,
+    entry: PathEntry<'a>,
 }
 
 impl<'a> Model for Placed<'a> {
     ghost use Rattle.load_places.specs.Places.{PlaceParts};
     ghost use Rattle.edit_sums.specs.Entries.{Entry};
-    ghost use Rattle.path_maps.specs.Views.{within};
+    ghost use Rattle.path_maps.specs.Scopes.{within};
 
     ghost Value = { PlaceParts × Entry };
 
@@ -38,7 +38,7 @@ impl<'a> Model for Placed<'a> {
 
 impl<'a> Placed<'a> {
     // An entry of a scope.
-    pub(crate) fn new(scope: &'a Scope, entry: SeenEntry<'a>) -> Self
+    pub(crate) fn new(scope: &'a Scope, entry: PathEntry<'a>) -> Self
         ensures placed { result ≡ (within scope.now entry.entry.0, entry.entry.1) }
     {
         Placed { scope, entry }
@@ -97,7 +97,7 @@ impl<'a> Placed<'a> {
 #[derive(Drop)]
 struct ScopeLeft<'a> {
     scope: &'a Scope,
-    entries: SeenEntries<'a>,
+    entries: PathEntries<'a>,
 }
 
 impl<'a> Model for ScopeLeft<'a> {
@@ -150,7 +150,7 @@ impl<'a> Cursor<ScopeLeft<'a>> for ScopesLeft<'a> {
         self.scopes = rest;
         Some(ScopeLeft {
             scope,
-            entries: SeenEntries::of_ranks(ranks),
+            entries: PathEntries::of_ranks(ranks),
         })
     }
 }
@@ -189,7 +189,7 @@ impl<'a> Entries<'a> {
     }
 
     // Entries of one scope.
-    pub(crate) fn of_scope(scope: &'a Scope, entries: SeenEntries<'a>) -> Self
+    pub(crate) fn of_scope(scope: &'a Scope, entries: PathEntries<'a>) -> Self
         ensures entries { result ≡ placed scope.now entries.entry }
     {
         Entries {

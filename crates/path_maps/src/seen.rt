@@ -1,95 +1,238 @@
-//! What is seen of a store: look-ups by the parts of paths, and folders.
-ghost use Rattle.std.specs.Prelude.{◌≡◌, filter};
-ghost use Rattle.std.specs.Option.{option_copied, option_map, IfSome};
+//! What a host looks at in a store, or what is looked at without one: look-ups by level, folder and name, and by place.
+ghost use Rattle.std.specs.Prelude.{◌≡◌, ◌∷◌, [], filter, IfOk, MatchOption};
+ghost use Rattle.std.specs.Option.{option_and_then, option_copied, option_map, IfSome};
 ghost use Rattle.std.specs.FinMap as finmap;
-ghost use Rattle.join_law.specs.Maps.{or_empty};
+ghost use Rattle.edit_sums.specs.Sums.{shown};
 ghost use Rattle.path_maps.specs.Folders.{is_in, path_at};
-ghost use Rattle.path_maps.specs.Kept.{AreLawful};
-ghost use Rattle.path_maps.specs.PathMaps.{flat};
-ghost use Rattle.path_maps.specs.Views.{seen_at};
+ghost use Rattle.path_maps.specs.Sights.{behind_entries, holding};
+ghost use Rattle.path_maps.specs.Views.{content_at, held_by, held_by_own, scope_at, seen, seen_place};
 
-use crate::entries::{SeenEntries, SeenEntry};
-use crate::look_ups::{folder_at, pair_at};
-use crate::stores::RankMap;
+use crate::entries::{PathEntries, PathEntry};
+use crate::held::Held;
 use edit_sums::{Content, Entry};
-use load_path::Path;
-use std::alloc::Global;
+use load_places::{HostName, Place, Scope};
+use plain_values::Bytes;
+use std::alloc::{AllocError, Global};
 use std::marker::Model;
 
-/// What is seen of a store, lent: entries by path. Units are read from this alone.
+/// An entry with the path at which it is seen, lent: in contracts the path has a level in the place of its rank.
+#[derive(Drop)]
+pub struct SeenEntry<'a> {
+    level: u8,
+    entry: PathEntry<'a>,
+}
+
+impl<'a> Model for SeenEntry<'a> {
+    ghost use Rattle.std.specs.Prelude.{◌≡◌, ◌/◌};
+    ghost use Rattle.load_path.specs.Paths.{PathParts};
+    ghost use Rattle.edit_sums.specs.Entries.{Entry};
+    ghost use Rattle.path_maps.specs.Views.{at_level};
+
+    ghost Value = { PathParts × Entry };
+
+    ghost view = { λ e. at_level e.level e.entry };
+
+    ghost invariant = { λ e. e.entry.0.rank ≡ e.level / 2 };
+}
+
+impl<'a> SeenEntry<'a> {
+    /// The name in its folder, which is the last component of its path. It takes no memory.
+    pub fn name(&self) -> &'a Bytes
+        ensures name { result.now ≡ self.now.0.name }
+    {
+        self.entry.name()
+    }
+
+    /// What is visible there: the entry's content, if it is no removal. It takes no memory.
+    pub fn visible(&self) -> Option<&'a Content>
+        ensures visible { option_copied result ≡ shown self.now.1 }
+    {
+        self.entry.visible()
+    }
+
+    /// The entry. It takes no memory.
+    pub fn entry(&self) -> &'a Entry
+        ensures entry { result.now ≡ self.now.1 }
+    {
+        self.entry.entry()
+    }
+}
+
+/// The entries of a folder that are left, in path order.
+#[derive(Drop)]
+pub struct SeenEntries<'a> {
+    level: u8,
+    entries: PathEntries<'a>,
+}
+
+impl<'a> Model for SeenEntries<'a> {
+    ghost use Rattle.std.specs.Prelude.{List, map, ◌≡◌, ◌/◌};
+    ghost use Rattle.load_path.specs.Paths.{PathParts};
+    ghost use Rattle.edit_sums.specs.Entries.{Entry};
+    ghost use Rattle.path_maps.specs.Spread.{AllKeys};
+    ghost use Rattle.path_maps.specs.Views.{at_level};
+
+    ghost Value = { List (PathParts × Entry) };
+
+    ghost view = { λ e. map (at_level e.level) e.entries };
+
+    ghost invariant = { λ e. AllKeys (λ p. p.rank ≡ e.level / 2) e.entries };
+}
+
+impl<'a> SeenEntries<'a> {
+    /// Takes the first of them, if there is one. O(1), without memory.
+    pub fn next_entry(&mut self) -> Option<SeenEntry<'a>>
+        ensures first { MatchOption result ((self.old ≡ []) × (self.new ≡ [])) (λ placed. self.old ≡ placed ∷ self.new) }
+    {
+        let entry = self.entries.next_entry()?;
+        let level = self.level;
+        Some(SeenEntry { level, entry })
+    }
+}
+
+/// What a host has for itself, lent, with its name.
+#[derive(Drop)]
+pub(crate) struct Own<'a> {
+    pub host: &'a HostName,
+    pub held: Held<'a>,
+}
+
+impl<'a> Model for Own<'a> {
+    ghost use Rattle.path_maps.specs.Views.{Own as OwnParts, coded_own};
+
+    ghost Value = { OwnParts };
+
+    ghost coded = { coded_own };
+
+    ghost view = { λ o. record { host = o.host.now; held = o.held } };
+}
+
+impl<'a> Own<'a> {
+    // What it has, if this is its name.
+    fn held_by(&self, host: &HostName) -> Option<&Held<'a>>
+        ensures held { option_copied result ≡ held_by_own self.now host.now }
+    {
+        if host.bytes() == self.host.bytes() {
+            Some(&self.held)
+        } else {
+            None
+        }
+    }
+}
+
+/// What a host looks at in a store, or what is looked at without one, lent. Units are read from this alone.
+///
+/// A level below `LEVELS` is that of the host's own directory of a rank where it is twice the rank, and of the fleet's
+/// where it is one more.
 #[derive(Drop)]
 pub struct Seen<'a> {
-    alloc: Global,
-    // What a scope has, if anything.
-    ranks: Option<&'a RankMap>,
+    own: Option<Own<'a>>,
+    fleet: Held<'a>,
 }
 
 impl<'a> Model for Seen<'a> {
-    ghost use Rattle.std.specs.FinMap as finmap;
-    ghost use Rattle.std.specs.Option.{option_copied};
-    ghost use Rattle.join_law.specs.Maps.{or_empty};
-    ghost use Rattle.load_path.specs.PathLaws.{coded_path};
-    ghost use Rattle.edit_sums.specs.EntryCodes.{coded_entry};
-    ghost use Rattle.path_maps.specs.Kept.{AreLawful};
-    ghost use Rattle.path_maps.specs.PathMaps.{flat};
-    ghost use Rattle.path_maps.specs.Views.{View};
+    ghost use Rattle.path_maps.specs.Views.{View, coded_view};
 
     ghost Value = { View };
 
-    ghost coded = { finmap.code coded_path coded_entry };
+    ghost coded = { coded_view };
 
-    ghost view = { λ s. flat (or_empty (option_copied s.ranks)) };
-
-    ghost invariant = { λ s. AreLawful (or_empty (option_copied s.ranks)) };
+    ghost view = { λ s. record { own = s.own; fleet = s.fleet } };
 }
 
 impl<'a> Seen<'a> {
-    // What a scope has, if anything.
-    pub(crate) fn of(alloc: Global, ranks: Option<&'a RankMap>) -> Self
-        requires lawful { AreLawful (or_empty (option_copied ranks)) }
-        ensures seen { result ≡ flat (or_empty (option_copied ranks.entry)) }
+    // What a host has for itself, if one looks, and what the fleet has.
+    pub(crate) fn new(own: Option<Own<'a>>, fleet: Held<'a>) -> Self
+        ensures view { result ≡ record { own = own.entry; fleet = fleet.entry } }
     {
-        Seen { alloc, ranks }
+        Seen { own, fleet }
     }
 
     /// The allocator that the store takes its memory from.
     pub fn allocator(&self) -> Global {
-        self.alloc
+        self.fleet.allocator()
     }
 
     /// What is held at the path of these parts, with the path, a removal too; the empty folder stands for none. O(log n),
     /// without memory and without a path being built.
-    pub fn entry_at(&self, rank: u8, folder: &[u8], name: &[u8]) -> Option<SeenEntry<'a>>
-        ensures path { IfSome result (λ entry. entry.0 ≡ path_at rank folder.now name.now) }
-        ensures held { option_map (λ entry. entry.1) result ≡ finmap.get self.now (path_at rank folder.now name.now) }
+    pub fn entry_at(&self, level: u8, folder: &[u8], name: &[u8]) -> Option<SeenEntry<'a>>
+        ensures path { IfSome result (λ entry. entry.0 ≡ path_at level folder.now name.now) }
+        ensures held { option_map (λ entry. entry.1) result ≡ finmap.get (seen self.now) (path_at level folder.now name.now) }
     {
-        let (folder, names) = folder_at(self.ranks, rank, folder)?;
-        let (name, value) = pair_at(names.pairs(), name)?;
-        let entry = value.entry()?;
-        Some(SeenEntry::new(rank, folder, name, entry))
+        let held = self.holding(level)?;
+        let entry = held.entry_at(level / 2, folder, name)?;
+        Some(SeenEntry { level, entry })
     }
 
-    /// What is held at a path, a removal too. O(log n), without memory.
-    pub fn get(&self, path: &Path) -> Option<&'a Entry>
-        ensures held { option_copied result ≡ finmap.get self.now path.now }
-    {
-        let entry = self.entry_at(path.rank(), path.folder(), path.name())?;
-        Some(entry.entry())
-    }
-
-    /// The visible content at a path: what is held there, if it is no removal. O(log n), without memory.
-    pub fn visible(&self, path: &Path) -> Option<&'a Content>
-        ensures visible { option_copied result ≡ seen_at self.now path.now }
-    {
-        let entry = self.entry_at(path.rank(), path.folder(), path.name())?;
-        entry.visible()
-    }
-
-    /// The entries in a folder of the directory of a rank, one after another in path order, those of removals too. The
+    /// The entries in a folder of the directory of a level, one after another in path order, those of removals too. The
     /// empty folder has the paths of one component. O(log n), without memory.
-    pub fn entries_in(&self, rank: u8, folder: &[u8]) -> SeenEntries<'a>
-        ensures entries { result ≡ filter (λ p. is_in rank folder.now p.0) (finmap.entries self.now) }
+    pub fn entries_in(&self, level: u8, folder: &[u8]) -> SeenEntries<'a>
+        ensures entries { result ≡ filter (λ p. is_in level folder.now p.0) (finmap.entries (seen self.now)) }
     {
-        SeenEntries::of_folder(rank, folder_at(self.ranks, rank, folder))
+        let entries = self.entries_behind(level, folder);
+        SeenEntries { level, entries }
+    }
+
+    /// The visible content at a place that is looked at; none at another. O(log n), without memory.
+    pub fn visible(&self, place: &Place) -> Option<&'a Content>
+        ensures visible { option_copied result ≡ content_at self.now place.now }
+    {
+        self.held_by(&place.scope)?.visible(&place.path)
+    }
+
+    /// The place of an entry that is seen. It fails for want of memory alone, and copies no bytes.
+    pub fn place(&self, seen: &SeenEntry) -> Result<Place, AllocError>
+        ensures place { IfOk result (λ place. place ≡ seen_place self.now seen.now.0) }
+    {
+        Ok(Place {
+            scope: self.scope_at(seen.level)?,
+            path: seen.entry.path()?,
+        })
+    }
+
+    // Whose directories have a level. It fails for want of memory alone, and copies no bytes.
+    fn scope_at(&self, level: u8) -> Result<Scope, AllocError>
+        ensures scope { IfOk result (λ scope. scope ≡ scope_at self.now level) }
+    {
+        if level % 2 != 0 {
+            return Ok(Scope::Fleet);
+        }
+        match &self.own {
+            Some(own) => Ok(Scope::Host(own.host.try_clone()?)),
+            None => Ok(Scope::Fleet),
+        }
+    }
+
+    // What is looked at in the directories of a level.
+    fn holding(&self, level: u8) -> Option<&Held<'a>>
+        ensures held { option_copied result ≡ holding self.now level }
+    {
+        if level % 2 != 0 {
+            return Some(&self.fleet);
+        }
+        match &self.own {
+            Some(own) => Some(&own.held),
+            None => None,
+        }
+    }
+
+    // The entries of a folder of a level, where they are held.
+    fn entries_behind(&self, level: u8, folder: &[u8]) -> PathEntries<'a>
+        ensures entries { result ≡ behind_entries level folder.now (holding self.now level) }
+    {
+        match self.holding(level) {
+            Some(held) => held.entries_in(level / 2, folder),
+            None => PathEntries::none(),
+        }
+    }
+
+    // What is looked at of a scope.
+    fn held_by(&self, scope: &Scope) -> Option<&Held<'a>>
+        ensures held { option_copied result ≡ held_by self.now scope.now }
+    {
+        match scope {
+            Scope::Fleet => Some(&self.fleet),
+            Scope::Host(host) => self.own.as_ref()?.held_by(host),
+        }
     }
 }

@@ -9,18 +9,21 @@ ghost use Rattle.edit_sums.specs.Sums.{changed_places, high_of, join, sum_of, vi
 ghost use Rattle.path_maps.specs.Beside.{beside};
 ghost use Rattle.path_maps.specs.Folders.{is_within};
 ghost use Rattle.path_maps.specs.PlaceMaps.{AreScopes, all_held};
-ghost use Rattle.path_maps.specs.Views.{fleet_of, scope_of};
+ghost use Rattle.path_maps.specs.Scopes.{scope_of};
+ghost use Rattle.path_maps.specs.Views.{own_of, view_of};
 
 use crate::changes::count_changes;
 use crate::counts::{Counts, count_entries};
 use crate::places::Entries;
 use crate::places_beside::Beside;
-use crate::seen::Seen;
+use crate::seen::{Own, Seen};
+use crate::held::Held;
+use crate::look_ups::host_at;
 use edit_sums::{Content, Edit, Entry, FlatEdit};
 use join_law::{
     AddAt, AddValue, Addition, Change, ChangeAt, Join, JoinMap, Overwrite, Rest, Version, Versioned,
 };
-use load_places::{Place, Scope};
+use load_places::{HostName, Place, Scope};
 use plain_values::Bytes;
 use std::alloc::{AllocError, Global};
 use std::marker::Model;
@@ -126,28 +129,41 @@ impl Store {
     pub fn get(&self, place: &Place) -> Option<&Entry>
         ensures held { option_copied result ≡ finmap.get self.now place.now }
     {
-        self.seen_in(&place.scope).get(&place.path)
+        self.held_in(&place.scope).get(&place.path)
     }
 
     /// The visible content at a place: what is held there, if it is no removal. O(log n), without memory.
     pub fn visible(&self, place: &Place) -> Option<&Content>
         ensures visible { option_copied result ≡ visible_at self.now place.now }
     {
-        self.seen_in(&place.scope).visible(&place.path)
+        self.held_in(&place.scope).visible(&place.path)
     }
 
-    /// What each host of the fleet sees. It takes no memory.
-    pub fn fleet(&self) -> Seen<'_>
-        ensures seen { result ≡ fleet_of self.now }
+    /// What a host looks at, or what is looked at without one: the host's own places and the fleet's, and nothing of other
+    /// hosts. Two searches, without memory.
+    pub fn seen_by<'a>(&'a self, host: Option<&'a HostName>) -> Seen<'a>
+        ensures view { result ≡ view_of self.now (option_copied host.entry) }
     {
-        self.seen_in(&Scope::Fleet)
+        let own = match host {
+            Some(host) => Some(self.own_of(host)),
+            None => None,
+        };
+        Seen::new(own, self.held_in(&Scope::Fleet))
+    }
+
+    // What a host has for itself.
+    fn own_of<'a>(&'a self, host: &'a HostName) -> Own<'a>
+        ensures own { result ≡ own_of self.now host.now }
+    {
+        let held = Held::of(self.allocator(), host_at(&self.scopes, host));
+        Own { host, held }
     }
 
     // What is held in a scope.
-    fn seen_in(&self, scope: &Scope) -> Seen<'_>
+    fn held_in(&self, scope: &Scope) -> Held<'_>
         ensures seen { result ≡ scope_of self.now scope.now }
     {
-        Seen::of(self.allocator(), self.scopes.get(scope))
+        Held::of(self.allocator(), self.scopes.get(scope))
     }
 
     /// The maps that the store is: they have its entries and no others. It takes no memory.
@@ -173,7 +189,7 @@ impl Store {
         ensures places { IfOk result (λ places. places.items
             ≡ filter (is_within scope.now rank folder.now) (finmap.keys self.now)) }
     {
-        let entries = self.seen_in(scope).entries_in(rank, folder);
+        let entries = self.held_in(scope).entries_in(rank, folder);
         Entries::of_scope(scope, entries).places(self.allocator())
     }
 

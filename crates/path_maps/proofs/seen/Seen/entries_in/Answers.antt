@@ -1,15 +1,18 @@
-use Rattle.std.proofs.Common.{◌∙◌}
-use Rattle.std.specs.Option.{option_copied}
-use Rattle.join_law.specs.Maps.{or_empty}
-use Rattle.path_maps.proofs.LookUps.{found_entries, found_lawful_paths}
+use Rattle.std.proofs.Common.{◌≡◌, List, map, ap, sym, subst, ◌∙◌, ◌/◌}
+use Rattle.load_path.specs.Paths.{PathParts}
+use Rattle.edit_sums.specs.Entries.{Entry}
+use Rattle.path_maps.specs.Sights.{holding}
+use Rattle.path_maps.specs.Spread.{AllKeys}
+use Rattle.path_maps.specs.ViewLaws.{folder_seen, ranks_behind}
+use Rattle.path_maps.specs.Views.{at_level}
 use Rattle.path_maps.proofs.seen.Seen.entries_in.Goals as goal
 
-pub of_folder-requires : goal.of_folder-requires
-of_folder-requires c = record {
-  paths = found_lawful_paths (or_empty (option_copied c.self.inside.ranks)) c.args.rank c.args.folder.now c.self.invariant c.folder_at.result c.folder_at.ensures.found;
-}
+pub invariant_of-result : goal.invariant_of-result
+invariant_of-result c =
+    subst (AllKeys (λ (q : PathParts). q.rank ≡ c.args.level / 2)) (sym c.entries_behind-entries.ensures.entries)
+    (ranks_behind c.args.level c.args.folder.now (holding c.args.self.now c.args.level))
 
 pub returns : goal.returns
 returns c = record {
-  entries = c.of_folder.ensures.entries ∙ found_entries (or_empty (option_copied c.self.inside.ranks)) c.args.rank c.args.folder.now c.args.self.now c.self.invariant.ranks c.self.view_is c.folder_at.result c.folder_at.ensures.found;
+  entries = ap (λ (es : List (PathParts × Entry)). map (at_level c.args.level) es) c.entries_behind-entries.ensures.entries ∙ folder_seen c.args.level c.args.folder.now c.args.self.now;
 }

@@ -1,6 +1,5 @@
 use Rattle.std.proofs.Common.{List, ◌++◌, ◌∷◌, [], map, ap, sym, ◌∙◌, take}
 use Rattle.std.proofs.lemmas.List.{map-append, take_more}
-use Rattle.edit_sums.specs.declared.entries.Edit.{Edit}
 use Rattle.edit_sums.specs.declared.entries.FlatEdit.{FlatEdit}
 use Rattle.edit_sums.specs.Flat.{at_fleet}
 use Rattle.edit_sums.specs.Sums.{EntryMap, sum_of, with_edit}

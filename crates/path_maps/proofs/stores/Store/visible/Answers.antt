@@ -7,5 +7,5 @@ use Rattle.path_maps.proofs.stores.Store.visible.Goals as goal
 
 pub returns : goal.returns
 returns c = record {
-  visible = c.visible.ensures.visible ∙ ap (λ (x : Option Entry). option_and_then shown x) (there c.args.self.now c.seen_in.result c.args.place.now c.seen_in.ensures.seen);
+  visible = c.visible.ensures.visible ∙ ap (λ (x : Option Entry). option_and_then shown x) (there c.args.self.now c.held_in.result c.args.place.now c.held_in.ensures.seen);
 }

@@ -1,7 +1,7 @@
 use Rattle.std.proofs.Common.{◌∙◌, ◌∷◌, sym}
 use Rattle.path_maps.specs.Beside.{names_beside}
 use Rattle.path_maps.proofs.LeftBeside.{next_names, at_of}
-use Rattle.path_maps.proofs.beside.NamesBesideCursorBothSeenEntry.next.Goals as goal
+use Rattle.path_maps.proofs.beside.NamesBesideCursorBothPathEntry.next.Goals as goal
 
 pub returns : goal.returns
 returns c =

@@ -3,7 +3,7 @@ use Rattle.std.specs.List.{flat_map}
 use Rattle.path_maps.specs.PathMaps.{RankMap}
 use Rattle.path_maps.specs.Cursors.{by_rank}
 use Rattle.path_maps.proofs.LeftBehind.{ranks_listed}
-use Rattle.path_maps.proofs.entries.SeenEntries.of_ranks.Goals as goal
+use Rattle.path_maps.proofs.entries.PathEntries.of_ranks.Goals as goal
 
 pub returns : goal.returns
 returns c = record {

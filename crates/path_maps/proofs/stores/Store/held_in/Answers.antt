@@ -1,9 +1,9 @@
-use Rattle.std.proofs.Common.{◌≡◌, Option, sym, ap, subst, ◌∙◌}
+use Rattle.std.proofs.Common.{Option, sym, ap, subst, ◌∙◌}
 use Rattle.join_law.specs.Maps.{or_empty}
 use Rattle.path_maps.specs.Kept.{AreLawful}
 use Rattle.path_maps.specs.PathMaps.{RankMap, flat}
 use Rattle.path_maps.proofs.Scopes.{scope_kept, scope_seen}
-use Rattle.path_maps.proofs.stores.Store.seen_in.Goals as goal
+use Rattle.path_maps.proofs.stores.Store.held_in.Goals as goal
 
 pub of-requires : goal.of-requires
 of-requires c = record {

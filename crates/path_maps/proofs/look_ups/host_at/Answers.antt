@@ -1,0 +1,11 @@
+use Rattle.std.proofs.Common.{ap, sym, ◌∙◌}
+use Rattle.std.specs.FinMap.{find}
+use Rattle.load_places.specs.Places.{scope_cmp}
+use Rattle.load_places.specs.declared.places.Scope.TheVariants.{Host}
+use Rattle.path_maps.specs.PlaceMaps.{ScopeMap}
+use Rattle.path_maps.proofs.look_ups.host_at.Goals as goal
+
+pub returns-in-Ok : goal.returns-in-Ok
+returns-in-Ok c = record {
+  ranks = sym (c.in-Ok.ensures.found c.index-pairs-at.result) ∙ ap (λ (m : ScopeMap). find scope_cmp (Host c.args.host.now) m) c.pairs-pairs.ensures.pairs;
+}

@@ -1,0 +1,11 @@
+//! Laws on what is looked at, for all stores and hosts.
+ghost use Rattle.path_maps.specs.SeenLaws.{HostsWithoutPlacesSeeTheFleets, OthersArentLookedAt, PlacesAreSeen, WhatIsSeenHasAPlace};
+
+/// A place with a level is seen at it, and what is seen has a place. What stands at a place without a level, which is
+/// another host's, changes nothing. A host without places of its own sees what is seen without one.
+pub fn seen_laws()
+    ensures places { PlacesAreSeen }
+    ensures seen { WhatIsSeenHasAPlace }
+    ensures others { OthersArentLookedAt }
+    ensures without { HostsWithoutPlacesSeeTheFleets }
+{}
