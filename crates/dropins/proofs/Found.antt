@@ -13,7 +13,7 @@ use Rattle.std.proofs.lemmas.Slice.Eq.{bytes_eq-Decides}
 use Rattle.load_path.specs.Paths.{PathParts, path_cmp}
 use Rattle.load_path.specs.PathLaws.{path_cmp_total, path_cmp-IsAntisymmetric}
 use Rattle.edit_sums.specs.Entries.{Entry}
-use Rattle.path_maps.specs.Views.{View}
+use Rattle.path_maps.specs.Views.{View, seen}
 use Rattle.list_laws.specs.Members.{IsAmong}
 use Rattle.path_maps.specs.Folders.{is_in}
 use Rattle.dropins.specs.declared.precedence.Search.{Search}
@@ -39,8 +39,8 @@ own_entry (e ∷ es) s p (inl same) =
 own_entry (e ∷ es) s p (inr a) =
     ap (λ b. cond b (Some e.1) (find path_cmp p.0 es)) (below_among e.0 es (and_parts _ _ s).0 p a) ∙ own_entry es (and_parts (below_all path_cmp e.0 es) _ s).1 p a
 
-seen_entry : (v : View) (p : PathParts × Entry) → IsAmong p (finmap.entries v) → finmap.get v p.0 ≡ Some p.1
-seen_entry v p a = finmap.get-entries v p.0 ∙ own_entry (finmap.entries v) (from_T _ (finmap.entries_sorted v)) p a
+seen_entry : (v : View) (p : PathParts × Entry) → IsAmong p (finmap.entries (seen v)) → finmap.get (seen v) p.0 ≡ Some p.1
+seen_entry v p a = finmap.get-entries (seen v) p.0 ∙ own_entry (finmap.entries (seen v)) (from_T _ (finmap.entries_sorted (seen v))) p a
 
 module _ (r : ℕ) (d f : List ℕ) where
   same_path : (k : PathParts) → is_in r d k ≡ true → bytes_eq k.name f ≡ true → k ≡ path r d f
@@ -80,14 +80,14 @@ module _ (r : ℕ) (d f : List ℕ) where
   none_held x (Some e) = refl
 
   -- the paths of a folder say what stands at the path of a file name there
-  folder_says : (s : View) (x : Search) → first_said (λ p. cond (bytes_eq p.name f) (take_at s x p) None) (filter (is_in r d) (finmap.keys s)) ≡ take_at s x (path r d f)
+  folder_says : (s : View) (x : Search) → first_said (λ p. cond (bytes_eq p.name f) (take_at s x p) None) (filter (is_in r d) (finmap.keys (seen s))) ≡ take_at s x (path r d f)
   folder_says s x =
-      among s x (finmap.keys s)
-      ∙ ap (λ b. cond b (take_at s x (path r d f)) None) (sym (contains_key-keys s (path r d f)))
-      ∙ none_held x (finmap.get s (path r d f))
+      among s x (finmap.keys (seen s))
+      ∙ ap (λ b. cond b (take_at s x (path r d f)) None) (sym (contains_key-keys (seen s) (path r d f)))
+      ∙ none_held x (finmap.get (seen s) (path r d f))
 
   -- entries of what is seen say what stands at their paths
-  entries_say : (s : View) (x : Search) (es : List (PathParts × Entry)) → ((p : PathParts × Entry) → IsAmong p es → finmap.get s p.0 ≡ Some p.1)
+  entries_say : (s : View) (x : Search) (es : List (PathParts × Entry)) → ((p : PathParts × Entry) → IsAmong p es → finmap.get (seen s) p.0 ≡ Some p.1)
       → first_said (said_for x f) (filter (λ p. is_in r d p.0) es) ≡ first_said (λ p. cond (bytes_eq p.name f) (take_at s x p) None) (filter (is_in r d) (map (λ p. p.0) es))
   entries_say s x [] held = refl
   entries_say s x (p ∷ es) held =
@@ -98,5 +98,5 @@ module _ (r : ℕ) (d f : List ℕ) where
         | false ↦ rest
       ]
 
-  pub folder_entries_say : (s : View) (x : Search) → first_said (said_for x f) (filter (λ p. is_in r d p.0) (finmap.entries s)) ≡ take_at s x (path r d f)
-  folder_entries_say s x = entries_say s x (finmap.entries s) (seen_entry s) ∙ folder_says s x
+  pub folder_entries_say : (s : View) (x : Search) → first_said (said_for x f) (filter (λ p. is_in r d p.0) (finmap.entries (seen s))) ≡ take_at s x (path r d f)
+  folder_entries_say s x = entries_say s x (finmap.entries (seen s)) (seen_entry s) ∙ folder_says s x

@@ -14,7 +14,7 @@ use Rattle.std.proofs.lemmas.Map.Views.{btree_map_get_iff}
 use Rattle.list_laws.specs.Members.{none_there, only_one}
 use Rattle.load_path.specs.Paths.{PathParts}
 use Rattle.edit_sums.specs.Entries.{Entry}
-use Rattle.path_maps.specs.Views.{View}
+use Rattle.path_maps.specs.Views.{View, seen}
 use Rattle.unit_name.specs.Names.{Name, is_name, IsName, name_cmp}
 use Rattle.unit_name.specs.NameLaws.{name_cmp-IsAntisymmetric}
 use Rattle.dropins.specs.declared.precedence.Take.{Take}
@@ -86,7 +86,7 @@ module _ (s : View) (x : Search) (ds ts : List (List ℕ)) (m : BTreeMap (List �
   rising ps e = subst (λ qs. IsStrictlySortedBy name_cmp (map entry_name qs)) (sym e) (names_rise m.entries ordered named)
 
   -- and are just those that are taken
-  pub exact : (ps : List (PathParts × Entry)) → ps ≡ unmasked m.entries → (p : PathParts × Entry) → Contains ps p ↔ (IsTakenOver s x ds ts (At p.0) p.0 × (finmap.get s p.0 ≡ Some p.1))
+  pub exact : (ps : List (PathParts × Entry)) → ps ≡ unmasked m.entries → (p : PathParts × Entry) → Contains ps p ↔ (IsTakenOver s x ds ts (At p.0) p.0 × (finmap.get (seen s) p.0 ≡ Some p.1))
   exact ps e p = (
     λ c. (over_iff_taken s x ds ts p).0 (sym (says p.0.name) ∙ (entry_is p.0.name (Placed p)).1 (given_there m.entries p named (subst (λ qs. Contains qs p) e c))),
     λ t. subst (λ qs. Contains qs p) (sym e) (there_given m.entries p.0.name p ((entry_is p.0.name (Placed p)).0 (says p.0.name ∙ (over_iff_taken s x ds ts p).1 t))),
@@ -137,7 +137,7 @@ entry_there (p ∷ ps) n c = pick (entry_there ps n) (Contains-append_cases (p.0
     pick more (inr o) = let h = more o in record { entry = h.entry; there = Contains-append_right (p ∷ []) ps h.entry h.there; name_is = h.name_is }
 
 -- the unit names among the file names of what is taken are those that are linked
-pub linked : (s : View) (fs : List Name) (d : Folder) (ps : List (PathParts × Entry)) → ((p : PathParts × Entry) → Contains ps p ↔ (IsTakenOver s Links (dirs_with (ending d) fs) [] (At p.0) p.0 × (finmap.get s p.0 ≡ Some p.1)))
+pub linked : (s : View) (fs : List Name) (d : Folder) (ps : List (PathParts × Entry)) → ((p : PathParts × Entry) → Contains ps p ↔ (IsTakenOver s Links (dirs_with (ending d) fs) [] (At p.0) p.0 × (finmap.get (seen s) p.0 ≡ Some p.1)))
     → (ns : List Name) → ns ≡ filter is_name (map entry_name ps) → (n : Name) → Contains ns n ↔ IsLinkedOf s fs d n
 linked s fs d ps ex ns e n = (there, back)
   where

@@ -1,4 +1,4 @@
--- Laws of entries that are lent: they stand for their paths.
+-- Laws of entries that are lent: they stand for their places.
 use Rattle.std.proofs.Common.{◌≡◌, ℕ, Option, Some, None, List, [], ◌∷◌, map, refl, ap, sym, subst, inl, inr}
 use Rattle.std.specs.Prelude.{◌↔◌, ◌⊎◌}
 use Rattle.std.specs.Option.{option_and_then}
@@ -8,25 +8,26 @@ use Rattle.std.specs.List.Sorted.{IsStrictlySortedBy}
 use Rattle.std.proofs.lemmas.List.Elements.{Contains-append_cases, Contains-append_left, Contains-append_right, Contains-push}
 use Rattle.list_laws.specs.Members.{none_there, only_one}
 use Rattle.load_path.specs.Paths.{PathParts}
+use Rattle.load_places.specs.Places.{PlaceParts}
 use Rattle.edit_sums.specs.Entries.{Entry}
 use Rattle.edit_sums.specs.Sums.{shown}
-use Rattle.path_maps.specs.Views.{View}
+use Rattle.path_maps.specs.Views.{View, seen}
 use Rattle.unit_name.specs.Names.{Name, name_cmp}
 use Rattle.dropins.specs.declared.precedence.Search.{Search}
 use Rattle.dropins.specs.declared.precedence.Search.TheVariants.{DropIns}
-use Rattle.dropins.specs.Taken.{as_found, candidate_at, entry_name, entry_path, file_name, AreDropInsOf, IsDropInOf}
+use Rattle.dropins.specs.Taken.{as_found, candidate_at, entry_name, entry_place, file_name, AreDropInsOf, IsDropInAtOf}
 use Rattle.dropins.specs.Taken.Candidate.{At}
 
--- the paths of the entries of a unit's drop-ins are its drop-ins, and they rise by file name where the entries do
+-- the places of the entries of a unit's drop-ins are its drop-ins, and they rise by file name where the entries do
 abbrev pub LentAreDropIns : Type 0
 LentAreDropIns = (s : View) (fs : List Name) (ps : List (PathParts × Entry)) → AreDropInsOf s fs ps
-    → ((p : PathParts) → Contains (map entry_path ps) p ↔ IsDropInOf s fs p) × (IsStrictlySortedBy name_cmp (map entry_name ps) → IsStrictlySortedBy name_cmp (map file_name (map entry_path ps)))
+    → ((p : PlaceParts) → Contains (map (entry_place s) ps) p ↔ IsDropInAtOf s fs p) × (IsStrictlySortedBy name_cmp (map entry_name ps) → IsStrictlySortedBy name_cmp (map file_name (map (entry_place s) ps)))
 
 -- where a candidate stands, the store has an entry
-pub held_there : (s : View) (x : Search) (q p : PathParts) → candidate_at s x q ≡ Some (At p) → (e : Entry) × (finmap.get s q ≡ Some e)
-held_there s x q p h = by (finmap.get s q) refl h
+pub held_there : (s : View) (x : Search) (q p : PathParts) → candidate_at s x q ≡ Some (At p) → (e : Entry) × (finmap.get (seen s) q ≡ Some e)
+held_there s x q p h = by (finmap.get (seen s) q) refl h
   where
-    by : (o : Option Entry) → finmap.get s q ≡ o → option_and_then (as_found x q) (option_and_then shown o) ≡ Some (At p) → (e : Entry) × (finmap.get s q ≡ Some e)
+    by : (o : Option Entry) → finmap.get (seen s) q ≡ o → option_and_then (as_found x q) (option_and_then shown o) ≡ Some (At p) → (e : Entry) × (finmap.get (seen s) q ≡ Some e)
     by None g k = cc (k)
     by (Some e) g k = (e, g)
 
@@ -39,21 +40,23 @@ made_there f (y ∷ ys) x c = pick (made_there f ys x) (Contains-append_cases (y
     pick more (inl o) = subst (λ z. Contains (z ∷ map f ys) (f x)) (sym (ap f (only_one y x o))) (Contains-append_left (f x ∷ []) (map f ys) (f x) (Contains-push [] (f x)))
     pick more (inr o) = Contains-append_right (f y ∷ []) (map f ys) (f x) (more o)
 
-made_of : (ps : List (PathParts × Entry)) (p : PathParts) → Contains (map entry_path ps) p → (e : Entry) × Contains ps (p, e)
-made_of [] p c = none_there p c
-made_of (q ∷ ps) p c = pick (made_of ps p) (Contains-append_cases (q.0 ∷ []) (map entry_path ps) p c)
+made_of : {A B : Type 0} (f : A → B) (xs : List A) (y : B) → Contains (map f xs) y → (x : A) × (f x ≡ y) × Contains xs x
+made_of f [] y c = none_there y c
+made_of {A = A} {B = B} f (x ∷ xs) y c = pick (made_of f xs y) (Contains-append_cases (f x ∷ []) (map f xs) y c)
   where
-    pick : (Contains (map entry_path ps) p → (e : Entry) × Contains ps (p, e)) → Contains (q.0 ∷ []) p ⊎ Contains (map entry_path ps) p → (e : Entry) × Contains (q ∷ ps) (p, e)
-    pick more (inl o) = (q.1, subst (λ z. Contains (q ∷ ps) (z, q.1)) (only_one q.0 p o) (Contains-append_left (q ∷ []) ps q (Contains-push [] q)))
-    pick more (inr o) = let h = more o in (h.0, Contains-append_right (q ∷ []) ps (p, h.0) h.1)
+    pick : (Contains (map f xs) y → (z : A) × (f z ≡ y) × Contains xs z) → Contains (f x ∷ []) y ⊎ Contains (map f xs) y → (z : A) × (f z ≡ y) × Contains (x ∷ xs) z
+    pick more (inl o) = (x, only_one (f x) y o, Contains-append_left (x ∷ []) xs x (Contains-push [] x))
+    pick more (inr o) = let h = more o in (h.0, h.1, Contains-append_right (x ∷ []) xs h.0 h.2)
 
--- the paths of the entries of drop-ins are the drop-ins, in the same order
 pub lent_are_drop_ins : LentAreDropIns
 lent_are_drop_ins s fs ps ex = (exact, λ h. subst (IsStrictlySortedBy name_cmp) (sym (names ps)) h)
   where
-    exact : (p : PathParts) → Contains (map entry_path ps) p ↔ IsDropInOf s fs p
-    exact p = (λ c. let h = made_of ps p c in ((ex (p, h.0)).0 h.1).0, λ t. let h = held_there s DropIns p p t.stands.says in made_there entry_path ps (p, h.0) ((ex (p, h.0)).1 (t, h.1)))
+    exact : (p : PlaceParts) → Contains (map (entry_place s) ps) p ↔ IsDropInAtOf s fs p
+    exact p = (
+      λ c. let h = made_of (entry_place s) ps p c in (h.0.0, h.1, ((ex h.0).0 h.2).0),
+      λ t. let h = held_there s DropIns t.0 t.0 t.2.stands.says in subst (Contains (map (entry_place s) ps)) t.1 (made_there (entry_place s) ps (t.0, h.0) ((ex (t.0, h.0)).1 (t.2, h.1))),
+    )
 
-    names : (rs : List (PathParts × Entry)) → map file_name (map entry_path rs) ≡ map entry_name rs
+    names : (rs : List (PathParts × Entry)) → map file_name (map (entry_place s) rs) ≡ map entry_name rs
     names [] = refl
     names (r ∷ rs) = ap (λ (l : List (List ℕ)). r.0.name ∷ l) (names rs)

@@ -1,5 +1,5 @@
 -- Laws of drop-ins: their order is that of their file names, whatever the folders, and each is a file.
-use Rattle.std.proofs.Common.{◌≡◌, ℕ, Bool, true, false, cond, IsTrue, Option, Some, None, List, [], ◌∷◌, map, refl}
+use Rattle.std.proofs.Common.{◌≡◌, ℕ, Bool, true, false, cond, IsTrue, Option, Some, None, List, [], ◌∷◌, map, refl, ap, sym, ◌∙◌}
 use Rattle.std.specs.Prelude.{◌↔◌}
 use Rattle.std.specs.Option.{option_and_then}
 use Rattle.std.specs.List.{Contains}
@@ -8,20 +8,23 @@ use Rattle.std.specs.Cmp.Lexicographic.{nat_list_cmp_total}
 use Rattle.list_laws.specs.Members.{among_from_contains, contains_from_among}
 use Rattle.list_laws.specs.Rising.{one_rising}
 use Rattle.load_path.specs.Paths.{PathParts}
-use Rattle.path_maps.specs.Views.{View, seen_at}
+use Rattle.load_places.specs.Places.{PlaceParts}
+use Rattle.path_maps.specs.SeenLaws.{content_seen}
+use Rattle.path_maps.specs.Views.{View, content_at, seen_at}
 use Rattle.edit_sums.specs.declared.contents.Content.{Content}
 use Rattle.edit_sums.specs.declared.contents.Content.TheVariants.{Gone, Link, File}
 use Rattle.unit_name.specs.Names.{Name, name_cmp}
 use Rattle.dropins.specs.Taken.Candidate.{Mask, At}
-use Rattle.dropins.specs.Taken.{file_name, is_conf, is_null, content_as_drop_in, IsDropIn}
+use Rattle.dropins.specs.Taken.{file_name, is_conf, is_null, content_as_drop_in, IsDropInAt, IsDropInOf}
+use Rattle.dropins.specs.FolderLists.{folders}
 
--- lists of paths that rise by file name and have the same paths are the same list
+-- lists of places that rise by file name and have the same places are the same list
 abbrev pub OneOrder : Type 0
-OneOrder = (ps qs : List PathParts) → IsStrictlySortedBy name_cmp (map file_name ps) → IsStrictlySortedBy name_cmp (map file_name qs) → ((p : PathParts) → Contains ps p ↔ Contains qs p) → ps ≡ qs
+OneOrder = (ps qs : List PlaceParts) → IsStrictlySortedBy name_cmp (map file_name ps) → IsStrictlySortedBy name_cmp (map file_name qs) → ((p : PlaceParts) → Contains ps p ↔ Contains qs p) → ps ≡ qs
 
--- a drop-in's file name ends in .conf, and a file that isn't empty is visible at its path
+-- a drop-in's file name ends in .conf, and a file that isn't empty is visible at its place
 abbrev pub DropInsAreFiles : Type 0
-DropInsAreFiles = (s : View) (ns : List Name) (p : PathParts) → IsDropIn s ns p → IsTrue (is_conf p.name) × ((b : ℕ) × (bs : List ℕ) × (seen_at s p ≡ Some (File (b ∷ bs))))
+DropInsAreFiles = (s : View) (ns : List Name) (p : PlaceParts) → IsDropInAt s ns p → IsTrue (is_conf (file_name p)) × ((b : ℕ) × (bs : List ℕ) × (content_at s p ≡ Some (File (b ∷ bs))))
 
 pub one_order : OneOrder
 one_order ps qs a b same = one_rising file_name name_cmp nat_list_cmp_total ps qs a b (λ p. (λ h. among_from_contains p qs ((same p).0 (contains_from_among p ps h)), λ h. among_from_contains p ps ((same p).1 (contains_from_among p qs h))))
@@ -38,5 +41,14 @@ file_there p true (Some (Link target)) h = absurd (by (is_null target) h)
 file_there p true (Some (File [])) h = cc (h)
 file_there p true (Some (File (b ∷ bs))) h = (refl, (b, bs, refl))
 
+-- the same of the path at which it is seen
+pub drop_in_paths_are_files : (s : View) (fs : List Name) (p : PathParts) → IsDropInOf s fs p → (is_conf p.name ≡ true) × ((b : ℕ) × (bs : List ℕ) × (seen_at s p ≡ Some (File (b ∷ bs))))
+drop_in_paths_are_files s fs p d = file_there p (is_conf p.name) (seen_at s p) d.stands.says
+
 pub drop_ins_are_files : DropInsAreFiles
-drop_ins_are_files s ns p d = file_there p (is_conf p.name) (seen_at s p) d.stands.says
+drop_ins_are_files s ns place (p, is, d) =
+    let file = drop_in_paths_are_files s (folders ns) p d in
+    (
+      ap (λ (q : PlaceParts). is_conf (file_name q)) (sym is) ∙ file.0,
+      (file.1.0, file.1.1, ap (content_at s) (sym is) ∙ content_seen s p (File (file.1.0 ∷ file.1.1)) file.1.2),
+    )

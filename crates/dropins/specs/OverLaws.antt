@@ -5,8 +5,8 @@ use Rattle.std.specs.Option.{option_and_then}
 use Rattle.list_laws.specs.Agreements.{agree_everywhere}
 use Rattle.load_path.specs.Paths.{PathParts, path_cmp}
 use Rattle.load_path.specs.PathLaws.{path_cmp_total, path_cmp-IsAntisymmetric}
-use Rattle.load_places.specs.Levels.{IsLevel, level_of}
-use Rattle.path_maps.specs.Views.{View, seen_at}
+use Rattle.load_places.specs.Levels.{IsLevel}
+use Rattle.path_maps.specs.Views.{View, seen_at, level_of}
 use Rattle.dropins.specs.declared.precedence.Search.{Search}
 use Rattle.dropins.specs.Taken.Owner.{OfName, OfType}
 use Rattle.dropins.specs.Taken.{Candidate, Owner, Precedes, Stands, IsTaken, IsTakenOver, as_found, dirs_by}

@@ -4,9 +4,9 @@ use Rattle.std.specs.Prelude.{◌⊎◌, slice_get}
 use Rattle.std.specs.Option.{option_and_then}
 use Rattle.list_laws.specs.Agreements.{agree_everywhere}
 use Rattle.load_path.specs.Paths.{PathParts, path_cmp}
-use Rattle.load_places.specs.Levels.{IsLevel, level_of}
+use Rattle.load_places.specs.Levels.{IsLevel}
 use Rattle.load_path.specs.PathLaws.{path_cmp_total, path_cmp-IsAntisymmetric}
-use Rattle.path_maps.specs.Views.{View, seen_at}
+use Rattle.path_maps.specs.Views.{View, seen_at, level_of}
 use Rattle.dropins.specs.Taken.Candidate.{Mask, At}
 use Rattle.dropins.specs.declared.precedence.Search.{Search}
 use Rattle.dropins.specs.Taken.{Candidate, as_found, Stands, IsTaken, TakenFor}
@@ -14,8 +14,8 @@ use Rattle.dropins.specs.Walks.{taken}
 use Rattle.dropins.specs.WalkLaws as walk
 
 -- a level goes before the closeness of a folder: what is taken has at most the level of anything that stands for its file name, in whichever folder
-abbrev pub RanksGoFirst : Type 0
-RanksGoFirst = (s : View) (x : Search) (ds : List (List ℕ)) (c d : Candidate) (p q : PathParts) (i : ℕ) → IsTaken s x ds c p → Stands s x ds d q i → q.name ≡ p.name → level_of p ≤ level_of q
+abbrev pub LevelsGoFirst : Type 0
+LevelsGoFirst = (s : View) (x : Search) (ds : List (List ℕ)) (c d : Candidate) (p q : PathParts) (i : ℕ) → IsTaken s x ds c p → Stands s x ds d q i → q.name ≡ p.name → level_of p ≤ level_of q
 
 -- where anything stands for a file name, something is taken for it
 abbrev pub SomethingIsTaken : Type 0
@@ -39,8 +39,8 @@ abbrev pub RemovalsGiveBack : Type 0
 RemovalsGiveBack = (s t : View) (x : Search) (ds : List (List ℕ)) (m : PathParts) → seen_at s m ≡ None → seen_at t m ≡ None → ((q : PathParts) → q ≢ m → seen_at s q ≡ seen_at t q)
     → (c : Candidate) (p : PathParts) → IsTaken s x ds c p → IsTaken t x ds c p
 
-pub ranks_go_first : RanksGoFirst
-ranks_go_first s x ds c d p q i a st n = by (a.least d q i st n)
+pub levels_go_first : LevelsGoFirst
+levels_go_first s x ds c d p q i a st n = by (a.least d q i st n)
   where
     by : (p.rank < q.rank) ⊎ ((p.rank ≡ q.rank) × (a.place ≤ i)) → p.rank ≤ q.rank
     by (inl l) = omega (arith, l)

@@ -1,14 +1,15 @@
 -- Drop-ins and links: what stands for a file name in the folders of names, and what of it is taken.
--- Source: systemd.unit(5), "Description"; that the rank goes before the closeness of a folder, and that a type's folder comes last in every rank, is this project's own.
+-- Source: systemd.unit(5), "Description"; that the level goes before the closeness of a folder, and that a type's folder comes last in every level, is this project's own.
 use Rattle.std.specs.Prelude.{◌≡◌, ◌↔◌, ℕ, ◌-◌, ◌<◌, ◌≤◌, ◌⊎◌, nat_lt, Bool, ◌&&◌, if◌then◌else◌, Option, Some, None, List, [], ◌∷◌, ◌++◌, length, map, drop, slice_get, codes}
 use Rattle.std.specs.Option.{option_and_then}
 use Rattle.std.specs.FinMap as finmap
 use Rattle.std.specs.List.{Contains}
 use Rattle.std.specs.Str.{bytes_eq}
 use Rattle.load_path.specs.Paths.{PathParts}
-use Rattle.load_places.specs.Levels.{IsLevel, level_of}
+use Rattle.load_places.specs.Levels.{IsLevel}
+use Rattle.load_places.specs.Places.{PlaceParts}
 use Rattle.edit_sums.specs.Entries.{Entry}
-use Rattle.path_maps.specs.Views.{View, seen_at}
+use Rattle.path_maps.specs.Views.{View, level_of, seen, seen_at, seen_place}
 use Rattle.edit_sums.specs.declared.contents.Content.{Content}
 use Rattle.edit_sums.specs.declared.contents.Content.TheVariants.{Gone, Link, File}
 use Rattle.unit_name.specs.Names.{Name, IsName}
@@ -57,7 +58,7 @@ as_found Links p c = as_link p c
 abbrev pub candidate_at : View → Search → PathParts → Option Candidate
 candidate_at s x p = option_and_then (as_found x p) (seen_at s p)
 
--- this candidate stands at the path: the path is in the folder of this place of the list, in a directory of the load path
+-- this candidate is seen at the path, which is in the folder of this place of the list, at one of the levels
 pub record Stands (s : View) (x : Search) (ds : List (List ℕ)) (c : Candidate) (p : PathParts) (place : ℕ) : Type 0 where
   pub level_within : IsLevel (level_of p)
   pub folder_is : slice_get ds place ≡ Some p.folder
@@ -125,6 +126,13 @@ IsDropInOf s fs p = IsTakenOver s DropIns (name_dirs fs) (type_dirs fs) (At p) p
 abbrev pub IsDropIn : View → List Name → PathParts → Type 0
 IsDropIn s ns p = IsDropInOf s (folders ns) p
 
+-- the same of a place: it is that of a path which is one
+abbrev pub IsDropInAtOf : View → List Name → PlaceParts → Type 0
+IsDropInAtOf s fs place = (p : PathParts) × (seen_place s p ≡ place) × IsDropInOf s fs p
+
+abbrev pub IsDropInAt : View → List Name → PlaceParts → Type 0
+IsDropInAt s ns place = IsDropInAtOf s (folders ns) place
+
 -- the link folders of this sort of a unit with these folders give this name: it is a unit's, and a link is taken for it
 pub record IsLinkedOf (s : View) (fs : List Name) (d : Folder) (n : Name) : Type 0 where
   pub name : IsName n
@@ -136,16 +144,16 @@ pub record IsLinkedOf (s : View) (fs : List Name) (d : Folder) (n : Name) : Type
 abbrev pub IsLinked : View → List Name → Folder → Name → Type 0
 IsLinked s ns d n = IsLinkedOf s (folders ns) d n
 
-abbrev pub file_name : PathParts → List ℕ
-file_name p = p.name
+abbrev pub file_name : PlaceParts → List ℕ
+file_name place = place.path.name
 
--- the path of an entry, and its file name
-abbrev pub entry_path : PathParts × Entry → PathParts
-entry_path p = p.0
+-- the place of an entry that is seen, and its file name
+abbrev pub entry_place : View → PathParts × Entry → PlaceParts
+entry_place s p = seen_place s p.0
 
 abbrev pub entry_name : PathParts × Entry → List ℕ
 entry_name p = p.0.name
 
--- these entries are the store's at the drop-ins of a unit with these folders
+-- these entries are those that are seen at the drop-ins of a unit with these folders
 abbrev pub AreDropInsOf : View → List Name → List (PathParts × Entry) → Type 0
-AreDropInsOf s fs ps = (p : PathParts × Entry) → Contains ps p ↔ (IsDropInOf s fs p.0 × (finmap.get s p.0 ≡ Some p.1))
+AreDropInsOf s fs ps = (p : PathParts × Entry) → Contains ps p ↔ (IsDropInOf s fs p.0 × (finmap.get (seen s) p.0 ≡ Some p.1))

@@ -73,36 +73,36 @@ module _ (s : View) (x : Search) (ds : List (List ℕ)) where
 
 -- what is found first is taken
 module _ (s : View) (x : Search) (ds : List (List ℕ)) (f : List ℕ) (c : Candidate) (h : taken s x ds f ≡ Some c) where
-  first_rank : IsFirst (taken_in s x ds f) levels 0 c
-  first_rank = first_is (taken_in s x ds f) levels 0 c h
+  first_level_said : IsFirst (taken_in s x ds f) levels 0 c
+  first_level_said = first_is (taken_in s x ds f) levels 0 c h
 
-  first_folder : IsFirst (λ d. candidate_at s x (path first_rank.place d f)) ds [] c
-  first_folder = first_is (λ d. candidate_at s x (path first_rank.place d f)) ds [] c (ap (taken_in s x ds f) (sym (level_is first_rank.place 0 first_rank.within)) ∙ first_rank.says)
+  first_folder : IsFirst (λ d. candidate_at s x (path first_level_said.place d f)) ds [] c
+  first_folder = first_is (λ d. candidate_at s x (path first_level_said.place d f)) ds [] c (ap (taken_in s x ds f) (sym (level_is first_level_said.place 0 first_level_said.within)) ∙ first_level_said.says)
 
-  lesser_rank : (r i : ℕ) → r < first_rank.place → i < length ds → candidate_at s x (path r (get_or ds i []) f) ≡ None
-  lesser_rank r i l w = none_says (λ d. candidate_at s x (path r d f)) ds [] (ap (taken_in s x ds f) (sym (level_is r 0 (omega (arith, first_rank.within, l)))) ∙ first_rank.before r l) i w
+  lesser_level : (r i : ℕ) → r < first_level_said.place → i < length ds → candidate_at s x (path r (get_or ds i []) f) ≡ None
+  lesser_level r i l w = none_says (λ d. candidate_at s x (path r d f)) ds [] (ap (taken_in s x ds f) (sym (level_is r 0 (omega (arith, first_level_said.within, l)))) ∙ first_level_said.before r l) i w
 
   module _ (d : Candidate) (q : PathParts) (i : ℕ) (st : Stands s x ds d q i) (n : q.name ≡ f) where
     clash : {C : Type 0} (r : ℕ) → q.rank ≡ r → candidate_at s x (path r (get_or ds i []) f) ≡ None → C
     clash r a none = absurd (none-some _ (sym none ∙ ap (candidate_at s x) (sym (parts q r (get_or ds i []) f a (sym (get_or_from_slice_get ds i q.folder [] st.folder_is)) n)) ∙ st.says))
 
-    same_rank : q.rank ≡ first_rank.place → (i < first_folder.place) ⊎ (first_folder.place ≤ i) → (first_rank.place < q.rank) ⊎ ((first_rank.place ≡ q.rank) × (first_folder.place ≤ i))
-    same_rank a (inl l) = clash first_rank.place a (first_folder.before i l)
-    same_rank a (inr l) = inr (sym a, l)
+    same_level : q.rank ≡ first_level_said.place → (i < first_folder.place) ⊎ (first_folder.place ≤ i) → (first_level_said.place < q.rank) ⊎ ((first_level_said.place ≡ q.rank) × (first_folder.place ≤ i))
+    same_level a (inl l) = clash first_level_said.place a (first_folder.before i l)
+    same_level a (inr l) = inr (sym a, l)
 
-    ranked : (q.rank < first_rank.place) ⊎ (first_rank.place ≤ q.rank) → (first_rank.place < q.rank) ⊎ (q.rank ≤ first_rank.place) → (first_rank.place < q.rank) ⊎ ((first_rank.place ≡ q.rank) × (first_folder.place ≤ i))
-    ranked (inl l) g = clash q.rank refl (lesser_rank q.rank i l (slice_get_within ds i q.folder st.folder_is))
-    ranked (inr l) (inl g) = inl g
-    ranked (inr l) (inr g) = same_rank (omega (arith, l, g)) (cases_lt i first_folder.place)
+    levelled : (q.rank < first_level_said.place) ⊎ (first_level_said.place ≤ q.rank) → (first_level_said.place < q.rank) ⊎ (q.rank ≤ first_level_said.place) → (first_level_said.place < q.rank) ⊎ ((first_level_said.place ≡ q.rank) × (first_folder.place ≤ i))
+    levelled (inl l) g = clash q.rank refl (lesser_level q.rank i l (slice_get_within ds i q.folder st.folder_is))
+    levelled (inr l) (inl g) = inl g
+    levelled (inr l) (inr g) = same_level (omega (arith, l, g)) (cases_lt i first_folder.place)
 
   pub found_is_taken : TakenFor s x ds f c
   found_is_taken = record {
-    path = path first_rank.place (get_or ds first_folder.place []) f;
+    path = path first_level_said.place (get_or ds first_folder.place []) f;
     name_is = refl;
     taken = record {
       place = first_folder.place;
-      stands = record { level_within = first_rank.within; folder_is = slice_get-get_or ds first_folder.place [] first_folder.within; says = first_folder.says };
-      least = λ d q i st n. ranked d q i st n (cases_lt q.rank first_rank.place) (cases_lt first_rank.place q.rank);
+      stands = record { level_within = first_level_said.within; folder_is = slice_get-get_or ds first_folder.place [] first_folder.within; says = first_folder.says };
+      least = λ d q i st n. levelled d q i st n (cases_lt q.rank first_level_said.place) (cases_lt first_level_said.place q.rank);
     };
   }
 

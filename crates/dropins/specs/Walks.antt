@@ -9,7 +9,7 @@ use Rattle.list_laws.specs.FirstSaid.{first_said}
 use Rattle.load_path.specs.Paths.{PathParts}
 use Rattle.load_places.specs.Levels.{first_level}
 use Rattle.edit_sums.specs.Sums.{shown}
-use Rattle.path_maps.specs.Views.{View}
+use Rattle.path_maps.specs.Views.{View, seen}
 use Rattle.dropins.specs.declared.precedence.Take.{Take}
 use Rattle.dropins.specs.declared.precedence.Take.TheVariants.{Nothing, Placed}
 use Rattle.dropins.specs.declared.precedence.Search.{Search}
@@ -34,13 +34,13 @@ said_for x f p = if bytes_eq p.0.name f then take_of x p else None
 
 -- the same of the entry at a path
 abbrev pub take_at : View → Search → PathParts → Option Take
-take_at s x q = option_and_then (λ e. take_of x (q, e)) (finmap.get s q)
+take_at s x q = option_and_then (λ e. take_of x (q, e)) (finmap.get (seen s) q)
 
 -- what candidates give for a file name: the first that has it
 abbrev pub first_for : List (List ℕ × Take) → List ℕ → Option Take
 first_for cs f = first_said (λ c. if bytes_eq c.0 f then Some c.1 else None) cs
 
--- what is taken for a file name in a directory's first folder that has something
+-- what is taken for a file name at a level, in the first folder that has something
 abbrev pub took_in : View → Search → List (List ℕ) → List ℕ → ℕ → Option Take
 took_in s x ds f r = first_said (λ d. take_at s x (path r d f)) ds
 
@@ -52,7 +52,7 @@ took s x ds f = first_level (took_in s x ds f)
 abbrev pub took_over : View → Search → List (List ℕ) → List (List ℕ) → List ℕ → Option Take
 took_over s x ds ts f = option_or (took s x ds f) (took s x ts f)
 
--- the candidate of a file name in a directory's first folder that has one
+-- the candidate of a file name at a level, in the first folder that has one
 abbrev pub taken_in : View → Search → List (List ℕ) → List ℕ → ℕ → Option Candidate
 taken_in s x ds f r = first_said (λ d. candidate_at s x (path r d f)) ds
 

@@ -1,5 +1,5 @@
 //! What is true of all stores and names: laws, each the contract of a function that does nothing.
-ghost use Rattle.dropins.specs.PrecedenceLaws.{RanksGoFirst, SomethingIsTaken, TakenOnce, MasksHide, FoldersDecide, RemovalsGiveBack};
+ghost use Rattle.dropins.specs.PrecedenceLaws.{LevelsGoFirst, SomethingIsTaken, TakenOnce, MasksHide, FoldersDecide, RemovalsGiveBack};
 ghost use Rattle.dropins.specs.CutLaws.{CutsAreDashedFronts, LongerCutsComeFirst};
 ghost use Rattle.dropins.specs.FolderLaws.{OneFolder, FoldersAreNames, FoldersStandOnce};
 ghost use Rattle.dropins.specs.FolderJoinLaws.{FoldersOfEach, FoldersJoin};
@@ -9,11 +9,11 @@ ghost use Rattle.dropins.specs.OverLaws.{NamesOrElseTypes, SomethingIsTakenOver,
 ghost use Rattle.dropins.specs.TypeLaws.{TypesAreKinds, OneType, FoldersKeepTypes, WordsAreNoNames, NoNameHasATypesFolder};
 ghost use Rattle.dropins.specs.TypeFolderLaws.{NamesGoFirst, TypesComeLast, MasksHideTypes, NamesAloneWithoutTypes};
 
-/// A directory's rank goes before the closeness of a folder. For each file name that anything
+/// A level goes before the closeness of a folder. For each file name that anything
 /// stands for one thing is taken; a mask that is taken hides all else, and once it is removed what
 /// was there counts again.
 pub fn precedence_laws()
-    ensures ranks { RanksGoFirst }
+    ensures levels { LevelsGoFirst }
     ensures some { SomethingIsTaken }
     ensures once { TakenOnce }
     ensures hidden { MasksHide }
@@ -53,7 +53,7 @@ pub fn type_folder_laws()
 {}
 
 /// What is in an order by file name says the order, whatever the folders. A drop-in is a file that
-/// isn't empty, and its name ends in `.conf`. The entries of drop-ins have these as their paths.
+/// isn't empty, and its name ends in `.conf`. The entries of drop-ins have these as their places.
 pub fn order_laws()
     ensures same { OneOrder }
     ensures files { DropInsAreFiles }

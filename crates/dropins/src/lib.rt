@@ -19,4 +19,4 @@ mod precedence;
 pub use folder_lists::{UnitFolders, folders};
 pub use laws::{folder_laws, order_laws, over_laws, precedence_laws, type_folder_laws, type_laws};
 pub use link_names::{Folder, links};
-pub use orders::order;
+pub use orders::{order, places_of};

@@ -1,15 +1,16 @@
 //! The units that link folders give.
 ghost use Rattle.std.specs.Prelude.{◌≡◌, ◌↔◌, ℕ, List, IfOk, map, filter};
 ghost use Rattle.std.specs.List.{Contains};
+ghost use Rattle.std.specs.Option.{option_copied};
 ghost use Rattle.std.specs.List.Sorted.{IsStrictlySortedBy};
-ghost use Rattle.path_maps.specs.Views.{fleet_of};
+ghost use Rattle.path_maps.specs.Views.{view_of};
 ghost use Rattle.unit_name.specs.Names.{Name, is_name, name_cmp};
 ghost use Rattle.dropins.specs.Taken.{IsLinked, IsLinkedOf, ending, entry_name};
 
 use crate::dirs::name_dirs;
 use crate::folder_lists::UnitFolders;
 use crate::precedence::{Search, taken_entries};
-use replica_store::{Seen, SeenEntry, Store};
+use replica_store::{HostName, Seen, SeenEntry, Store};
 use std::alloc::{AllocError, Global};
 use unit_name::{NameFault, UnitName};
 
@@ -39,10 +40,10 @@ impl UnitFolders {
     /// (systemd.unit(5), "Description").
     ///
     /// Only links count, and a link's own file name is the name that it gives. For each file name the
-    /// link of the least rank counts, and there that of the first folder of the list; where it leads to
+    /// link of the least level counts, and there that of the first folder of the list; where it leads to
     /// `/dev/null`, or where the file name is no unit name, it gives nothing. A type has no link folders.
     ///
-    /// A search in the store for each folder in each rank, and one sort by file name of the paths that
+    /// A search in the store for each folder at each level, and one sort by file name of the entries that
     /// stand there. It fails for want of memory alone.
     pub fn links(
         &self,
@@ -60,22 +61,23 @@ impl UnitFolders {
     }
 }
 
-/// The names that the link folders of a unit of these names give, in byte order: those of the names'
-/// folders.
+/// The names that the link folders of a unit of these names give, as a host sees them or as they are seen without one,
+/// in byte order: those of the names' folders.
 ///
 /// The folder list, and then as `UnitFolders::links`.
 pub fn links(
     alloc: Global,
     store: &Store,
+    host: Option<&HostName>,
     names: &[UnitName],
     folder: Folder,
 ) -> Result<Vec<UnitName>, AllocError>
     ensures rising { IfOk result (λ units. IsStrictlySortedBy name_cmp units.items) }
-    ensures exact { IfOk result (λ units. (n : Name) → Contains units.items n ↔ IsLinked (fleet_of store.now) names.now
+    ensures exact { IfOk result (λ units. (n : Name) → Contains units.items n ↔ IsLinked (view_of store.now (option_copied host.entry)) names.now
         folder n) }
 {
     let folders = UnitFolders::of(alloc, names)?;
-    folders.links(alloc, &store.fleet(), folder)
+    folders.links(alloc, &store.seen_by(host), folder)
 }
 
 // The file names that are unit names.

@@ -3,19 +3,20 @@ ghost use Rattle.std.specs.Prelude.{◌≡◌, ℕ, ◌↔◌, List, IfOk, OnOk,
 ghost use Rattle.std.specs.Option.{option_or};
 ghost use Rattle.std.specs.BTreeMap.{get, IsOrdered};
 ghost use Rattle.std.specs.FinMap as finmap;
+ghost use Rattle.path_maps.specs.Views.{seen as all_seen};
 ghost use Rattle.std.specs.List.{Contains};
 ghost use Rattle.std.specs.List.Sorted.{IsStrictlySortedBy};
 ghost use Rattle.load_path.specs.Paths.{PathParts};
 ghost use Rattle.edit_sums.specs.Entries.{Entry};
 ghost use Rattle.unit_name.specs.Names.{name_cmp};
-ghost use Rattle.dropins.specs.Taken.{is_conf, is_null, IsTakenOver, entry_name, entry_path};
+ghost use Rattle.dropins.specs.Taken.{is_conf, is_null, IsTakenOver, entry_name};
 ghost use Rattle.dropins.specs.Taken.Candidate.{At};
 ghost use Rattle.dropins.specs.declared.precedence.Search.TheVariants.{DropIns, Links};
 ghost use Rattle.dropins.specs.Walks.{first_for, path, said_for, take_at, take_of, took, took_in, took_over, unmasked};
 
-use load_path::LEVELS;
+use load_places::LEVELS;
 use plain_values::Bytes;
-use replica_store::{Content, LinkTarget, Path, Seen, SeenEntry};
+use replica_store::{Content, LinkTarget, Seen, SeenEntry};
 use std::alloc::{AllocError, Global};
 use std::collections::BTreeMap;
 
@@ -54,27 +55,16 @@ pub fn taken_entries<'a>(
     ensures rising { IfOk result (λ taken. IsStrictlySortedBy name_cmp (map entry_name taken.items)) }
     ensures exact { IfOk result (λ taken. (p : PathParts × Entry) → Contains taken.items p ↔
         (IsTakenOver seen.now search name_dirs.now type_dirs.now (At p.0) p.0
-        × (finmap.get seen.now p.0 ≡ Some p.1))) }
+        × (finmap.get (all_seen seen.now) p.0 ≡ Some p.1))) }
 {
     let takes = taken(alloc, seen, search, name_dirs, type_dirs)?;
     unmasked(alloc, takes)
 }
 
-/// The paths of entries, in their order.
-pub fn paths_of(alloc: Global, entries: &[SeenEntry]) -> Result<Vec<Path>, AllocError>
-    ensures paths { IfOk result (λ paths. paths.items ≡ map entry_path entries.now) }
-{
-    let mut paths = Vec::new(alloc);
-    for placed in entries {
-        paths.push(placed.path()?)?;
-    }
-    Ok(paths)
-}
-
 // For each file name what is taken in the folders of names, or else in those of types: each time at the least level, and
 // there in the first of the folders.
 //
-// A search in the store for each folder in each rank, and then one sort of all that stands there, which comes in runs:
+// A search in the store for each folder at each level, and then one sort of all that stands there, which comes in runs:
 // O(r log n + p log p) with p paths in r such folders.
 fn taken<'a>(
     alloc: Global,

@@ -7,18 +7,18 @@ use Rattle.edit_sums.specs.declared.contents.Content.{Content}
 use Rattle.edit_sums.specs.declared.contents.Content.TheVariants.{Gone, Link, File}
 use Rattle.edit_sums.specs.Entries.{Entry}
 use Rattle.edit_sums.specs.Sums.{shown}
-use Rattle.path_maps.specs.Views.{View}
+use Rattle.path_maps.specs.Views.{View, seen}
 use Rattle.unit_name.specs.Names.{Name}
-use Rattle.fragment_choice.specs.Choices.{content_says, own_path, says}
+use Rattle.fragment_choice.specs.Choices.{content_says, own_path, own_place, says}
 
-module _ (s : View) (n o : Name) (rank : ℕ) where
-  pub nothing_says : None ≡ finmap.get s (own_path o rank) → None ≡ says s n o rank
-  nothing_says e = ap (λ x. option_and_then (content_says n o (own_path o rank)) (option_and_then shown x)) e
+module _ (s : View) (n o : Name) (level : ℕ) where
+  pub nothing_says : None ≡ finmap.get (seen s) (own_path o level) → None ≡ says s n o level
+  nothing_says e = ap (λ x. option_and_then (content_says n o (own_place s o level)) (option_and_then shown x)) e
 
-  pub entry_says : (x : Entry) → Some x ≡ finmap.get s (own_path o rank) → content_says n o (own_path o rank) x.content ≡ says s n o rank
-  entry_says x e = by x.version x.content ∙ ap (λ y. option_and_then (content_says n o (own_path o rank)) (option_and_then shown y)) e
+  pub entry_says : (x : Entry) → Some x ≡ finmap.get (seen s) (own_path o level) → content_says n o (own_place s o level) x.content ≡ says s n o level
+  entry_says x e = by x.version x.content ∙ ap (λ y. option_and_then (content_says n o (own_place s o level)) (option_and_then shown y)) e
     where
-      by : (v : Version) (c : Content) → content_says n o (own_path o rank) c ≡ option_and_then (content_says n o (own_path o rank)) (shown (record { version = v; content = c }))
+      by : (v : Version) (c : Content) → content_says n o (own_place s o level) c ≡ option_and_then (content_says n o (own_place s o level)) (shown (record { version = v; content = c }))
       by v Gone = refl
       by v (Link target) = refl
       by v (File bytes) = refl

@@ -19,7 +19,7 @@ use Rattle.list_laws.specs.Members.{IsAmong, IsAmong-append_cases, IsAmong-appen
 use Rattle.path_maps.specs.Folders.{is_in}
 use Rattle.edit_sums.specs.Entries.{Entry}
 use Rattle.edit_sums.specs.Sums.{shown}
-use Rattle.path_maps.specs.Views.{View}
+use Rattle.path_maps.specs.Views.{View, seen}
 use Rattle.unit_name.specs.Names.{Name, name_cmp, IsName}
 use Rattle.unit_name.specs.NameLaws.{name_cmp-IsAntisymmetric, name_eq-Decides}
 use Rattle.fragment_choice.specs.declared.choices.Choice.{Choice}
@@ -63,17 +63,17 @@ pub record Collecting (Passes : Name → Type 0) (es : List (PathParts × Entry)
   pub kept : (n : Name) → IsAmong n old → IsAmong n new
   pub found : (n : Name) → Passes n → IsAmong n new ⊎ IsAny IsOwnEntry es n
 
--- a link that is found at a path of one component is one of the rank's entries
-find_own : (rank : ℕ) (q : PathParts) (es : List (PathParts × Entry)) (o : Option Entry) → find path_cmp q es ≡ o → is_link (option_and_then shown o) ≡ true → is_in rank [] q ≡ true → IsName q.name → IsAny IsOwnEntry (filter (λ p. is_in rank [] p.0) es) q.name
-find_own rank q [] o e h i lawful = absurd (nothing o e h)
+-- a link that is found at a path of one component is one of the level's entries
+find_own : (level : ℕ) (q : PathParts) (es : List (PathParts × Entry)) (o : Option Entry) → find path_cmp q es ≡ o → is_link (option_and_then shown o) ≡ true → is_in level [] q ≡ true → IsName q.name → IsAny IsOwnEntry (filter (λ p. is_in level [] p.0) es) q.name
+find_own level q [] o e h i lawful = absurd (nothing o e h)
   where
     nothing : (o : Option Entry) → None ≡ o → is_link (option_and_then shown o) ≡ true → ⊥
     nothing None e h = cc (h)
     nothing (Some x) e h = cc (e)
-find_own rank q (p ∷ es) o e h i lawful = by (path_cmp q p.0) refl e (λ f. find_own rank q es o f h i lawful)
+find_own level q (p ∷ es) o e h i lawful = by (path_cmp q p.0) refl e (λ f. find_own level q es o f h i lawful)
   where
     rest : List (PathParts × Entry)
-    rest = filter (λ p. is_in rank [] p.0) es
+    rest = filter (λ p. is_in level [] p.0) es
 
     behind : (b : Bool) → IsAny IsOwnEntry rest q.name → IsAny IsOwnEntry (cond b (p ∷ rest) rest) q.name
     behind true a = inr a
@@ -83,17 +83,17 @@ find_own rank q (p ∷ es) o e h i lawful = by (path_cmp q p.0) refl e (λ f. fi
     first true g a = inl a
     first false g a = cc (g)
 
-    by : (r : Ordering) → path_cmp q p.0 ≡ r → cond (is_eq r) (Some p.1) (find path_cmp q es) ≡ o → (find path_cmp q es ≡ o → IsAny IsOwnEntry rest q.name) → IsAny IsOwnEntry (cond (is_in rank [] p.0) (p ∷ rest) rest) q.name
-    by Less c f more = behind (is_in rank [] p.0) (more f)
+    by : (r : Ordering) → path_cmp q p.0 ≡ r → cond (is_eq r) (Some p.1) (find path_cmp q es) ≡ o → (find path_cmp q es ≡ o → IsAny IsOwnEntry rest q.name) → IsAny IsOwnEntry (cond (is_in level [] p.0) (p ∷ rest) rest) q.name
+    by Less c f more = behind (is_in level [] p.0) (more f)
     by Equal c f more =
         let same = path_cmp-IsAntisymmetric q p.0 c in
-        first (is_in rank [] p.0) (sym (ap (is_in rank []) same) ∙ i) (record { name = lawful; at = sym (ap (λ x. x.name) same); link = ap (λ x. is_link (option_and_then shown x)) f ∙ h })
-    by Greater c f more = behind (is_in rank [] p.0) (more f)
+        first (is_in level [] p.0) (sym (ap (is_in level []) same) ∙ i) (record { name = lawful; at = sym (ap (λ x. x.name) same); link = ap (λ x. is_link (option_and_then shown x)) f ∙ h })
+    by Greater c f more = behind (is_in level [] p.0) (more f)
 
-pub starts_collecting : (s : View) (rank : ℕ) (es : List (PathParts × Entry)) (old : List Name) → es ≡ filter (λ p. is_in rank [] p.0) (finmap.entries s) → Collecting (IsOwnAt s rank) es old old
-starts_collecting s rank es old e = record {
+pub starts_collecting : (s : View) (level : ℕ) (es : List (PathParts × Entry)) (old : List Name) → es ≡ filter (λ p. is_in level [] p.0) (finmap.entries (seen s)) → Collecting (IsOwnAt s level) es old old
+starts_collecting s level es old e = record {
   kept = λ n h. h;
-  found = λ n o. inr (subst (λ x. IsAny IsOwnEntry x n) (sym e) (find_own rank (own_path n rank) (finmap.entries s) (finmap.get s (own_path n rank)) (sym (finmap.get-entries s (own_path n rank))) o.link (and_from _ _ (eq-eqb rank rank refl) refl) o.name));
+  found = λ n o. inr (subst (λ x. IsAny IsOwnEntry x n) (sym e) (find_own level (own_path n level) (finmap.entries (seen s)) (finmap.get (seen s) (own_path n level)) (sym (finmap.get-entries (seen s) (own_path n level))) o.link (and_from _ _ (eq-eqb level level refl) refl) o.name));
 }
 
 -- one entry more was passed
@@ -116,22 +116,22 @@ collects_all P es old new e g = record { kept = g.kept; found = λ n o. by n (su
     by n (inl a) = a
     by n (inr a) = absurd a
 
--- links of the ranks below
+-- links of the levels below
 abbrev pub IsOwnBelow : View → ℕ → Name → Type 0
-IsOwnBelow s end n = (rank : ℕ) × (rank < end) × IsOwnAt s rank n
+IsOwnBelow s end n = (level : ℕ) × (level < end) × IsOwnAt s level n
 
-pub collects_rank : (s : View) (rank next : ℕ) (old mid new : List Name) → next ≡ suc rank → Collects (IsOwnBelow s rank) old mid → Collects (IsOwnAt s rank) mid new → Collects (IsOwnBelow s next) old new
-collects_rank s rank next old mid new q g h = collects_then (IsOwnBelow s rank) (IsOwnAt s rank) (IsOwnBelow s next) old mid new g h (λ n l. by n l)
+pub collects_level : (s : View) (level next : ℕ) (old mid new : List Name) → next ≡ suc level → Collects (IsOwnBelow s level) old mid → Collects (IsOwnAt s level) mid new → Collects (IsOwnBelow s next) old new
+collects_level s level next old mid new q g h = collects_then (IsOwnBelow s level) (IsOwnAt s level) (IsOwnBelow s next) old mid new g h (λ n l. by n l)
   where
-    by : (n : Name) → IsOwnBelow s next n → IsOwnBelow s rank n ⊎ IsOwnAt s rank n
-    by n (r, lt, l) = less_or (r == rank) refl
+    by : (n : Name) → IsOwnBelow s next n → IsOwnBelow s level n ⊎ IsOwnAt s level n
+    by n (r, lt, l) = less_or (r == level) refl
       where
-        less_or : (b : Bool) → (r == rank) ≡ b → IsOwnBelow s rank n ⊎ IsOwnAt s rank n
-        less_or true e = inr (subst (λ x. IsOwnAt s x n) (eqb-true r rank e) l)
-        less_or false e = inl (r, (let differs = eqb-false r rank e in omega arith), l)
+        less_or : (b : Bool) → (r == level) ≡ b → IsOwnBelow s level n ⊎ IsOwnAt s level n
+        less_or true e = inr (subst (λ x. IsOwnAt s x n) (eqb-true r level e) l)
+        less_or false e = inl (r, (let differs = eqb-false r level e in omega arith), l)
 
-pub collects_ranks : (s : View) (end : ℕ) (old new : List Name) → ((level : ℕ) → IsLevel level → level < end) → Collects (IsOwnBelow s end) old new → Collects (IsOwnLink s) old new
-collects_ranks s end old new all g = record { kept = g.kept; found = λ n o. by n o }
+pub collects_levels : (s : View) (end : ℕ) (old new : List Name) → ((level : ℕ) → IsLevel level → level < end) → Collects (IsOwnBelow s end) old new → Collects (IsOwnLink s) old new
+collects_levels s end old new all g = record { kept = g.kept; found = λ n o. by n o }
   where
     by : (n : Name) → IsOwnLink s n → IsAmong n new
     by n (r, lt, o) = g.found n (r, all r lt, o)
@@ -245,4 +245,4 @@ all_indexed s names choices owners g f = record {
 }
   where
     by : (o t : Name) → IsName o → own_choice s o o ≡ Some (Alias t) → ByLink s o o t → IsAmong o (owners_at owners t)
-    by o t lawful e l = f.there o t (g.found o (l.rank, l.within, record { name = lawful; link = ap is_link l.there })) e
+    by o t lawful e l = f.there o t (g.found o (l.level, l.within, record { name = lawful; link = ap is_link l.there })) e

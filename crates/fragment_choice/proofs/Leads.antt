@@ -12,10 +12,11 @@ use Rattle.unit_name.specs.Forms.{template_of, with_instance}
 use Rattle.unit_name.specs.NameLaws.{instances_have_the_template, templates_keep_parts}
 use Rattle.list_laws.specs.FirstSaid.{first_said}
 use Rattle.load_places.specs.Levels.{levels}
+use Rattle.load_places.specs.Places.{PlaceParts}
 use Rattle.fragment_choice.specs.declared.choices.Choice.{Choice}
 use Rattle.fragment_choice.specs.declared.choices.Choice.TheVariants.{NotFound, Masked, Alias, Bad}
 use Rattle.fragment_choice.specs.declared.choices.Cause.TheVariants.{Kind, Shape, Target}
-use Rattle.fragment_choice.specs.Choices.{alias_of, content_says, is_bad_kind, is_null, is_self, last_component, link_says, own_choice, own_path, says, shapes_agree, target_says}
+use Rattle.fragment_choice.specs.Choices.{alias_of, content_says, is_bad_kind, is_null, is_self, last_component, link_says, own_choice, own_path, own_place, says, shapes_agree, target_says}
 use Rattle.fragment_choice.specs.Resolutions.{Leads}
 use Rattle.fragment_choice.specs.LinkLaws.{IsPassed, alias_said, has_template, passed, template_alias}
 
@@ -88,7 +89,7 @@ module _ (n o : Name) (lawful : IsName n) (of : template_of n ≡ Some o) where
       by true e k = target_leads t m e k
       by false e k = cc (k)
 
-  content_passes : (p : PathParts) (c : Content) → content_says n o p c ≡ None → content_says o o p c ≡ None
+  content_passes : (p : PlaceParts) (c : Content) → content_says n o p c ≡ None → content_says o o p c ≡ None
   content_passes p Gone h = refl
   content_passes p (File []) h = cc (h)
   content_passes p (File (b ∷ bs)) h = cc (h)
@@ -98,7 +99,7 @@ module _ (n o : Name) (lawful : IsName n) (of : template_of n ≡ Some o) where
       by true k = cc (k)
       by false k = link_passes (last_component target) k
 
-  content_leads : (p : PathParts) (c : Content) (m : Name) → content_says n o p c ≡ Some (Alias m) → SaysTemplate (content_says o o p c) m
+  content_leads : (p : PlaceParts) (c : Content) (m : Name) → content_says n o p c ≡ Some (Alias m) → SaysTemplate (content_says o o p c) m
   content_leads p Gone m h = cc (h)
   content_leads p (File []) m h = cc (h)
   content_leads p (File (b ∷ bs)) m h = cc (h)
@@ -108,11 +109,11 @@ module _ (n o : Name) (lawful : IsName n) (of : template_of n ≡ Some o) where
       by true k = cc (k)
       by false k = link_leads (last_component target) m k
 
-  visible_passes : (p : PathParts) (v : Option Content) → option_and_then (content_says n o p) v ≡ None → option_and_then (content_says o o p) v ≡ None
+  visible_passes : (p : PlaceParts) (v : Option Content) → option_and_then (content_says n o p) v ≡ None → option_and_then (content_says o o p) v ≡ None
   visible_passes p None h = refl
   visible_passes p (Some c) h = content_passes p c h
 
-  visible_leads : (p : PathParts) (v : Option Content) (m : Name) → option_and_then (content_says n o p) v ≡ Some (Alias m) → SaysTemplate (option_and_then (content_says o o p) v) m
+  visible_leads : (p : PlaceParts) (v : Option Content) (m : Name) → option_and_then (content_says n o p) v ≡ Some (Alias m) → SaysTemplate (option_and_then (content_says o o p) v) m
   visible_leads p None m h = cc (h)
   visible_leads p (Some c) m h = content_leads p c m h
 
@@ -123,9 +124,9 @@ module _ (n o : Name) (lawful : IsName n) (of : template_of n ≡ Some o) where
       by : (x : Option Choice) → says s n o r ≡ x → (first_said (says s n o) rs ≡ Some (Alias m) → SaysTemplate (first_said (says s o o) rs) m) → option_or x (first_said (says s n o) rs) ≡ Some (Alias m) → SaysTemplate (first_said (says s o o) (r ∷ rs)) m
       by None e more k =
           let behind = more k in
-          record { target = behind.target; said = ap (λ x. option_or x (first_said (says s o o) rs)) (visible_passes (own_path o r) (seen_at s (own_path o r)) e) ∙ behind.said; template = behind.template }
+          record { target = behind.target; said = ap (λ x. option_or x (first_said (says s o o) rs)) (visible_passes (own_place s o r) (seen_at s (own_path o r)) e) ∙ behind.said; template = behind.template }
       by (Some c) e more k =
-          let at = visible_leads (own_path o r) (seen_at s (own_path o r)) m (e ∙ k) in
+          let at = visible_leads (own_place s o r) (seen_at s (own_path o r)) m (e ∙ k) in
           record { target = at.target; said = ap (λ x. option_or x (first_said (says s o o) rs)) at.said; template = at.template }
 
   pub template_leads : (s : View) (m : Name) → own_choice s n o ≡ Some (Alias m) → LeadsTemplate s o m

@@ -1,32 +1,34 @@
--- Laws of choices: lesser ranks come first, and only what is visible counts.
+-- Laws of choices: lesser levels come first, and only what is visible counts.
 use Rattle.std.proofs.Common.{◌≡◌, ◌≢◌, ℕ, ◌<◌, ◌≤◌, Option, Some, None, [], ◌∷◌, refl, ap, sym, ◌∙◌, cond, IsTrue, unwrap_or}
 use Rattle.std.specs.Option.{option_and_then, option_or}
 use Rattle.load_path.specs.Paths.{PathParts, path_cmp}
 use Rattle.load_path.specs.PathLaws.{path_cmp_total, path_cmp-IsAntisymmetric}
 use Rattle.edit_sums.specs.declared.contents.Content.{Content}
 use Rattle.edit_sums.specs.declared.contents.Content.TheVariants.{Gone, Link, File}
-use Rattle.path_maps.specs.Views.{View, seen_at}
+use Rattle.path_maps.specs.SeenLaws.{same_place}
+use Rattle.path_maps.specs.Views.{AreForOne, View, seen_at}
 use Rattle.unit_name.specs.Names.{Name}
 use Rattle.unit_name.specs.Forms.{template_of}
 use Rattle.list_laws.specs.Agreements.{agree_everywhere}
 use Rattle.list_laws.specs.FirstSaid.{first_same}
 use Rattle.load_places.specs.Levels.{IsLevel, levels}
 use Rattle.load_places.specs.LevelLaws.{first_at, both_say}
+use Rattle.load_places.specs.Places.{PlaceParts}
 use Rattle.fragment_choice.specs.declared.choices.Choice.{Choice}
 use Rattle.fragment_choice.specs.declared.choices.Choice.TheVariants.{NotFound, Masked}
-use Rattle.fragment_choice.specs.Choices.{choice, content_says, is_null, link_says, last_component, own_choice, own_path, says}
+use Rattle.fragment_choice.specs.Choices.{choice, content_says, is_null, link_says, last_component, own_choice, own_path, own_place, says}
 
--- the least rank that says anything of n under its own name makes the choice
-abbrev pub LeastRankChooses : Type 0
-LeastRankChooses = (s : View) (n : Name) (r : ℕ) (c : Choice) → IsLevel r → says s n n r ≡ Some c → ((k : ℕ) → k < r → says s n n k ≡ None) → choice s n ≡ c
+-- the least level that says anything of n under its own name makes the choice
+abbrev pub LeastLevelChooses : Type 0
+LeastLevelChooses = (s : View) (n : Name) (r : ℕ) (c : Choice) → IsLevel r → says s n n r ≡ Some c → ((k : ℕ) → k < r → says s n n k ≡ None) → choice s n ≡ c
 
--- where the own name says nothing, the least rank does that says anything of n under its template's
+-- where the own name says nothing, the least level does that says anything of n under its template's
 abbrev pub TemplatesComeLast : Type 0
 TemplatesComeLast = (s : View) (n o : Name) (r : ℕ) (c : Choice) → own_choice s n n ≡ None → template_of n ≡ Some o → IsLevel r → says s n o r ≡ Some c → ((k : ℕ) → k < r → says s n o k ≡ None) → choice s n ≡ c
 
--- a choice that is made up to a rank is the same in each store that shows the same up to there
-abbrev pub GreaterRanksDontCount : Type 0
-GreaterRanksDontCount = (s t : View) (n : Name) (r : ℕ) (c : Choice) → IsLevel r → says s n n r ≡ Some c → ((k : ℕ) → k ≤ r → seen_at t (own_path n k) ≡ seen_at s (own_path n k)) → choice t n ≡ choice s n
+-- a choice that is made up to a level is the same in each view that shows the same up to there
+abbrev pub GreaterLevelsDontCount : Type 0
+GreaterLevelsDontCount = (s t : View) → AreForOne s t → (n : Name) (r : ℕ) (c : Choice) → IsLevel r → says s n n r ≡ Some c → ((k : ℕ) → k ≤ r → seen_at t (own_path n k) ≡ seen_at s (own_path n k)) → choice t n ≡ choice s n
 
 -- an empty file, or a link to /dev/null
 abbrev pub IsMask : Content → Type 0
@@ -35,27 +37,27 @@ IsMask (Link target) = IsTrue (is_null target)
 IsMask (File []) = Unit {0}
 IsMask (File (b ∷ bs)) = ⊥
 
--- a mask hides whatever stands in greater ranks and for the template
+-- a mask hides whatever stands in greater levels and for the template
 abbrev pub MasksHide : Type 0
 MasksHide = (s : View) (n : Name) (r : ℕ) (x : Content) → IsLevel r → seen_at s (own_path n r) ≡ Some x → IsMask x → ((k : ℕ) → k < r → says s n n k ≡ None) → choice s n ≡ Masked
 
--- stores that show the same choose the same
+-- views for one host that show the same choose the same
 abbrev pub OnlyVisibleCounts : Type 0
-OnlyVisibleCounts = (s t : View) → ((p : PathParts) → seen_at s p ≡ seen_at t p) → (n : Name) → choice s n ≡ choice t n
+OnlyVisibleCounts = (s t : View) → AreForOne s t → ((p : PathParts) → seen_at s p ≡ seen_at t p) → (n : Name) → choice s n ≡ choice t n
 
--- stores that show the same at paths of one component choose the same, whatever their folders show
+-- views for one host that show the same at paths of one component choose the same, whatever their folders show
 abbrev pub OwnPathsCount : Type 0
-OwnPathsCount = (s t : View) → ((p : PathParts) → p.folder ≡ [] → seen_at s p ≡ seen_at t p) → (n : Name) → choice s n ≡ choice t n
+OwnPathsCount = (s t : View) → AreForOne s t → ((p : PathParts) → p.folder ≡ [] → seen_at s p ≡ seen_at t p) → (n : Name) → choice s n ≡ choice t n
 
--- a removal gives back what was there: the choice is that of a store that never had anything at the path
+-- a removal gives back what was there: the choice is that of a view that never had anything at the path
 abbrev pub RemovalsGiveBack : Type 0
-RemovalsGiveBack = (s t : View) (p : PathParts) → seen_at s p ≡ None → seen_at t p ≡ None → ((q : PathParts) → q ≢ p → seen_at s q ≡ seen_at t q) → (n : Name) → choice s n ≡ choice t n
+RemovalsGiveBack = (s t : View) → AreForOne s t → (p : PathParts) → seen_at s p ≡ None → seen_at t p ≡ None → ((q : PathParts) → q ≢ p → seen_at s q ≡ seen_at t q) → (n : Name) → choice s n ≡ choice t n
 
 own_chooses : (s : View) (n : Name) (c : Choice) → own_choice s n n ≡ Some c → choice s n ≡ c
 own_chooses s n c own = ap (λ o. unwrap_or (option_or o (option_and_then (own_choice s n) (template_of n))) NotFound) own
 
-pub least_rank_chooses : LeastRankChooses
-least_rank_chooses s n r c h e none = own_chooses s n c (first_at (says s n n) r c h e none)
+pub least_level_chooses : LeastLevelChooses
+least_level_chooses s n r c h e none = own_chooses s n c (first_at (says s n n) r c h e none)
 
 pub templates_come_last : TemplatesComeLast
 templates_come_last s n o r c nothing t h e none =
@@ -63,12 +65,16 @@ templates_come_last s n o r c nothing t h e none =
     ∙ ap (λ x. unwrap_or (option_and_then (own_choice s n) x) NotFound) t
     ∙ ap (λ x. unwrap_or x NotFound) (first_at (says s n o) r c h e none)
 
-pub greater_ranks_dont_count : GreaterRanksDontCount
-greater_ranks_dont_count s t n r c h e same =
-    let both = both_say (says s n n) (says t n n) r c h e (λ k l. ap (option_and_then (content_says n n (own_path n k))) (same k l)) in
+-- the same visible content says the same
+says_same : (s t : View) → AreForOne s t → (n o : Name) (k : ℕ) → seen_at s (own_path o k) ≡ seen_at t (own_path o k) → says s n o k ≡ says t n o k
+says_same s t one n o k same = (λ i. option_and_then (content_says n o (same_place s t one (own_path o k) i)) (same i))
+
+pub greater_levels_dont_count : GreaterLevelsDontCount
+greater_levels_dont_count s t one n r c h e same =
+    let both = both_say (says s n n) (says t n n) r c h e (λ k l. sym (says_same s t one n n k (sym (same k l)))) in
     own_chooses t n both.word both.second ∙ sym (own_chooses s n both.word both.first)
 
-mask_says : (n o : Name) (p : PathParts) (x : Content) → IsMask x → content_says n o p x ≡ Some Masked
+mask_says : (n o : Name) (p : PlaceParts) (x : Content) → IsMask x → content_says n o p x ≡ Some Masked
 mask_says n o p Gone m = absurd m
 mask_says n o p (Link target) m = ap (λ b. cond b (Some Masked) (link_says n o (last_component target))) m
 mask_says n o p (File []) m = refl
@@ -76,22 +82,22 @@ mask_says n o p (File (b ∷ bs)) m = absurd m
 
 pub masks_hide : MasksHide
 masks_hide s n r x h e m none =
-    least_rank_chooses s n r Masked h (ap (option_and_then (content_says n n (own_path n r))) e ∙ mask_says n n (own_path n r) x m) none
+    least_level_chooses s n r Masked h (ap (option_and_then (content_says n n (own_place s n r))) e ∙ mask_says n n (own_place s n r) x m) none
 
-own_same : (s t : View) → ((p : PathParts) → p.folder ≡ [] → seen_at s p ≡ seen_at t p) → (n o : Name) → own_choice s n o ≡ own_choice t n o
-own_same s t same n o = first_same (says s n o) (says t n o) (λ k. ap (option_and_then (content_says n o (own_path o k))) (same (own_path o k) refl)) levels
+own_same : (s t : View) → AreForOne s t → ((p : PathParts) → p.folder ≡ [] → seen_at s p ≡ seen_at t p) → (n o : Name) → own_choice s n o ≡ own_choice t n o
+own_same s t one same n o = first_same (says s n o) (says t n o) (λ k. says_same s t one n o k (same (own_path o k) refl)) levels
 
 pub own_paths_count : OwnPathsCount
-own_paths_count s t same n =
-    ap (λ o. unwrap_or (option_or o (option_and_then (own_choice s n) (template_of n))) NotFound) (own_same s t same n n)
+own_paths_count s t one same n =
+    ap (λ o. unwrap_or (option_or o (option_and_then (own_choice s n) (template_of n))) NotFound) (own_same s t one same n n)
     ∙ ap (λ o. unwrap_or (option_or (own_choice t n n) o) NotFound) (by (template_of n))
   where
     by : (o : Option Name) → option_and_then (own_choice s n) o ≡ option_and_then (own_choice t n) o
     by None = refl
-    by (Some o) = own_same s t same n o
+    by (Some o) = own_same s t one same n o
 
 pub only_visible_counts : OnlyVisibleCounts
-only_visible_counts s t same n = own_paths_count s t (λ p _. same p) n
+only_visible_counts s t one same n = own_paths_count s t one (λ p _. same p) n
 
 pub removals_give_back : RemovalsGiveBack
-removals_give_back s t p removed absent same = only_visible_counts s t (agree_everywhere path_cmp path_cmp_total path_cmp-IsAntisymmetric (seen_at s) (seen_at t) p (removed ∙ sym absent) same)
+removals_give_back s t one p removed absent same = only_visible_counts s t one (agree_everywhere path_cmp path_cmp_total path_cmp-IsAntisymmetric (seen_at s) (seen_at t) p (removed ∙ sym absent) same)

@@ -7,9 +7,10 @@ use Rattle.std.specs.Str.{bytes_eq}
 use Rattle.std.specs.Ordering.{eq_by_cmp}
 use Rattle.load_path.specs.Paths.{PathParts}
 use Rattle.load_places.specs.Levels.{first_level}
+use Rattle.load_places.specs.Places.{PlaceParts}
 use Rattle.edit_sums.specs.declared.contents.Content.{Content}
 use Rattle.edit_sums.specs.declared.contents.Content.TheVariants.{Gone, Link, File}
-use Rattle.path_maps.specs.Views.{View, seen_at}
+use Rattle.path_maps.specs.Views.{View, seen_at, seen_place}
 use Rattle.path_maps.specs.Folders.{path_at}
 use Rattle.unit_name.specs.declared.kinds.Kind.{Kind as UnitKind}
 use Rattle.unit_name.specs.declared.kinds.Kind.TheVariants.{Service, Socket, Device, Mount, Automount, Swap, Target as TargetKind, Path, Timer, Slice, Scope}
@@ -100,20 +101,23 @@ target_says n o t =
 abbrev pub link_says : Name → Name → List ℕ → Option Choice
 link_says n o t = if is_name t then target_says n o t else Some (Bad Target)
 
--- what the content at the path p of the own name o says of n
-abbrev pub content_says : Name → Name → PathParts → Content → Option Choice
+-- what the content at the place p of the own name o says of n
+abbrev pub content_says : Name → Name → PlaceParts → Content → Option Choice
 content_says n o p Gone = None
 content_says n o p (File []) = Some Masked
 content_says n o p (File (b ∷ bs)) = Some (Fragment p)
 content_says n o p (Link target) = if is_null target then Some Masked else link_says n o (last_component target)
 
--- the path of one component that a name has at a rank
+-- the path of one component at which a name is seen at a level, and the place behind it
 abbrev pub own_path : Name → ℕ → PathParts
-own_path o rank = path_at rank [] o
+own_path o level = path_at level [] o
 
--- what is visible of the own name o at a rank says this of n
+abbrev pub own_place : View → Name → ℕ → PlaceParts
+own_place s o level = seen_place s (own_path o level)
+
+-- what is visible of the own name o at a level says this of n
 abbrev pub says : View → Name → Name → ℕ → Option Choice
-says s n o rank = option_and_then (content_says n o (own_path o rank)) (seen_at s (own_path o rank))
+says s n o level = option_and_then (content_says n o (own_place s o level)) (seen_at s (own_path o level))
 
 -- what the least level says that says anything of n under the own name o
 abbrev pub own_choice : View → Name → Name → Option Choice

@@ -1,51 +1,52 @@
--- Laws of fragments: each is a file that is visible and isn't empty, at a path of one component.
+-- Laws of fragments: each is a file that is visible and isn't empty, at a place whose path has one component.
 use Rattle.std.proofs.Common.{◌≡◌, ℕ, Bool, true, false, cond, Option, Some, None, List, [], ◌∷◌, refl, sym, ap, ◌∙◌}
 use Rattle.std.specs.Prelude.{unwrap_or}
 use Rattle.std.specs.Option.{option_and_then, option_or}
-use Rattle.load_path.specs.Paths.{PathParts}
 use Rattle.edit_sums.specs.declared.contents.Content.{Content}
 use Rattle.edit_sums.specs.declared.contents.Content.TheVariants as content
-use Rattle.path_maps.specs.Views.{View, seen_at}
+use Rattle.path_maps.specs.SeenLaws.{content_seen}
+use Rattle.path_maps.specs.Views.{View, content_at, seen_at}
 use Rattle.unit_name.specs.declared.names.Shape.{Shape}
 use Rattle.unit_name.specs.declared.names.Shape.TheVariants.{Plain, Template, Instance}
 use Rattle.unit_name.specs.Names.{Name, shape, instance, kind, is_name}
 use Rattle.unit_name.specs.Forms.{template_of, with_instance}
 use Rattle.list_laws.specs.FirstSaid.{first_said}
 use Rattle.load_places.specs.Levels.{levels}
+use Rattle.load_places.specs.Places.{PlaceParts}
 use Rattle.fragment_choice.specs.declared.choices.Choice.{Choice}
 use Rattle.fragment_choice.specs.declared.choices.Choice.TheVariants.{NotFound, Masked, Fragment, Bad}
 use Rattle.fragment_choice.specs.declared.resolutions.Resolution.{Resolution}
-use Rattle.fragment_choice.specs.Choices.{choice, own_choice, says, content_says, link_says, alias_of, alias_to, own_path, is_null, is_self, is_bad_kind, shapes_agree, last_component}
+use Rattle.fragment_choice.specs.Choices.{choice, own_choice, says, content_says, link_says, alias_of, alias_to, own_path, own_place, is_null, is_self, is_bad_kind, shapes_agree, last_component}
 use Rattle.fragment_choice.specs.declared.choices.Cause.TheVariants as cause
 use Rattle.fragment_choice.specs.Resolutions.{Resolves, resolution}
 use Rattle.fragment_choice.specs.Resolutions.Resolves.{ends_at, goes_on}
 use Rattle.fragment_choice.specs.ResolutionLaws.{resolution_resolves}
 
--- a file that isn't empty is visible at the path
-abbrev pub IsFileAt : View → PathParts → Type 0
-IsFileAt s p = (b : ℕ) × (bs : List ℕ) × (seen_at s p ≡ Some (content.File (b ∷ bs)))
+-- a file that isn't empty is visible at the place
+abbrev pub IsFileAt : View → PlaceParts → Type 0
+IsFileAt s p = (b : ℕ) × (bs : List ℕ) × (content_at s p ≡ Some (content.File (b ∷ bs)))
 
 -- the fragment that stands for a name is such a file
 abbrev pub FragmentsAreFiles : Type 0
-FragmentsAreFiles = (s : View) (n : Name) (p : PathParts) → (resolution s n).choice ≡ Fragment p → IsFileAt s p
+FragmentsAreFiles = (s : View) (n : Name) (p : PlaceParts) → (resolution s n).choice ≡ Fragment p → IsFileAt s p
 
 -- and its path has one component
 abbrev pub FragmentsHaveNoFolder : Type 0
-FragmentsHaveNoFolder = (s : View) (n : Name) (p : PathParts) → (resolution s n).choice ≡ Fragment p → p.folder ≡ []
+FragmentsHaveNoFolder = (s : View) (n : Name) (p : PlaceParts) → (resolution s n).choice ≡ Fragment p → p.path.folder ≡ []
 
 -- both at once
-abbrev IsOwnFile : View → PathParts → Type 0
-IsOwnFile s p = IsFileAt s p × (p.folder ≡ [])
+abbrev IsOwnFile : View → PlaceParts → Type 0
+IsOwnFile s p = IsFileAt s p × (p.path.folder ≡ [])
 
 -- an answer that is no fragment
-abbrev IsOther : Option Choice → PathParts → Type 0
+abbrev IsOther : Option Choice → PlaceParts → Type 0
 IsOther o p = o ≡ Some (Fragment p) → ⊥
 
-alias_other : (o : Option Name) (p : PathParts) → IsOther (Some (alias_to o)) p
+alias_other : (o : Option Name) (p : PlaceParts) → IsOther (Some (alias_to o)) p
 alias_other None p e = cc (e)
 alias_other (Some m) p e = cc (e)
 
-made_other : (x : Shape) (n : Name) (y : Shape) (t : Name) (p : PathParts) → IsOther (Some (alias_of x n y t)) p
+made_other : (x : Shape) (n : Name) (y : Shape) (t : Name) (p : PlaceParts) → IsOther (Some (alias_of x n y t)) p
 made_other Plain n y t p e = cc (e)
 made_other Template n y t p e = cc (e)
 made_other Instance n Plain t p e = cc (e)
@@ -53,7 +54,7 @@ made_other Instance n Template t p e = alias_other (with_instance t (instance n)
 made_other Instance n Instance t p e = cc (e)
 
 -- no link gives a fragment
-link_other : (n o : Name) (t : List ℕ) (p : PathParts) → IsOther (link_says n o t) p
+link_other : (n o : Name) (t : List ℕ) (p : PlaceParts) → IsOther (link_says n o t) p
 link_other n o t p e = by (is_name t) (is_self o t) (is_bad_kind (kind o) (kind t)) (shapes_agree (shape o) (instance o) (shape t) (instance t)) e
   where
     by : (a b c d : Bool) → IsOther (cond a (cond b None (cond c (Some (Bad cause.Kind)) (cond d (Some (alias_of (shape n) n (shape t) t)) (Some (Bad cause.Shape))))) (Some (Bad cause.Target))) p
@@ -63,7 +64,7 @@ link_other n o t p e = by (is_name t) (is_self o t) (is_bad_kind (kind o) (kind 
     by true false false true e = made_other (shape n) n (shape t) t p e
     by true false false false e = cc (e)
 
-content_file : (n o : Name) (q p : PathParts) (c : Content) → content_says n o q c ≡ Some (Fragment p) → (b : ℕ) × (bs : List ℕ) × (c ≡ content.File (b ∷ bs)) × (q ≡ p)
+content_file : (n o : Name) (q p : PlaceParts) (c : Content) → content_says n o q c ≡ Some (Fragment p) → (b : ℕ) × (bs : List ℕ) × (c ≡ content.File (b ∷ bs)) × (q ≡ p)
 content_file n o q p content.Gone e = cc (e)
 content_file n o q p (content.File []) e = cc (e)
 content_file n o q p (content.File (b ∷ bs)) e = (b, bs, refl, cc)
@@ -73,16 +74,16 @@ content_file n o q p (content.Link target) e = absurd (by (is_null target) e)
     by true e = cc (e)
     by false e = link_other n o (last_component target) p e
 
-said_file : (s : View) (n o : Name) (rank : ℕ) (p : PathParts) → says s n o rank ≡ Some (Fragment p) → IsOwnFile s p
-said_file s n o rank p e = by (seen_at s (own_path o rank)) refl e
+said_file : (s : View) (n o : Name) (level : ℕ) (p : PlaceParts) → says s n o level ≡ Some (Fragment p) → IsOwnFile s p
+said_file s n o level p e = by (seen_at s (own_path o level)) refl e
   where
-    by : (y : Option Content) → seen_at s (own_path o rank) ≡ y → option_and_then (content_says n o (own_path o rank)) y ≡ Some (Fragment p) → IsOwnFile s p
+    by : (y : Option Content) → seen_at s (own_path o level) ≡ y → option_and_then (content_says n o (own_place s o level)) y ≡ Some (Fragment p) → IsOwnFile s p
     by None at e = cc (e)
     by (Some c) at e =
-        let file = content_file n o (own_path o rank) p c e in
-        ((file.0, file.1, ap (seen_at s) (sym file.3) ∙ at ∙ ap Some file.2), ap (λ (q : PathParts). q.folder) (sym file.3))
+        let file = content_file n o (own_place s o level) p c e in
+        ((file.0, file.1, ap (content_at s) (sym file.3) ∙ content_seen s (own_path o level) c at ∙ ap Some file.2), ap (λ (q : PlaceParts). q.path.folder) (sym file.3))
 
-first_file : (s : View) (n o : Name) (rs : List ℕ) (p : PathParts) → first_said (says s n o) rs ≡ Some (Fragment p) → IsOwnFile s p
+first_file : (s : View) (n o : Name) (rs : List ℕ) (p : PlaceParts) → first_said (says s n o) rs ≡ Some (Fragment p) → IsOwnFile s p
 first_file s n o [] p e = cc (e)
 first_file s n o (r ∷ rs) p e = by (says s n o r) refl (first_file s n o rs p) e
   where
@@ -90,7 +91,7 @@ first_file s n o (r ∷ rs) p e = by (says s n o r) refl (first_file s n o rs p)
     by None at later e = later e
     by (Some c) at later e = said_file s n o r p (at ∙ e)
 
-chosen_file : (s : View) (n : Name) (p : PathParts) → choice s n ≡ Fragment p → IsOwnFile s p
+chosen_file : (s : View) (n : Name) (p : PlaceParts) → choice s n ≡ Fragment p → IsOwnFile s p
 chosen_file s n p e = by (own_choice s n n) refl (template_of n) e
   where
     by : (y : Option Choice) → own_choice s n n ≡ y → (t : Option Name) → unwrap_or (option_or y (option_and_then (own_choice s n) t)) NotFound ≡ Fragment p → IsOwnFile s p
@@ -102,7 +103,7 @@ chosen_file s n p e = by (own_choice s n n) refl (template_of n) e
         of_template None there e = cc (e)
         of_template (Some c) there e = first_file s n o levels p (there ∙ ap Some e)
 
-resolved_file : (s : View) (n : Name) (r : Resolution) (p : PathParts) → Resolves s n r → r.choice ≡ Fragment p → IsOwnFile s p
+resolved_file : (s : View) (n : Name) (r : Resolution) (p : PlaceParts) → Resolves s n r → r.choice ≡ Fragment p → IsOwnFile s p
 resolved_file s n r p (ends_at k u short chain ends) e = chosen_file s u p e
 resolved_file s n r p (goes_on u chain) e = cc (e)
 

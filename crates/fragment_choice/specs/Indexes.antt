@@ -77,14 +77,14 @@ pub record IsOwnEntry (p : PathParts × Entry) (n : Name) : Type 0 where
   pub at : p.0.name ≡ n
   pub link : IsTrue (is_link (shown p.1))
 
--- a unit name that has a visible link of its own at this rank
-pub record IsOwnAt (s : View) (rank : ℕ) (n : Name) : Type 0 where
+-- a unit name that has a visible link of its own at this level
+pub record IsOwnAt (s : View) (level : ℕ) (n : Name) : Type 0 where
   pub name : IsName n
-  pub link : IsTrue (is_link (seen_at s (own_path n rank)))
+  pub link : IsTrue (is_link (seen_at s (own_path n level)))
 
--- the same at some rank
+-- the same at some level
 abbrev pub IsOwnLink : View → Name → Type 0
-IsOwnLink s n = (rank : ℕ) × IsLevel rank × IsOwnAt s rank n
+IsOwnLink s n = (level : ℕ) × IsLevel level × IsOwnAt s level n
 
 -- names were added: those that pass are all there
 pub record Collects (Passes : Name → Type 0) (old new : List Name) : Type 0 where

@@ -19,13 +19,13 @@ use Rattle.fragment_choice.specs.declared.choices.Choice.{Choice}
 use Rattle.fragment_choice.specs.declared.choices.Choice.TheVariants.{Masked, Alias, Bad}
 use Rattle.fragment_choice.specs.declared.choices.Cause.{Cause}
 use Rattle.fragment_choice.specs.declared.choices.Cause.TheVariants.{Kind, Shape, Loop, Target}
-use Rattle.fragment_choice.specs.Choices.{alias_of, alias_to, content_says, has_no_alias, is_bad_kind, is_null, is_self, last_component, link_says, own_path, says, shapes_agree}
+use Rattle.fragment_choice.specs.Choices.{alias_of, alias_to, content_says, has_no_alias, is_bad_kind, is_null, is_self, last_component, link_says, own_path, own_place, says, shapes_agree}
 use Rattle.fragment_choice.specs.SilenceLaws.{told, leads_to_itself, itself_leads}
 
--- a link is visible under the name o at a rank, and its target, which isn't /dev/null, ends in the component t
-pub record LinkStands (s : View) (o : Name) (rank : ℕ) (t : List ℕ) : Type 0 where
+-- a link is visible under the name o at a level, and its target, which isn't /dev/null, ends in the component t
+pub record LinkStands (s : View) (o : Name) (level : ℕ) (t : List ℕ) : Type 0 where
   pub target : List ℕ
-  pub there : seen_at s (own_path o rank) ≡ Some (Link target)
+  pub there : seen_at s (own_path o level) ≡ Some (Link target)
   pub no_mask : target ≢ codes "/dev/null"
   pub component : last_component target ≡ t
 
@@ -61,15 +61,15 @@ pub record GrowsTooLong (n o t : Name) : Type 0 where
 
 -- a link is bad by its kind just where it is heeded and the kinds clash, whatever the shapes
 abbrev pub KindsMakeBad : Type 0
-KindsMakeBad = (s : View) (n o t : Name) (rank : ℕ) → IsName o → LinkStands s o rank t → (says s n o rank ≡ Some (Bad Kind)) ↔ (IsHeeded o t × KindsClash o t)
+KindsMakeBad = (s : View) (n o t : Name) (level : ℕ) → IsName o → LinkStands s o level t → (says s n o level ≡ Some (Bad Kind)) ↔ (IsHeeded o t × KindsClash o t)
 
 -- and by its shape just where the kinds don't clash and the shapes do
 abbrev pub ShapesMakeBad : Type 0
-ShapesMakeBad = (s : View) (n o t : Name) (rank : ℕ) → IsName o → LinkStands s o rank t → (says s n o rank ≡ Some (Bad Shape)) ↔ (IsHeeded o t × (KindsClash o t → ⊥) × ShapesClash o t)
+ShapesMakeBad = (s : View) (n o t : Name) (level : ℕ) → IsName o → LinkStands s o level t → (says s n o level ≡ Some (Bad Shape)) ↔ (IsHeeded o t × (KindsClash o t → ⊥) × ShapesClash o t)
 
 -- and by its target just where that ends in no unit's name, or makes a name that is too long
 abbrev pub TargetsMakeBad : Type 0
-TargetsMakeBad = (s : View) (n o t : Name) (rank : ℕ) → IsName n → IsName o → LinkStands s o rank t → (says s n o rank ≡ Some (Bad Target)) ↔ ((IsName t → ⊥) ⊎ GrowsTooLong n o t)
+TargetsMakeBad = (s : View) (n o t : Name) (level : ℕ) → IsName n → IsName o → LinkStands s o level t → (says s n o level ≡ Some (Bad Target)) ↔ ((IsName t → ⊥) ⊎ GrowsTooLong n o t)
 
 -- what a good link to t makes of n: a template with the part of the instance n, else t itself
 pub data IsAliasOf (n t m : Name) : Type 0 where
@@ -78,17 +78,17 @@ pub data IsAliasOf (n t m : Name) : Type 0 where
 
 -- a link makes an alias just where it is heeded and neither the kinds nor the shapes clash
 abbrev pub GoodLinksMakeAliases : Type 0
-GoodLinksMakeAliases = (s : View) (n o t m : Name) (rank : ℕ) → IsName n → IsName o → LinkStands s o rank t → (says s n o rank ≡ Some (Alias m)) ↔ (IsHeeded o t × (KindsClash o t → ⊥) × (ShapesClash o t → ⊥) × IsAliasOf n t m)
+GoodLinksMakeAliases = (s : View) (n o t m : Name) (level : ℕ) → IsName n → IsName o → LinkStands s o level t → (says s n o level ≡ Some (Alias m)) ↔ (IsHeeded o t × (KindsClash o t → ⊥) × (ShapesClash o t → ⊥) × IsAliasOf n t m)
 
 -- no single link is a loop
 abbrev pub NoLinkIsALoop : Type 0
-NoLinkIsALoop = (s : View) (n o t : Name) (rank : ℕ) → LinkStands s o rank t → says s n o rank ≢ Some (Bad Loop)
+NoLinkIsALoop = (s : View) (n o t : Name) (level : ℕ) → LinkStands s o level t → says s n o level ≢ Some (Bad Loop)
 
 -- ---- the four tests in words
 
-said_link : (s : View) (n o t : Name) (rank : ℕ) → LinkStands s o rank t → says s n o rank ≡ link_says n o t
-said_link s n o t rank k =
-    ap (option_and_then (content_says n o (own_path o rank))) k.there
+said_link : (s : View) (n o t : Name) (level : ℕ) → LinkStands s o level t → says s n o level ≡ link_says n o t
+said_link s n o t level k =
+    ap (option_and_then (content_says n o (own_place s o level))) k.there
     ∙ by (is_null k.target) refl
     ∙ ap (link_says n o) k.component
   where
@@ -298,33 +298,33 @@ told_by : (a b c d e f g h : Bool) (x : Choice) → a ≡ e → b ≡ f → c �
 told_by a b c d e f g h x p q r s = cc
 
 pub kinds_make_bad : KindsMakeBad
-kinds_make_bad s n o t rank lawful stands = (there, back)
+kinds_make_bad s n o t level lawful stands = (there, back)
   where
-    there : says s n o rank ≡ Some (Bad Kind) → IsHeeded o t × KindsClash o t
+    there : says s n o level ≡ Some (Bad Kind) → IsHeeded o t × KindsClash o t
     there h =
-        let k = kind_told (is_name t) (is_self o t) (is_bad_kind (kind o) (kind t)) (agree o t) (alias_of (shape n) n (shape t) t) (λ e. cc ((unmade n t Kind e).cause)) (sym (said_link s n o t rank stands) ∙ h) in
+        let k = kind_told (is_name t) (is_self o t) (is_bad_kind (kind o) (kind t)) (agree o t) (alias_of (shape n) n (shape t) t) (λ e. cc ((unmade n t Kind e).cause)) (sym (said_link s n o t level stands) ∙ h) in
         (heeded o t k.0 k.1, kinds_clash o t lawful k.0 k.2)
 
-    back : IsHeeded o t × KindsClash o t → says s n o rank ≡ Some (Bad Kind)
+    back : IsHeeded o t × KindsClash o t → says s n o level ≡ Some (Bad Kind)
     back (k, c) =
-        said_link s n o t rank stands
+        said_link s n o t level stands
         ∙ told_by (is_name t) (is_self o t) (is_bad_kind (kind o) (kind t)) (agree o t) true false true (agree o t) (alias_of (shape n) n (shape t) t) k.name (is_heeded o t k) (are_bad_kinds o t lawful k.name c) refl
 
 pub shapes_make_bad : ShapesMakeBad
-shapes_make_bad s n o t rank lawful stands = (there, back)
+shapes_make_bad s n o t level lawful stands = (there, back)
   where
-    there : says s n o rank ≡ Some (Bad Shape) → IsHeeded o t × (KindsClash o t → ⊥) × ShapesClash o t
+    there : says s n o level ≡ Some (Bad Shape) → IsHeeded o t × (KindsClash o t → ⊥) × ShapesClash o t
     there h =
-        let k = shape_told (is_name t) (is_self o t) (is_bad_kind (kind o) (kind t)) (agree o t) (alias_of (shape n) n (shape t) t) (λ e. cc ((unmade n t Shape e).cause)) (sym (said_link s n o t rank stands) ∙ h) in
+        let k = shape_told (is_name t) (is_self o t) (is_bad_kind (kind o) (kind t)) (agree o t) (alias_of (shape n) n (shape t) t) (λ e. cc ((unmade n t Shape e).cause)) (sym (said_link s n o t level stands) ∙ h) in
         (heeded o t k.0 k.1, no_clash o t lawful k.0 k.2, shapes_clash o t k.3)
 
-    back : IsHeeded o t × (KindsClash o t → ⊥) × ShapesClash o t → says s n o rank ≡ Some (Bad Shape)
+    back : IsHeeded o t × (KindsClash o t → ⊥) × ShapesClash o t → says s n o level ≡ Some (Bad Shape)
     back (k, c, d) =
-        said_link s n o t rank stands
+        said_link s n o t level stands
         ∙ told_by (is_name t) (is_self o t) (is_bad_kind (kind o) (kind t)) (agree o t) true false false false (alias_of (shape n) n (shape t) t) k.name (is_heeded o t k) (kinds_fit o t lawful k.name c) (shapes_differ o t d)
 
 pub targets_make_bad : TargetsMakeBad
-targets_make_bad s n o t rank named lawful stands = (there, back)
+targets_make_bad s n o t level named lawful stands = (there, back)
   where
     grown : IsLast (is_name t) (is_self o t) (is_bad_kind (kind o) (kind t)) (agree o t) (alias_of (shape n) n (shape t) t) → GrowsTooLong n o t
     grown k =
@@ -342,23 +342,23 @@ targets_make_bad s n o t rank named lawful stands = (there, back)
     pick (inl e) = inl (λ h. true≢false (sym h ∙ e))
     pick (inr k) = inr (grown k)
 
-    there : says s n o rank ≡ Some (Bad Target) → (IsName t → ⊥) ⊎ GrowsTooLong n o t
-    there h = pick (target_told (is_name t) (is_self o t) (is_bad_kind (kind o) (kind t)) (agree o t) (alias_of (shape n) n (shape t) t) (sym (said_link s n o t rank stands) ∙ h))
+    there : says s n o level ≡ Some (Bad Target) → (IsName t → ⊥) ⊎ GrowsTooLong n o t
+    there h = pick (target_told (is_name t) (is_self o t) (is_bad_kind (kind o) (kind t)) (agree o t) (alias_of (shape n) n (shape t) t) (sym (said_link s n o t level stands) ∙ h))
 
-    back : (IsName t → ⊥) ⊎ GrowsTooLong n o t → says s n o rank ≡ Some (Bad Target)
+    back : (IsName t → ⊥) ⊎ GrowsTooLong n o t → says s n o level ≡ Some (Bad Target)
     back (inl h) =
-        said_link s n o t rank stands
+        said_link s n o t level stands
         ∙ told_by (is_name t) (is_self o t) (is_bad_kind (kind o) (kind t)) (agree o t) false (is_self o t) (is_bad_kind (kind o) (kind t)) (agree o t) (alias_of (shape n) n (shape t) t) (false_from_ne_true (is_name t) h) refl refl refl
     back (inr k) =
-        said_link s n o t rank stands
+        said_link s n o t level stands
         ∙ told_by (is_name t) (is_self o t) (is_bad_kind (kind o) (kind t)) (agree o t) true false false true (alias_of (shape n) n (shape t) t) k.heeded.name (is_heeded o t k.heeded) (kinds_fit o t lawful k.heeded.name k.kinds) (shapes_fit o t k.shapes)
         ∙ ap (λ x. Some (alias_of x n (shape t) t)) k.of_instance
         ∙ ap (λ x. Some (alias_of Instance n x t)) k.to_template
         ∙ ap (λ m. Some (alias_to m)) (with_part_is n t named k.of_instance k.to_template ∙ too_long _ k.long)
 
 pub no_link_is_a_loop : NoLinkIsALoop
-no_link_is_a_loop s n o t rank stands h =
-    loop_told (is_name t) (is_self o t) (is_bad_kind (kind o) (kind t)) (agree o t) (alias_of (shape n) n (shape t) t) (λ e. cc ((unmade n t Loop e).cause)) (sym (said_link s n o t rank stands) ∙ h)
+no_link_is_a_loop s n o t level stands h =
+    loop_told (is_name t) (is_self o t) (is_bad_kind (kind o) (kind t)) (agree o t) (alias_of (shape n) n (shape t) t) (λ e. cc ((unmade n t Loop e).cause)) (sym (said_link s n o t level stands) ∙ h)
 
 -- ---- good links
 
@@ -406,15 +406,15 @@ alias_made n t m h (itself d e) = by (shape n) (shape t) refl refl
     by Instance Instance a b = ap (λ x. Alias x) (sym e)
 
 pub good_links_make_aliases : GoodLinksMakeAliases
-good_links_make_aliases s n o t m rank named lawful stands = (there, back)
+good_links_make_aliases s n o t m level named lawful stands = (there, back)
   where
-    there : says s n o rank ≡ Some (Alias m) → IsHeeded o t × (KindsClash o t → ⊥) × (ShapesClash o t → ⊥) × IsAliasOf n t m
+    there : says s n o level ≡ Some (Alias m) → IsHeeded o t × (KindsClash o t → ⊥) × (ShapesClash o t → ⊥) × IsAliasOf n t m
     there h =
-        let k = alias_told (is_name t) (is_self o t) (is_bad_kind (kind o) (kind t)) (agree o t) (alias_of (shape n) n (shape t) t) m (sym (said_link s n o t rank stands) ∙ h) in
+        let k = alias_told (is_name t) (is_self o t) (is_bad_kind (kind o) (kind t)) (agree o t) (alias_of (shape n) n (shape t) t) m (sym (said_link s n o t level stands) ∙ h) in
         (heeded o t k.0 k.1, no_clash o t lawful k.0 k.2, λ c. true≢false (sym k.3 ∙ shapes_differ o t c), made_alias n t m named k.4)
 
-    back : IsHeeded o t × (KindsClash o t → ⊥) × (ShapesClash o t → ⊥) × IsAliasOf n t m → says s n o rank ≡ Some (Alias m)
+    back : IsHeeded o t × (KindsClash o t → ⊥) × (ShapesClash o t → ⊥) × IsAliasOf n t m → says s n o level ≡ Some (Alias m)
     back (k, c, d, a) =
-        said_link s n o t rank stands
+        said_link s n o t level stands
         ∙ told_by (is_name t) (is_self o t) (is_bad_kind (kind o) (kind t)) (agree o t) true false false true (alias_of (shape n) n (shape t) t) k.name (is_heeded o t k) (kinds_fit o t lawful k.name c) (shapes_fit o t d)
         ∙ ap (λ x. Some x) (alias_made n t m named a)

@@ -17,7 +17,7 @@ use Rattle.fragment_choice.specs.declared.choices.Choice.{Choice}
 use Rattle.fragment_choice.specs.declared.choices.Choice.TheVariants.{NotFound, Masked, Fragment, Alias, Bad}
 use Rattle.fragment_choice.specs.declared.choices.Cause.TheVariants.{Kind, Shape, Target}
 use Rattle.fragment_choice.specs.declared.resolutions.Resolution.{Resolution}
-use Rattle.fragment_choice.specs.Choices.{alias_of, alias_to, content_says, is_bad_kind, is_null, is_self, last_component, link_says, own_choice, own_path, says, shapes_agree, target_says}
+use Rattle.fragment_choice.specs.Choices.{alias_of, alias_to, content_says, is_bad_kind, is_null, is_self, last_component, link_says, own_choice, own_path, own_place, says, shapes_agree, target_says}
 use Rattle.fragment_choice.specs.Resolutions.{Chain, Leads, Resolves, main, resolution}
 use Rattle.fragment_choice.specs.Resolutions.Chain.{here, step}
 use Rattle.fragment_choice.specs.Resolutions.Resolves.{ends_at, goes_on}
@@ -26,7 +26,7 @@ use Rattle.fragment_choice.specs.LinkedNames.{is_link, IsLinkedAt}
 
 -- a name that is an alias has a visible link of its own name or of its template's
 abbrev pub AliasesHaveLinks : Type 0
-AliasesHaveLinks = (s : View) (n m : Name) → Leads s n m → (rank : ℕ) × IsLevel rank × IsLinkedAt s rank n
+AliasesHaveLinks = (s : View) (n m : Name) → Leads s n m → (level : ℕ) × IsLevel level × IsLinkedAt s level n
 
 -- an instance's main name is an instance too, of the same instance part
 abbrev pub InstancesKeepTheirPart : Type 0
@@ -34,10 +34,10 @@ InstancesKeepTheirPart = (s : View) (n : Name) → IsName n → shape n ≡ Inst
 
 -- the link that made a name an alias
 pub record ByLink (s : View) (n o m : Name) : Type 0 where
-  pub rank : ℕ
-  pub within : IsLevel rank
+  pub level : ℕ
+  pub within : IsLevel level
   pub target : List ℕ
-  pub there : seen_at s (own_path o rank) ≡ Some (Link target)
+  pub there : seen_at s (own_path o level) ≡ Some (Link target)
   pub said : target_says n o (last_component target) ≡ Some (Alias m)
   pub lawful : IsName (last_component target)
 
@@ -49,14 +49,14 @@ null_or false n o t m h = by (is_name t) refl h
     by true e k = (e, k)
     by false e k = cc (k)
 
-by_link : (s : View) (n o m : Name) (r : ℕ) → IsLevel r → (v : Option Content) → seen_at s (own_path o r) ≡ v → option_and_then (content_says n o (own_path o r)) v ≡ Some (Alias m) → ByLink s n o m
+by_link : (s : View) (n o m : Name) (r : ℕ) → IsLevel r → (v : Option Content) → seen_at s (own_path o r) ≡ v → option_and_then (content_says n o (own_place s o r)) v ≡ Some (Alias m) → ByLink s n o m
 by_link s n o m r within None e h = cc (h)
 by_link s n o m r within (Some Gone) e h = cc (h)
 by_link s n o m r within (Some (File [])) e h = cc (h)
 by_link s n o m r within (Some (File (b ∷ bs))) e h = cc (h)
 by_link s n o m r within (Some (Link t)) e h =
     let k = null_or (is_null t) n o (last_component t) m h in
-    record { rank = r; within = within; target = t; there = e; said = k.1; lawful = k.0 }
+    record { level = r; within = within; target = t; there = e; said = k.1; lawful = k.0 }
 
 pub own_link : (s : View) (n o m : Name) → own_choice s n o ≡ Some (Alias m) → ByLink s n o m
 own_link s n o m h =
@@ -87,7 +87,7 @@ has_link s n m h = by_own (own_choice s n n) refl h
 pub aliases_have_links : AliasesHaveLinks
 aliases_have_links s n m h =
     let l = has_link s n m h in
-    (l.link.rank, l.link.within, (l.owner, record { link = ap is_link l.link.there; owner = l.owns }))
+    (l.link.level, l.link.within, (l.owner, record { link = ap is_link l.link.there; owner = l.owns }))
 
 -- what a link that makes an alias has passed
 pub record IsPassed (n o t m : Name) : Type 0 where

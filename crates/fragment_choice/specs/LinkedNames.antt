@@ -18,11 +18,11 @@ is_link (Some Gone) = false
 is_link (Some (Link target)) = true
 is_link (Some (File bytes)) = false
 
--- n or its template is o, and at this rank a visible link has this name
-pub record IsLinkedBy (s : View) (rank : ℕ) (o n : Name) : Type 0 where
-  pub link : IsTrue (is_link (seen_at s (own_path o rank)))
+-- n or its template is o, and at this level a visible link has this name
+pub record IsLinkedBy (s : View) (level : ℕ) (o n : Name) : Type 0 where
+  pub link : IsTrue (is_link (seen_at s (own_path o level)))
   pub owner : (o ≡ n) ⊎ (template_of n ≡ Some o)
 
--- a link at this rank gives the name n
+-- a link at this level gives the name n
 abbrev pub IsLinkedAt : View → ℕ → Name → Type 0
-IsLinkedAt s rank n = (o : Name) × IsLinkedBy s rank o n
+IsLinkedAt s level n = (o : Name) × IsLinkedBy s level o n

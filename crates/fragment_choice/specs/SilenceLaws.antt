@@ -9,12 +9,11 @@ use Rattle.std.proofs.lemmas.Bool.{true≢false, or_right}
 use Rattle.std.proofs.lemmas.Option.{none-some, same_Some}
 use Rattle.std.proofs.lemmas.Slice.Eq.{bytes_eq-Decides}
 use Rattle.list_laws.specs.Orderings.{is_equal}
-use Rattle.load_path.specs.Paths.{PathParts}
 use Rattle.edit_sums.specs.declared.contents.Content.{Content}
 use Rattle.edit_sums.specs.declared.contents.Content.TheVariants as content
 use Rattle.edit_sums.specs.Entries.{Entry}
 use Rattle.edit_sums.specs.Sums.{shown}
-use Rattle.path_maps.specs.Views.{View, seen_at}
+use Rattle.path_maps.specs.Views.{View, seen, seen_at}
 use Rattle.std.specs.FinMap as finmap
 use Rattle.unit_name.specs.declared.names.Shape.{Shape}
 use Rattle.unit_name.specs.declared.names.Shape.TheVariants.{Plain, Template, Instance}
@@ -24,9 +23,10 @@ use Rattle.unit_name.specs.Forms.{template_of, with_instance}
 use Rattle.fragment_choice.specs.declared.choices.Choice.{Choice}
 use Rattle.fragment_choice.specs.declared.choices.Choice.TheVariants.{NotFound, Masked, Bad}
 use Rattle.fragment_choice.specs.declared.choices.Cause.TheVariants as cause
-use Rattle.fragment_choice.specs.Choices.{alias_of, alias_to, choice, content_says, is_bad_kind, is_null, is_same, is_self, is_that, last_component, link_says, own_choice, own_path, says, shapes_agree, target_says}
+use Rattle.fragment_choice.specs.Choices.{alias_of, alias_to, choice, content_says, is_bad_kind, is_null, is_same, is_self, is_that, last_component, link_says, own_choice, own_path, own_place, says, shapes_agree, target_says}
 use Rattle.load_places.specs.Levels.{IsLevel}
 use Rattle.load_places.specs.LevelLaws.{said_by, none_said, all_none}
+use Rattle.load_places.specs.Places.{PlaceParts}
 
 -- a link that is passed over: it leads to the name o that it has itself, or to the template of o
 pub record IsPassedOver (o : Name) (x : Content) : Type 0 where
@@ -37,7 +37,7 @@ pub record IsPassedOver (o : Name) (x : Content) : Type 0 where
 
 -- nothing speaks under the name o: whatever is visible of it in the four directories is passed over
 abbrev pub NothingSpeaks : View → Name → Type 0
-NothingSpeaks s o = (rank : ℕ) (x : Content) → IsLevel rank → seen_at s (own_path o rank) ≡ Some x → IsPassedOver o x
+NothingSpeaks s o = (level : ℕ) (x : Content) → IsLevel level → seen_at s (own_path o level) ≡ Some x → IsPassedOver o x
 
 -- a name is not found just where nothing speaks under it, nor under its template
 abbrev pub SilenceIsNotFound : Type 0
@@ -96,7 +96,7 @@ link_found true false true d x h e = cc (e)
 link_found true false false true x h e = h (same_Some _ _ e)
 link_found true false false false x h e = cc (e)
 
-content_found : (n o : Name) (p : PathParts) (x : Content) → content_says n o p x ≡ Some NotFound → ⊥
+content_found : (n o : Name) (p : PlaceParts) (x : Content) → content_says n o p x ≡ Some NotFound → ⊥
 content_found n o p content.Gone e = cc (e)
 content_found n o p (content.File []) e = cc (e)
 content_found n o p (content.File (b ∷ bs)) e = cc (e)
@@ -112,12 +112,12 @@ content_found n o p (content.Link target) e = by (is_null target) e
         (shapes_agree (shape o) (instance o) (shape (last_component target)) (instance (last_component target))) (alias_of (shape n) n (shape (last_component target)) (last_component target))
         (alias_found (shape n) n (shape (last_component target)) (last_component target)) h
 
-said_found : (s : View) (n o : Name) (rank : ℕ) → says s n o rank ≡ Some NotFound → ⊥
-said_found s n o rank e = by (seen_at s (own_path o rank)) e
+said_found : (s : View) (n o : Name) (level : ℕ) → says s n o level ≡ Some NotFound → ⊥
+said_found s n o level e = by (seen_at s (own_path o level)) e
   where
-    by : (y : Option Content) → option_and_then (content_says n o (own_path o rank)) y ≡ Some NotFound → ⊥
+    by : (y : Option Content) → option_and_then (content_says n o (own_place s o level)) y ≡ Some NotFound → ⊥
     by None h = cc (h)
-    by (Some x) h = content_found n o (own_path o rank) x h
+    by (Some x) h = content_found n o (own_place s o level) x h
 
 own_found : (s : View) (n o : Name) → own_choice s n o ≡ Some NotFound → ⊥
 own_found s n o e = let w = said_by (says s n o) NotFound e in said_found s n o w.0 w.2
@@ -131,7 +131,7 @@ told_nothing true false true d x e = cc (e)
 told_nothing true false false true x e = cc (e)
 told_nothing true false false false x e = cc (e)
 
-passed_over : (n o : Name) (p : PathParts) (x : Content) → (x ≡ content.Gone → ⊥) → content_says n o p x ≡ None → IsPassedOver o x
+passed_over : (n o : Name) (p : PlaceParts) (x : Content) → (x ≡ content.Gone → ⊥) → content_says n o p x ≡ None → IsPassedOver o x
 passed_over n o p content.Gone g e = absurd (g refl)
 passed_over n o p (content.File []) g e = cc (e)
 passed_over n o p (content.File (b ∷ bs)) g e = cc (e)
@@ -145,7 +145,7 @@ passed_over n o p (content.Link target) g e = by (is_null target) e
         (shapes_agree (shape o) (instance o) (shape (last_component target)) (instance (last_component target))) (alias_of (shape n) n (shape (last_component target)) (last_component target)) h in
         record { target = target; link = refl; name = k.0; itself = leads_to_itself o (last_component target) k.1 }
 
-nothing_said : (n o : Name) (p : PathParts) (x : Content) → IsPassedOver o x → content_says n o p x ≡ None
+nothing_said : (n o : Name) (p : PlaceParts) (x : Content) → IsPassedOver o x → content_says n o p x ≡ None
 nothing_said n o p x k =
     let t : List ℕ = last_component k.target in
     ap (content_says n o p) k.link
@@ -171,16 +171,16 @@ gone_hidden None e = cc (e)
 gone_hidden (Some x) e = shown_content x e
 
 silent : (s : View) (n o : Name) → own_choice s n o ≡ None → NothingSpeaks s o
-silent s n o e rank x h v =
-    passed_over n o (own_path o rank) x (λ g. gone_hidden (finmap.get s (own_path o rank)) (v ∙ ap (λ y. Some y) g))
-    (sym (ap (option_and_then (content_says n o (own_path o rank))) v) ∙ none_said (says s n o) e rank h)
+silent s n o e level x h v =
+    passed_over n o (own_place s o level) x (λ g. gone_hidden (finmap.get (seen s) (own_path o level)) (v ∙ ap (λ y. Some y) g))
+    (sym (ap (option_and_then (content_says n o (own_place s o level))) v) ∙ none_said (says s n o) e level h)
 
 speechless : (s : View) (n o : Name) → NothingSpeaks s o → own_choice s n o ≡ None
-speechless s n o quiet = all_none (says s n o) (λ rank h. by rank h (seen_at s (own_path o rank)) refl)
+speechless s n o quiet = all_none (says s n o) (λ level h. by level h (seen_at s (own_path o level)) refl)
   where
-    by : (rank : ℕ) → IsLevel rank → (y : Option Content) → seen_at s (own_path o rank) ≡ y → option_and_then (content_says n o (own_path o rank)) y ≡ None
-    by rank h None e = refl
-    by rank h (Some x) e = nothing_said n o (own_path o rank) x (quiet rank x h e)
+    by : (level : ℕ) → IsLevel level → (y : Option Content) → seen_at s (own_path o level) ≡ y → option_and_then (content_says n o (own_place s o level)) y ≡ None
+    by level h None e = refl
+    by level h (Some x) e = nothing_said n o (own_place s o level) x (quiet level x h e)
 
 pub silence_is_not_found : SilenceIsNotFound
 silence_is_not_found s n = (there, back)

@@ -2,7 +2,8 @@
 ghost use Rattle.std.specs.Prelude.{◌≡◌, [], Some, IfOk, OnOk};
 ghost use Rattle.std.specs.BTreeMap.{Updates};
 ghost use Rattle.edit_sums.specs.Sums.{shown};
-ghost use Rattle.path_maps.specs.Views.{fleet_of};
+ghost use Rattle.path_maps.specs.Views.{view_of};
+ghost use Rattle.std.specs.Option.{option_copied};
 ghost use Rattle.unit_name.specs.Names.{name_cmp};
 ghost use Rattle.fragment_choice.specs.Choices.{own_choice};
 ghost use Rattle.fragment_choice.specs.Indexes.{AreOwners, Collects, IsIndexOf, IsOwnAt, IsOwnEntry, IsOwnLink, Puts, PutsSaid};
@@ -10,8 +11,8 @@ ghost use Rattle.fragment_choice.specs.LinkedNames.{is_link, unit_of};
 
 use crate::choices::{Choice, Chooses, own_choice, template_choice};
 use crate::names::put;
-use load_path::LEVELS;
-use replica_store::{Content, Seen, SeenEntry, Store};
+use load_places::LEVELS;
+use replica_store::{Content, HostName, Seen, SeenEntry, Store};
 use std::alloc::{AllocError, Global};
 use std::collections::{BTreeMap, BTreeSet};
 use std::marker::Model;
@@ -23,9 +24,9 @@ type Owners = BTreeMap<UnitName, Vec<UnitName>>;
 // What their own paths say, for names.
 type OwnChoices = BTreeMap<UnitName, Option<Choice>>;
 
-/// The aliases of a store by what they are aliases of, and what each name chooses that has a link
-/// of its own. Made once, it resolves the names of the store, which it borrows, and finds those of
-/// each unit: in contracts it is what is seen of the store.
+/// The aliases that a host sees of a store, or that are seen without one, by what they are aliases of, and what each name
+/// chooses that has a link of its own. Made once, it resolves the names of the store, which it borrows, and finds those
+/// of each unit: in contracts it is what is looked at of the store.
 #[derive(Drop)]
 pub struct AliasIndex<'a> {
     seen: Seen<'a>,
@@ -34,15 +35,12 @@ pub struct AliasIndex<'a> {
 }
 
 impl<'a> Model for AliasIndex<'a> {
-    ghost use Rattle.std.specs.FinMap as finmap;
-    ghost use Rattle.load_path.specs.PathLaws.{coded_path};
-    ghost use Rattle.edit_sums.specs.EntryCodes.{coded_entry};
-    ghost use Rattle.path_maps.specs.Views.{View};
+    ghost use Rattle.path_maps.specs.Views.{View, coded_view};
     ghost use Rattle.fragment_choice.specs.Indexes.{IsIndexOf};
 
     ghost Value = { View };
 
-    ghost coded = { finmap.code coded_path coded_entry };
+    ghost coded = { coded_view };
 
     ghost view = { λ index. index.seen };
 
@@ -50,13 +48,16 @@ impl<'a> Model for AliasIndex<'a> {
 }
 
 impl<'a> AliasIndex<'a> {
-    /// The index of a store. One pass over its paths of one component; then for each unit name that
-    /// has a link there one choice, which is kept, and places for it are found. It fails for want of
-    /// memory alone.
-    pub fn of(alloc: Global, store: &'a Store) -> Result<AliasIndex<'a>, AllocError>
-        ensures seen { IfOk result (λ index. index ≡ fleet_of store.now) }
+    /// The index of a store for a host, or without one. One pass over its places of one component that are looked at; then
+    /// for each unit name that has a link there one choice, which is kept. It fails for want of memory alone.
+    pub fn of(
+        alloc: Global,
+        store: &'a Store,
+        host: Option<&'a HostName>,
+    ) -> Result<AliasIndex<'a>, AllocError>
+        ensures seen { IfOk result (λ index. index ≡ view_of store.now (option_copied host.entry)) }
     {
-        let seen = store.fleet();
+        let seen = store.seen_by(host);
         let (choices, owners) = indexed(alloc, &seen)?;
         Ok(AliasIndex {
             seen,

@@ -1,13 +1,14 @@
 //! The choice of a unit's main file.
 ghost use Rattle.std.specs.Prelude.{◌≡◌, IfOk};
-ghost use Rattle.path_maps.specs.Views.{View, fleet_of};
+ghost use Rattle.std.specs.Option.{option_copied};
+ghost use Rattle.path_maps.specs.Views.{View, seen_place, view_of};
 ghost use Rattle.unit_name.specs.Names.{IsName};
 ghost use Rattle.fragment_choice.specs.Choices.{choice, own_choice, says, content_says, link_says};
 ghost use Rattle.fragment_choice.specs.Indexes.{template_choice};
 
 use crate::links::{last_component, target_says};
-use load_path::LEVELS;
-use replica_store::{Content, Path, Seen, SeenEntry, Store};
+use load_places::LEVELS;
+use replica_store::{Content, HostName, Place, Seen, SeenEntry, Store};
 use std::alloc::{AllocError, Global};
 use thiserror::Error;
 use unit_name::{NameFault, UnitName};
@@ -36,8 +37,8 @@ pub enum Choice {
     NotFound,
     /// An empty file or a link to `/dev/null`.
     Masked,
-    /// The file at this path.
-    Fragment(Path),
+    /// The file at this place.
+    Fragment(Place),
     /// The unit of this name.
     Alias(UnitName),
     /// A link that no unit may have.
@@ -52,7 +53,7 @@ impl Choice {
         match self {
             Choice::NotFound => Ok(Choice::NotFound),
             Choice::Masked => Ok(Choice::Masked),
-            Choice::Fragment(path) => Ok(Choice::Fragment(path.try_clone()?)),
+            Choice::Fragment(place) => Ok(Choice::Fragment(place.try_clone()?)),
             Choice::Alias(name) => Ok(Choice::Alias(name.try_clone()?)),
             Choice::Bad(cause) => Ok(Choice::Bad(*cause)),
         }
@@ -80,16 +81,21 @@ impl<'a> Chooses for Seen<'a> {
     }
 }
 
-/// What stands for a name: what is visible of it at the least rank that isn't passed over, and
-/// for an instance that has nothing of its own what is visible of its template
+/// What stands for a name, as a host sees it or as it is seen without one: what is visible of it at the least level that
+/// isn't passed over, and for an instance that has nothing of its own what is visible of its template
 /// (systemd.unit(5), "Unit File Load Path").
 ///
-/// It asks the store at most eight times, at four ranks for the name and for its template. Each
-/// is a search for which no path is built. It fails for want of memory alone.
-pub fn choose(alloc: Global, store: &Store, name: &UnitName) -> Result<Choice, AllocError>
-    ensures choice { IfOk result (λ chosen. chosen ≡ choice (fleet_of store.now) name.now) }
+/// It asks the store at most sixteen times, at eight levels for the name and for its template; at most eight times
+/// for a host without places of its own. Each is a search for which no path is built. It fails for want of memory alone.
+pub fn choose(
+    alloc: Global,
+    store: &Store,
+    host: Option<&HostName>,
+    name: &UnitName,
+) -> Result<Choice, AllocError>
+    ensures choice { IfOk result (λ chosen. chosen ≡ choice (view_of store.now (option_copied host.entry)) name.now) }
 {
-    store.fleet().choose(alloc, name)
+    store.seen_by(host).choose(alloc, name)
 }
 
 /// What the visible paths of a name's template say of the name: nothing stands for it where there
@@ -138,18 +144,20 @@ fn says(
 {
     match seen.entry_at(level, b"", own.bytes()) {
         None => Ok(None),
-        Some(placed) => entry_says(alloc, name, own, &placed),
+        Some(placed) => entry_says(alloc, seen, name, own, &placed),
     }
 }
 
-// What an entry says at a path of the own name.
+// What an entry says that is seen at a path of the own name.
 fn entry_says(
     alloc: Global,
+    seen: &Seen,
     name: &UnitName,
     own: &UnitName,
     placed: &SeenEntry,
 ) -> Result<Option<Choice>, AllocError>
-    ensures said { IfOk result (λ said. said ≡ content_says name.now own.now placed.now.0 placed.now.1.content) }
+    ensures said { IfOk result (λ said. said ≡ content_says name.now own.now
+        (seen_place seen.now placed.now.0) placed.now.1.content) }
 {
     match &placed.entry().content {
         Content::Gone => Ok(None),
@@ -157,7 +165,7 @@ fn entry_says(
             if file.bytes().is_empty() {
                 return Ok(Some(Choice::Masked));
             }
-            Ok(Some(Choice::Fragment(placed.path()?)))
+            Ok(Some(Choice::Fragment(seen.place(placed)?)))
         }
         Content::Link(target) => {
             if target.bytes() == b"/dev/null".as_slice() {

@@ -1,6 +1,6 @@
 //! What is true of all choices and resolutions: laws, each the contract of a function that does
 //! nothing.
-ghost use Rattle.fragment_choice.specs.ChoiceLaws.{LeastRankChooses, TemplatesComeLast, GreaterRanksDontCount, MasksHide, OnlyVisibleCounts, OwnPathsCount, RemovalsGiveBack};
+ghost use Rattle.fragment_choice.specs.ChoiceLaws.{LeastLevelChooses, TemplatesComeLast, GreaterLevelsDontCount, MasksHide, OnlyVisibleCounts, OwnPathsCount, RemovalsGiveBack};
 ghost use Rattle.fragment_choice.specs.SilenceLaws.{SilenceIsNotFound};
 ghost use Rattle.fragment_choice.specs.LinkLaws.{AliasesHaveLinks, InstancesKeepTheirPart};
 ghost use Rattle.fragment_choice.specs.LinkCaseLaws.{KindsMakeBad, ShapesMakeBad, TargetsMakeBad, NoLinkIsALoop, GoodLinksMakeAliases};
@@ -9,14 +9,14 @@ ghost use Rattle.fragment_choice.specs.ResolutionLaws.{ChoicesDecide, FollowingF
 ghost use Rattle.fragment_choice.specs.FragmentLaws.{FragmentsAreFiles, FragmentsHaveNoFolder};
 ghost use Rattle.fragment_choice.specs.UnitNameLaws.{MainsDecide, NamesHaveTheMain, NamesDontMeet, OneListOfNames};
 
-/// The least rank that says anything chooses, whatever greater ranks hold; a mask hides these, and
+/// The least level that says anything chooses, whatever greater levels hold; a mask hides these, and
 /// a removal gives back what was there. Only what is visible counts, and of it only paths of one
 /// component. A name is not found just where all that is visible of it and of its template is passed
 /// over.
 pub fn choice_laws()
-    ensures least { LeastRankChooses }
+    ensures least { LeastLevelChooses }
     ensures templates { TemplatesComeLast }
-    ensures greater { GreaterRanksDontCount }
+    ensures greater { GreaterLevelsDontCount }
     ensures masks { MasksHide }
     ensures visible { OnlyVisibleCounts }
     ensures own { OwnPathsCount }

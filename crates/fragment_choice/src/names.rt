@@ -3,7 +3,8 @@ ghost use Rattle.std.specs.Prelude.{◌≡◌, Some, [], ◌∷◌, ◌↔◌, I
 ghost use Rattle.std.specs.BTreeSet.{insert_key};
 ghost use Rattle.std.specs.List.Sorted.{IsStrictlySortedBy};
 ghost use Rattle.list_laws.specs.Members.{IsAmong};
-ghost use Rattle.path_maps.specs.Views.{fleet_of};
+ghost use Rattle.path_maps.specs.Views.{view_of};
+ghost use Rattle.std.specs.Option.{option_copied};
 ghost use Rattle.unit_name.specs.Names.{name_cmp};
 ghost use Rattle.fragment_choice.specs.Choices.{choice};
 ghost use Rattle.fragment_choice.specs.Resolutions.{Leads, main};
@@ -12,22 +13,27 @@ ghost use Rattle.fragment_choice.specs.Indexes.{Adds, AreBehind, Gathers, IsLead
 
 use crate::aliases::AliasIndex;
 use crate::choices::{Choice, Chooses};
-use replica_store::Store;
+use replica_store::{HostName, Store};
 use std::alloc::{AllocError, Global};
 use std::collections::BTreeSet;
 use unit_name::UnitName;
 
-/// The names of a unit (systemd.unit(5), "Description"): its own, which has to be its main name,
+/// The names of a unit, as a host sees it or as it is seen without one (systemd.unit(5), "Description"): its own, which has to be its main name,
 /// and then in byte order the others whose main name it is, also those that only a link of their
 /// template gives.
 ///
 /// It makes an index of the whole store; for the names of several units make one and ask it. It
 /// fails for want of memory alone.
-pub fn names_of(alloc: Global, store: &Store, name: &UnitName) -> Result<Vec<UnitName>, AllocError>
-    requires main { main (fleet_of store.now) name.now ≡ name.now }
-    ensures names { IfOk result (λ names. AreNames (fleet_of store.now) name.now names.items) }
+pub fn names_of(
+    alloc: Global,
+    store: &Store,
+    host: Option<&HostName>,
+    name: &UnitName,
+) -> Result<Vec<UnitName>, AllocError>
+    requires main { main (view_of store.now (option_copied host)) name.now ≡ name.now }
+    ensures names { IfOk result (λ names. AreNames (view_of store.now (option_copied host.entry)) name.now names.items) }
 {
-    AliasIndex::of(alloc, store)?.names_of(alloc, name)
+    AliasIndex::of(alloc, store, host)?.names_of(alloc, name)
 }
 
 impl<'a> AliasIndex<'a> {

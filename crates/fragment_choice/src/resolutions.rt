@@ -1,11 +1,12 @@
 //! The end of a unit's aliases.
 ghost use Rattle.std.specs.Prelude.{◌≡◌, IfOk};
-ghost use Rattle.path_maps.specs.Views.{fleet_of};
+ghost use Rattle.path_maps.specs.Views.{view_of};
+ghost use Rattle.std.specs.Option.{option_copied};
 ghost use Rattle.fragment_choice.specs.Resolutions.{IsEnd, Resolves, resolution};
 
 use crate::aliases::AliasIndex;
 use crate::choices::{Cause, Choice, Chooses};
-use replica_store::Store;
+use replica_store::{HostName, Store};
 use std::alloc::{AllocError, Global};
 use unit_name::UnitName;
 
@@ -16,17 +17,22 @@ pub struct Resolution {
     pub choice: Choice,
 }
 
-/// Follows a name's aliases, at most eight of them (systemd.unit(5), "Description"). The main
+/// Follows a name's aliases as a host sees them, or as they are seen without one, at most eight of them (systemd.unit(5), "Description"). The main
 /// name is the one at which no alias follows, also where nothing, a mask or a bad link stands
 /// there. Where more than eight follow, it is the name itself, which is bad.
 ///
 /// It makes at most nine choices, and fails for want of memory alone.
-pub fn resolve(alloc: Global, store: &Store, name: &UnitName) -> Result<Resolution, AllocError>
-    ensures resolution { IfOk result (λ it. it ≡ resolution (fleet_of store.now) name.now) }
-    ensures chain { IfOk result (Resolves (fleet_of store.now) name.now) }
+pub fn resolve(
+    alloc: Global,
+    store: &Store,
+    host: Option<&HostName>,
+    name: &UnitName,
+) -> Result<Resolution, AllocError>
+    ensures resolution { IfOk result (λ it. it ≡ resolution (view_of store.now (option_copied host.entry)) name.now) }
+    ensures chain { IfOk result (Resolves (view_of store.now (option_copied host.entry)) name.now) }
     ensures no_alias { IfOk result (λ it. IsEnd it.choice) }
 {
-    follow_aliases(alloc, &store.fleet(), name)
+    follow_aliases(alloc, &store.seen_by(host), name)
 }
 
 impl<'a> AliasIndex<'a> {

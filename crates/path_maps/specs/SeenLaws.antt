@@ -13,6 +13,7 @@ use Rattle.load_places.specs.Levels.{Looker, level_for}
 use Rattle.load_places.specs.Places.{PlaceParts, scope_bytes}
 use Rattle.load_places.specs.declared.places.Scope.{Scope}
 use Rattle.load_places.specs.declared.places.Scope.TheVariants.{Fleet, Host}
+use Rattle.edit_sums.specs.declared.contents.Content.{Content}
 use Rattle.edit_sums.specs.Entries.{Entry}
 use Rattle.edit_sums.specs.Sums.{EntryMap, shown}
 use Rattle.path_maps.specs.Folders.{path_at}
@@ -20,7 +21,7 @@ use Rattle.path_maps.specs.Scopes.{PathMap, scope_of, within}
 use Rattle.path_maps.specs.ScopeLaws.{get-scope_of}
 use Rattle.path_maps.specs.Sights.{path_behind}
 use Rattle.path_maps.specs.ViewLaws.{get-seen}
-use Rattle.path_maps.specs.Views.{Own, View, content_at, held_by, held_by_own, own_scope, scope_at, seen, seen_place, view_of}
+use Rattle.path_maps.specs.Views.{AreForOne, Own, View, content_at, held_by, held_by_own, own_scope, scope_at, seen, seen_at, seen_place, view_of}
 
 -- a place with a level is seen at it
 abbrev pub PlacesAreSeen : Type 0
@@ -120,6 +121,18 @@ what_is_seen_has_a_place v path e got = by (path.rank % 2 == 0) refl v.own refl 
         let there : finmap.get v.fleet (path_behind path) ≡ Some e = ap (λ b. option_and_then (λ (held : PathMap). finmap.get held (path_behind path)) (cond b (option_map (λ (o : Own). o.held) v.own) (Some v.fleet))) (sym odd) ∙ got in
         ap (λ b. option_and_then (λ (held : PathMap). option_and_then shown (finmap.get held (path_behind path))) (held_by v (cond b (own_scope v.own) Fleet))) odd
         ∙ ap (option_and_then shown) there
+
+-- the same of what is visible
+pub content_seen : (v : View) (path : PathParts) (c : Content) → seen_at v path ≡ Some c → content_at v (seen_place v path) ≡ Some c
+content_seen v path c is = by (finmap.get (seen v) path) refl is
+  where
+    by : (o : Option Entry) → finmap.get (seen v) path ≡ o → option_and_then shown o ≡ Some c → content_at v (seen_place v path) ≡ Some c
+    by None at e = cc (e)
+    by (Some x) at e = what_is_seen_has_a_place v path x at ∙ e
+
+-- a path has one place in views for one host
+pub same_place : (v w : View) → AreForOne v w → (path : PathParts) → seen_place v path ≡ seen_place w path
+same_place v w one path = (λ i. record { scope = cond (path.rank % 2 == 0) (one i) Fleet; path = path_behind path })
 
 -- ---- other hosts
 

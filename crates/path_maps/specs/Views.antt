@@ -1,6 +1,6 @@
 -- What is seen of a store: entries by level, folder and name. Units are read from what is seen, and from nothing else of a store.
 -- Source: this project's own.
-use Rattle.std.specs.Prelude.{ℕ, ◌+◌, ◌/◌, ◌%◌, ◌==◌, Option, Some, None, List, [], ◌++◌, map, if◌then◌else◌, refl}
+use Rattle.std.specs.Prelude.{◌≡◌, ℕ, ◌+◌, ◌/◌, ◌%◌, ◌==◌, Option, Some, None, List, [], ◌++◌, map, if◌then◌else◌, refl}
 use Rattle.std.specs.Option.{option_and_then, option_map}
 use Rattle.std.specs.Str.{bytes_eq}
 use Rattle.std.specs.Coded.{Coded, code_by, coded×, coded_ℕ, coded_list, coded_option}
@@ -56,6 +56,10 @@ entries_own (Some own) = map seen_own (finmap.entries own.held)
 unfoldable pub seen : View → PathMap
 seen v = finmap.from_entries (entries_own v.own ++ map seen_fleets (finmap.entries v.fleet))
 
+-- the level of a path at which something is seen
+abbrev pub level_of : PathParts → ℕ
+level_of path = path.rank
+
 -- the visible content that is seen at a path, which has a level in the place of its rank
 abbrev pub seen_at : View → PathParts → Option Content
 seen_at v p = shown_at (seen v) p
@@ -71,6 +75,10 @@ scope_at v level = if level % 2 == 0 then own_scope v.own else Fleet
 -- the place of what is seen at a path
 abbrev pub seen_place : View → PathParts → PlaceParts
 seen_place v p = record { scope = scope_at v p.rank; path = path_at (p.rank / 2) p.folder p.name }
+
+-- both are looked at for one host, or both without one
+abbrev pub AreForOne : View → View → Type 0
+AreForOne v w = own_scope v.own ≡ own_scope w.own
 
 -- ---- by place
 

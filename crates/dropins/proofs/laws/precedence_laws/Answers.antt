@@ -1,8 +1,8 @@
-use Rattle.dropins.specs.PrecedenceLaws.{ranks_go_first, something_is_taken, taken_once, masks_hide, folders_decide, removals_give_back}
+use Rattle.dropins.specs.PrecedenceLaws.{levels_go_first, something_is_taken, taken_once, masks_hide, folders_decide, removals_give_back}
 use Rattle.dropins.proofs.laws.precedence_laws.Goals as goal
 
-pub returns-clause-ranks : goal.returns-clause-ranks
-returns-clause-ranks c = ranks_go_first
+pub returns-clause-levels : goal.returns-clause-levels
+returns-clause-levels c = levels_go_first
 
 pub returns-clause-some : goal.returns-clause-some
 returns-clause-some c = something_is_taken

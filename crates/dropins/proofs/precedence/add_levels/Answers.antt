@@ -12,7 +12,7 @@ loop-level-preserved c f =
 
 pub returns : goal.returns
 returns c =
-    let all : c.loop-level.level ≡ 4 = omega (arith, c.loop-level.auto.level-end, c.loop-level-test.false) in
+    let all : c.loop-level.level ≡ 8 = omega (arith, c.loop-level.auto.level-end, c.loop-level-test.false) in
     record {
       added = λ f.
           c.loop-level.invariant f ∙ ap (λ n. option_or (first_for c.args.found.now.items f) (first_said (took_in c.args.seen.now c.args.search c.args.dirs.now f) (take n levels))) all;

@@ -1,7 +1,7 @@
 use Rattle.std.proofs.Common.{◌+◌, arith, subst, List}
 use Rattle.unit_name.specs.Names.{Name}
 use Rattle.fragment_choice.specs.Indexes.{Collects, IsOwnLink}
-use Rattle.fragment_choice.proofs.Indexing.{IsOwnBelow, collects_none, collects_rank, collects_ranks}
+use Rattle.fragment_choice.proofs.Indexing.{IsOwnBelow, collects_none, collects_level, collects_levels}
 use Rattle.fragment_choice.proofs.aliases.linked_names.Goals as goal
 
 pub loop-level-init : goal.loop-level-init
@@ -9,11 +9,11 @@ loop-level-init c = collects_none (IsOwnBelow c.args.seen.now 0) c.new-names.res
 
 pub loop-level-preserved : goal.loop-level-preserved
 loop-level-preserved c =
-    collects_rank c.args.seen.now c.loop-level.level (c.loop-level.level + 1) c.new-names.result.keys c.loop-level.names.keys c.add_linked.new.names.keys (omega arith) c.loop-level.invariant c.in_ok-add_linked.ensures.added
+    collects_level c.args.seen.now c.loop-level.level (c.loop-level.level + 1) c.new-names.result.keys c.loop-level.names.keys c.add_linked.new.names.keys (omega arith) c.loop-level.invariant c.in_ok-add_linked.ensures.added
 
 pub returns : goal.returns
 returns c = record {
   linked =
       subst (λ (old : List Name). Collects (IsOwnLink c.args.seen.now) old c.loop-level.names.keys) c.new-names.ensures.empty
-      (collects_ranks c.args.seen.now c.loop-level.level c.new-names.result.keys c.loop-level.names.keys (λ l h. let all = c.loop-level-test.false in omega (arith, h, all)) c.loop-level.invariant);
+      (collects_levels c.args.seen.now c.loop-level.level c.new-names.result.keys c.loop-level.names.keys (λ l h. let all = c.loop-level-test.false in omega (arith, h, all)) c.loop-level.invariant);
 }

@@ -5,6 +5,7 @@ use Rattle.std.specs.List.{Contains}
 use Rattle.std.specs.List.Sorted.{IsStrictlySortedBy}
 use Rattle.std.proofs.lemmas.Result.{IfOk-weaker}
 use Rattle.unit_name.specs.Names.{Name, is_name, name_cmp}
+use Rattle.path_maps.specs.Views.{seen}
 use Rattle.dropins.specs.declared.precedence.Search.TheVariants.{Links}
 use Rattle.dropins.specs.Taken.{dirs_with, ending, IsLinkedOf, IsTakenOver, entry_name}
 use Rattle.dropins.specs.Taken.Candidate.{At}
@@ -25,6 +26,6 @@ returns-clause-exact c =
     IfOk-weaker c.unit_names.result (λ units. units.items ≡ filter is_name (map entry_name c.deref-2.result.now)) (λ units. (n : Name) → Contains units.items n ↔ IsLinkedOf s c.args.self.now c.args.folder n)
     (λ units e.
     linked s c.args.self.now c.args.folder taken
-    (λ p. subst (λ ds. Contains taken p ↔ (IsTakenOver s Links ds [] (At p.0) p.0 × (finmap.get s p.0 ≡ Some p.1))) dirs (c.in_ok-taken.ensures.exact p))
+    (λ p. subst (λ ds. Contains taken p ↔ (IsTakenOver s Links ds [] (At p.0) p.0 × (finmap.get (seen s) p.0 ≡ Some p.1))) dirs (c.in_ok-taken.ensures.exact p))
     units.items (e ∙ ap (λ ps. filter is_name (map entry_name ps)) c.deref-2.ensures.value))
     c.unit_names.ensures.names

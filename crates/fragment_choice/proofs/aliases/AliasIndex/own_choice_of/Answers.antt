@@ -1,4 +1,5 @@
-use Rattle.std.proofs.Common.{Some, ap, sym, ◌∙◌}
+use Rattle.std.proofs.Common.{◌≡◌, Some, ap, subst, sym, ◌∙◌}
+use Rattle.std.specs.Prelude.{IfOk}
 use Rattle.path_maps.specs.Views.{View}
 use Rattle.fragment_choice.specs.declared.choices.Choice.{Choice}
 use Rattle.fragment_choice.specs.Choices.{own_choice}
@@ -14,3 +15,8 @@ pub returns-in-Some-None : goal.returns-in-Some-None
 returns-in-Some-None c =
     let known = c.self.invariant.known.each c.args.name.now c.in-Some-None.field-0.now (sym c.in-Some-None.ensures.value) in
     record { choice = sym c.in-Some-None.field-0-is ∙ known ∙ ap (λ (s : View). own_choice s c.args.name.now c.args.name.now) c.self.view_is }
+
+pub returns-in-None : goal.returns-in-None
+returns-in-None c =
+    let name = c.args.name.now in
+    record { choice = subst (λ (v : View). IfOk c.own_choice.result (λ said. said ≡ own_choice v name name)) c.self.view_is c.own_choice.ensures.choice }
