@@ -5,12 +5,13 @@ use Rattle.std.specs.Option.{option_and_then, option_or}
 use Rattle.edit_sums.specs.declared.contents.Content.{Content}
 use Rattle.edit_sums.specs.declared.contents.Content.TheVariants as content
 use Rattle.path_maps.specs.SeenLaws.{content_seen}
-use Rattle.path_maps.specs.Views.{View, content_at, seen_at}
+use Rattle.path_maps.specs.Views.{View, content_at, seen_at, seen_place}
 use Rattle.unit_name.specs.declared.names.Shape.{Shape}
 use Rattle.unit_name.specs.declared.names.Shape.TheVariants.{Plain, Template, Instance}
 use Rattle.unit_name.specs.Names.{Name, shape, instance, kind, is_name}
 use Rattle.unit_name.specs.Forms.{template_of, with_instance}
 use Rattle.list_laws.specs.FirstSaid.{first_said}
+use Rattle.load_path.specs.Paths.{PathParts}
 use Rattle.load_places.specs.Levels.{levels}
 use Rattle.load_places.specs.Places.{PlaceParts}
 use Rattle.fragment_choice.specs.declared.choices.Choice.{Choice}
@@ -34,9 +35,9 @@ FragmentsAreFiles = (s : View) (n : Name) (p : PlaceParts) → (resolution s n).
 abbrev pub FragmentsHaveNoFolder : Type 0
 FragmentsHaveNoFolder = (s : View) (n : Name) (p : PlaceParts) → (resolution s n).choice ≡ Fragment p → p.path.folder ≡ []
 
--- both at once
-abbrev IsOwnFile : View → PlaceParts → Type 0
-IsOwnFile s p = IsFileAt s p × (p.path.folder ≡ [])
+-- a file that isn't empty is seen at a path of one component, which has this place
+abbrev pub IsOwnFile : View → PlaceParts → Type 0
+IsOwnFile s p = (q : PathParts) × (seen_place s q ≡ p) × (q.folder ≡ []) × (b : ℕ) × (bs : List ℕ) × (seen_at s q ≡ Some (content.File (b ∷ bs)))
 
 -- an answer that is no fragment
 abbrev IsOther : Option Choice → PlaceParts → Type 0
@@ -81,7 +82,7 @@ said_file s n o level p e = by (seen_at s (own_path o level)) refl e
     by None at e = cc (e)
     by (Some c) at e =
         let file = content_file n o (own_place s o level) p c e in
-        ((file.0, file.1, ap (content_at s) (sym file.3) ∙ content_seen s (own_path o level) c at ∙ ap Some file.2), ap (λ (q : PlaceParts). q.path.folder) (sym file.3))
+        (own_path o level, file.3, refl, file.0, file.1, at ∙ ap Some file.2)
 
 first_file : (s : View) (n o : Name) (rs : List ℕ) (p : PlaceParts) → first_said (says s n o) rs ≡ Some (Fragment p) → IsOwnFile s p
 first_file s n o [] p e = cc (e)
@@ -107,8 +108,14 @@ resolved_file : (s : View) (n : Name) (r : Resolution) (p : PlaceParts) → Reso
 resolved_file s n r p (ends_at k u short chain ends) e = chosen_file s u p e
 resolved_file s n r p (goes_on u chain) e = cc (e)
 
+-- what stands for a name is seen at a path
+pub fragments_are_seen : (s : View) (n : Name) (p : PlaceParts) → (resolution s n).choice ≡ Fragment p → IsOwnFile s p
+fragments_are_seen s n p e = resolved_file s n (resolution s n) p (resolution_resolves s n) e
+
 pub fragments_are_files : FragmentsAreFiles
-fragments_are_files s n p e = (resolved_file s n (resolution s n) p (resolution_resolves s n) e).0
+fragments_are_files s n p e =
+    let at = fragments_are_seen s n p e in
+    (at.3, at.4, ap (content_at s) (sym at.1) ∙ content_seen s at.0 (content.File (at.3 ∷ at.4)) at.5)
 
 pub fragments_have_no_folder : FragmentsHaveNoFolder
-fragments_have_no_folder s n p e = (resolved_file s n (resolution s n) p (resolution_resolves s n) e).1
+fragments_have_no_folder s n p e = let at = fragments_are_seen s n p e in ap (λ (q : PlaceParts). q.path.folder) (sym at.1) ∙ at.2

@@ -1,4 +1,4 @@
--- Where a store says something of a unit, and what is elsewhere.
+-- Where what is looked at says something of a unit, and what is elsewhere. Paths have a level in the place of their rank.
 -- Source: systemd.unit(5), "Description" and "Unit File Load Path".
 use Rattle.std.specs.Prelude.{◌≡◌, ◌≢◌, ◌⊎◌, ℕ, List, [], ◌++◌}
 use Rattle.list_laws.specs.Members.{IsAmong}
@@ -22,6 +22,6 @@ pub record IsElsewhere (names : List Name) (p : PathParts) : Type 0 where
   pub in_folder : p.folder ≢ []
   pub of_others : ¬ IsAmong p.folder (unit_folders names)
 
--- two stores show the same at each path but this one
+-- two views show the same at each path but this one
 abbrev pub AgreeButAt : View → View → PathParts → Type 0
 AgreeButAt s t m = (p : PathParts) → p ≢ m → seen_at s p ≡ seen_at t p

@@ -5,7 +5,11 @@ use Rattle.std.specs.List.{Contains}
 use Rattle.std.proofs.lemmas.Option.{same_Some}
 use Rattle.list_laws.specs.Members.{IsAmong, IsAmong-append_left, IsAmong-append_right, first_or_later, first_there, later_there}
 use Rattle.load_path.specs.Paths.{PathParts}
-use Rattle.path_maps.specs.Views.{View, seen_at}
+use Rattle.load_places.specs.Places.{PlaceParts}
+use Rattle.edit_sums.specs.declared.contents.Content.{Content}
+use Rattle.edit_sums.specs.declared.contents.Content.TheVariants.{File}
+use Rattle.path_maps.specs.SeenLaws.{content_seen, same_place}
+use Rattle.path_maps.specs.Views.{AreForOne, View, content_at, seen_at, seen_place}
 use Rattle.unit_name.specs.Names.{Name}
 use Rattle.section_reader.specs.Sections.{assignments_of, notes_of}
 use Rattle.setting_rules.specs.Rows.{rows_of}
@@ -15,7 +19,7 @@ use Rattle.fragment_choice.specs.declared.choices.Choice.{Choice}
 use Rattle.fragment_choice.specs.declared.choices.Choice.TheVariants as choice
 use Rattle.fragment_choice.specs.declared.resolutions.Resolution.{Resolution}
 use Rattle.fragment_choice.specs.ChoiceLaws.{own_paths_count}
-use Rattle.fragment_choice.specs.FragmentLaws.{fragments_have_no_folder}
+use Rattle.fragment_choice.specs.FragmentLaws.{IsOwnFile, fragments_are_seen}
 use Rattle.fragment_choice.specs.ResolutionLaws.{choices_decide}
 use Rattle.fragment_choice.specs.Resolutions.{main, resolution}
 use Rattle.fragment_choice.specs.UnitNameLaws.{mains_decide}
@@ -24,11 +28,12 @@ use Rattle.dropins.specs.declared.link_names.Folder.TheVariants.{Wants, Requires
 use Rattle.dropins.specs.declared.precedence.Search.{Search}
 use Rattle.dropins.specs.declared.precedence.Search.TheVariants.{DropIns, Links}
 use Rattle.dropins.specs.FolderLists.{folders}
+use Rattle.dropins.specs.OrderLaws.{drop_in_paths_are_files}
 use Rattle.dropins.specs.OverLaws.{folders_decide_over}
 use Rattle.dropins.specs.PrecedenceLaws.{folders_decide}
 use Rattle.dropins.specs.Taken.Candidate.{At}
 use Rattle.dropins.specs.Taken.Owner.{OfName, OfType}
-use Rattle.dropins.specs.Taken.{Candidate, Owner, IsDropIn, IsLinked, IsTaken, dirs_by, dirs_with, ending, name_dirs, type_dirs}
+use Rattle.dropins.specs.Taken.{Candidate, Owner, IsDropIn, IsDropInAt, IsLinked, IsTaken, dirs_by, dirs_with, ending, name_dirs, type_dirs}
 use Rattle.unit_loads.specs.declared.units.Status.{Status}
 use Rattle.unit_loads.specs.declared.units.Status.TheVariants.{Loaded, NotFound, Masked, Bad}
 use Rattle.unit_loads.specs.declared.units.Unit.{Unit as LoadedUnit}
@@ -36,13 +41,13 @@ use Rattle.unit_loads.specs.declared.units.UnitNote.TheVariants as note
 use Rattle.unit_loads.specs.Elsewhere.{AgreeButAt, IsElsewhere, IsNear, unit_folders}
 use Rattle.unit_loads.specs.Units.{AreDropIns, AreLinks, HasAllOf, HasSettings, IsStatus, IsUnit, file_bytes, file_notes, items_of, lists_with, setting_notes}
 
--- Stores that show the same at paths of one component and in a unit's folders have the same unit.
+-- Views for one host that show the same at paths of one component and in a unit's folders have the same unit.
 abbrev pub NearPathsDecide : Type 0
-NearPathsDecide = (s t : View) (name : Name) (unit : LoadedUnit) → ((p : PathParts) → IsNear unit.names p → seen_at s p ≡ seen_at t p) → IsUnit s name unit → IsUnit t name unit
+NearPathsDecide = (s t : View) → AreForOne s t → (name : Name) (unit : LoadedUnit) → ((p : PathParts) → IsNear unit.names p → seen_at s p ≡ seen_at t p) → IsUnit s name unit → IsUnit t name unit
 
 -- A visible edit elsewhere leaves a unit as it was.
 abbrev pub ElsewhereChangesNothing : Type 0
-ElsewhereChangesNothing = (s t : View) (name : Name) (unit : LoadedUnit) (m : PathParts) → IsElsewhere unit.names m → AgreeButAt s t m → IsUnit s name unit → IsUnit t name unit
+ElsewhereChangesNothing = (s t : View) → AreForOne s t → (name : Name) (unit : LoadedUnit) (m : PathParts) → IsElsewhere unit.names m → AgreeButAt s t m → IsUnit s name unit → IsUnit t name unit
 
 -- what stands at a place of a list is among it
 placed_among : (ds : List (List ℕ)) (i : ℕ) (d : List ℕ) → slice_get ds i ≡ Some d → IsAmong d ds
@@ -52,19 +57,19 @@ placed_among (x ∷ xs) (suc i) d h = inr (placed_among xs i d h)
 
 -- the same files have the same bytes, and the same assignments and notes
 module _ (s t : View) where
-  items_same : (files : List PathParts) → ((p : PathParts) → Contains files p → seen_at s p ≡ seen_at t p) → items_of s files ≡ items_of t files
+  items_same : (files : List PlaceParts) → ((p : PlaceParts) → Contains files p → content_at s p ≡ content_at t p) → items_of s files ≡ items_of t files
   items_same [] same = refl
   items_same (p ∷ ps) same =
       ap (λ o. assignments_of (file_bytes o) ++ items_of s ps) (same p (first_there p ps))
-      ∙ ap (λ xs. assignments_of (file_bytes (seen_at t p)) ++ xs) (items_same ps (λ q c. same q (later_there p q ps c)))
+      ∙ ap (λ xs. assignments_of (file_bytes (content_at t p)) ++ xs) (items_same ps (λ q c. same q (later_there p q ps c)))
 
-  notes_same : (files : List PathParts) → ((p : PathParts) → Contains files p → seen_at s p ≡ seen_at t p) → file_notes s files ≡ file_notes t files
+  notes_same : (files : List PlaceParts) → ((p : PlaceParts) → Contains files p → content_at s p ≡ content_at t p) → file_notes s files ≡ file_notes t files
   notes_same [] same = refl
   notes_same (p ∷ ps) same =
       ap (λ o. map (note.File p) (notes_of (file_bytes o)) ++ file_notes s ps) (same p (first_there p ps))
-      ∙ ap (λ xs. map (note.File p) (notes_of (file_bytes (seen_at t p))) ++ xs) (notes_same ps (λ q c. same q (later_there p q ps c)))
+      ∙ ap (λ xs. map (note.File p) (notes_of (file_bytes (content_at t p))) ++ xs) (notes_same ps (λ q c. same q (later_there p q ps c)))
 
-module _ (s t : View) (names : List Name) (near : (p : PathParts) → IsNear names p → seen_at s p ≡ seen_at t p) where
+module _ (s t : View) (one : AreForOne s t) (names : List Name) (near : (p : PathParts) → IsNear names p → seen_at s p ≡ seen_at t p) where
   -- a path in a folder of the unit shows the same
   shown_in : (ds : List (List ℕ)) → ((d : List ℕ) → IsAmong d ds → IsAmong d (unit_folders names)) → (p : PathParts) (i : ℕ) → slice_get ds i ≡ Some p.folder → seen_at s p ≡ seen_at t p
   shown_in ds own p i f = near p (inr (own p.folder (placed_among ds i p.folder f)))
@@ -93,6 +98,12 @@ module _ (s t : View) (names : List Name) (near : (p : PathParts) → IsNear nam
     folders_decide_over t s DropIns (name_dirs (folders names)) (type_dirs (folders names)) (λ o q i l f. sym (drop_in_folder_shown o q i f)) (At p) p,
   )
 
+  same_drop_in_at : (p : PlaceParts) → IsDropInAt s names p ↔ IsDropInAt t names p
+  same_drop_in_at p = (
+    λ d. (d.0, sym (same_place s t one d.0) ∙ d.1, (same_drop_in d.0).0 d.2),
+    λ d. (d.0, same_place s t one d.0 ∙ d.1, (same_drop_in d.0).1 d.2),
+  )
+
   same_linked : (folder : Folder) (n : Name) → IsLinked s names folder n ↔ IsLinked t names folder n
   same_linked folder n = (
     λ h. record { name = h.name; path = h.path; name_is = h.name_is; taken = (same_taken Links (dirs_with (ending folder) (folders names)) (link_folder folder) (At h.path) h.path).0 h.taken },
@@ -105,29 +116,35 @@ module _ (s t : View) (names : List Name) (near : (p : PathParts) → IsNear nam
     exact = λ n. (λ c. (same_linked folder n).0 ((are.exact n).0 c), λ h. (are.exact n).1 ((same_linked folder n).1 h));
   }
 
-  drop_in_shown : (p : PathParts) → IsDropIn s names p → seen_at s p ≡ seen_at t p
-  drop_in_shown p d = drop_in_folder_shown d.owner p d.place d.stands.folder_is
+  -- what is seen at a path, and is the same in both, is the same at its place
+  same_content : (q : PathParts) (c : Content) → seen_at s q ≡ Some c → seen_at s q ≡ seen_at t q → content_at s (seen_place s q) ≡ content_at t (seen_place s q)
+  same_content q c is same = content_seen s q c is ∙ sym (content_seen t q c (sym same ∙ is)) ∙ ap (content_at t) (sym (same_place s t one q))
+
+  drop_in_shown : (p : PlaceParts) → IsDropInAt s names p → content_at s p ≡ content_at t p
+  drop_in_shown p (q, is, d) =
+      let file = (drop_in_paths_are_files s (folders names) q d).1 in
+      ap (content_at s) (sym is) ∙ same_content q (File (file.0 ∷ file.1)) file.2 (drop_in_folder_shown d.owner q d.place d.stands.folder_is) ∙ ap (content_at t) is
 
   -- the files of the unit show the same
-  files_shown : (fragment : PathParts) (dropins : List PathParts) → fragment.folder ≡ [] → AreDropIns s names dropins → (p : PathParts) → Contains (fragment ∷ dropins) p → seen_at s p ≡ seen_at t p
-  files_shown fragment dropins own are p c = by (first_or_later fragment p dropins c)
+  files_shown : (fragment : PlaceParts) (dropins : List PlaceParts) → IsOwnFile s fragment → AreDropIns s names dropins → (p : PlaceParts) → Contains (fragment ∷ dropins) p → content_at s p ≡ content_at t p
+  files_shown fragment dropins (q, is, own, b, bs, file) are p c = by (first_or_later fragment p dropins c)
     where
-      by : (fragment ≡ p) ⊎ Contains dropins p → seen_at s p ≡ seen_at t p
-      by (inl e) = near p (inl (ap (λ (q : PathParts). q.folder) (sym e) ∙ own))
+      by : (fragment ≡ p) ⊎ Contains dropins p → content_at s p ≡ content_at t p
+      by (inl e) = ap (content_at s) (sym (is ∙ e)) ∙ same_content q (File (b ∷ bs)) file (near q (inl own)) ∙ ap (content_at t) (is ∙ e)
       by (inr d) = drop_in_shown p ((are.exact p).0 d)
 
-module _ (s t : View) (unit : LoadedUnit) (near : (p : PathParts) → IsNear unit.names p → seen_at s p ≡ seen_at t p) where
-  settings_same : (fragment : PathParts) → fragment.folder ≡ [] → HasSettings s fragment unit → HasSettings t fragment unit
+module _ (s t : View) (one : AreForOne s t) (unit : LoadedUnit) (near : (p : PathParts) → IsNear unit.names p → seen_at s p ≡ seen_at t p) where
+  settings_same : (fragment : PlaceParts) → IsOwnFile s fragment → HasSettings s fragment unit → HasSettings t fragment unit
   settings_same fragment own h =
-      let files = files_shown s t unit.names near fragment unit.dropins own h.dropins_are in
+      let files = files_shown s t one unit.names near fragment unit.dropins own h.dropins_are in
       let items : items_of s (fragment ∷ unit.dropins) ≡ items_of t (fragment ∷ unit.dropins) = items_same s t (fragment ∷ unit.dropins) files in
       record {
         dropins_are = record {
           rising = h.dropins_are.rising;
-          exact = λ p. (λ c. (same_drop_in s t unit.names near p).0 ((h.dropins_are.exact p).0 c), λ d. (h.dropins_are.exact p).1 ((same_drop_in s t unit.names near p).1 d));
+          exact = λ p. (λ c. (same_drop_in_at s t one unit.names near p).0 ((h.dropins_are.exact p).0 c), λ d. (h.dropins_are.exact p).1 ((same_drop_in_at s t one unit.names near p).1 d));
         };
         links = h.links;
-        links_are = record { wanted_are = same_links s t unit.names near Wants h.links.wanted h.links_are.wanted_are; required_are = same_links s t unit.names near Requires h.links.required h.links_are.required_are };
+        links_are = record { wanted_are = same_links s t one unit.names near Wants h.links.wanted h.links_are.wanted_are; required_are = same_links s t one unit.names near Requires h.links.required h.links_are.required_are };
         values_are = h.values_are ∙ ap (λ xs. rows_of (settings_of xs) unit.name) items;
         deps_are = h.deps_are ∙ ap (λ xs. lists_with (settings_of xs) unit.name h.links) items;
         notes_are =
@@ -137,30 +154,30 @@ module _ (s t : View) (unit : LoadedUnit) (near : (p : PathParts) → IsNear uni
         manual_is = h.manual_is ∙ ap (λ xs. refuses (settings_of xs)) items;
       }
 
-  all_same : (status : Status) → ((fragment : PathParts) → status ≡ Loaded fragment → fragment.folder ≡ []) → HasAllOf s unit status → HasAllOf t unit status
+  all_same : (status : Status) → ((fragment : PlaceParts) → status ≡ Loaded fragment → IsOwnFile s fragment) → HasAllOf s unit status → HasAllOf t unit status
   all_same (Loaded fragment) own h = settings_same fragment (own fragment refl) h
   all_same NotFound own h = h
   all_same Masked own h = h
   all_same (Bad cause) own h = h
 
--- the status of a unit whose fragment is at a path came from the choice of that path
-chosen : (c : Choice) (status : Status) (fragment : PathParts) → IsStatus c status → status ≡ Loaded fragment → c ≡ choice.Fragment fragment
+-- the status of a unit whose fragment is at a place came from the choice of that place
+chosen : (c : Choice) (status : Status) (fragment : PlaceParts) → IsStatus c status → status ≡ Loaded fragment → c ≡ choice.Fragment fragment
 chosen choice.NotFound status fragment h e = cc (h, e)
 chosen choice.Masked status fragment h e = cc (h, e)
-chosen (choice.Fragment path) status fragment h e = cc (h, e)
+chosen (choice.Fragment place) status fragment h e = cc (h, e)
 chosen (choice.Alias other) status fragment h e = absurd h
 chosen (choice.Bad cause) status fragment h e = cc (h, e)
 
 pub near_paths_decide : NearPathsDecide
-near_paths_decide s t name unit near u =
-    let resolved : (n : Name) → resolution s n ≡ resolution t n = choices_decide s t (own_paths_count s t (λ p f. near p (inl f))) in
+near_paths_decide s t one name unit near u =
+    let resolved : (n : Name) → resolution s n ≡ resolution t n = choices_decide s t (own_paths_count s t one (λ p f. near p (inl f))) in
     let mains : (n : Name) → main s n ≡ main t n = λ n. ap (λ (r : Resolution). r.main) (resolved n) in
     record {
       main_is = sym (mains name) ∙ u.main_is;
       name_is = u.name_is;
       names_are = mains_decide s t mains name unit.names u.names_are;
       status_is = subst (λ (r : Resolution). IsStatus r.choice unit.status) (resolved name) u.status_is;
-      has = all_same s t unit near unit.status (λ fragment e. fragments_have_no_folder s name fragment (chosen (resolution s name).choice unit.status fragment u.status_is e)) u.has;
+      has = all_same s t one unit near unit.status (λ fragment e. fragments_are_seen s name fragment (chosen (resolution s name).choice unit.status fragment u.status_is e)) u.has;
     }
 
 -- what is near is not elsewhere
@@ -169,4 +186,4 @@ near_differs names m p e (inl own) same = e.in_folder (ap (λ (q : PathParts). q
 near_differs names m p e (inr among) same = e.of_others (subst (λ (q : PathParts). IsAmong q.folder (unit_folders names)) same among)
 
 pub elsewhere_changes_nothing : ElsewhereChangesNothing
-elsewhere_changes_nothing s t name unit m e agree u = near_paths_decide s t name unit (λ p n. agree p (near_differs unit.names m p e n)) u
+elsewhere_changes_nothing s t one name unit m e agree u = near_paths_decide s t one name unit (λ p n. agree p (near_differs unit.names m p e n)) u

@@ -5,7 +5,7 @@ use Rattle.std.specs.List.{Contains}
 use Rattle.std.specs.List.Sorted.{IsStrictlySortedBy}
 use Rattle.std.specs.Result.{result_ok}
 use Rattle.list_laws.specs.Members.{IsAmong, IsAmong-append_cases, IsAmong-append_left, IsAmong-append_right, among_from_contains, contains_from_among}
-use Rattle.load_path.specs.Paths.{PathParts}
+use Rattle.load_places.specs.Places.{PlaceParts}
 use Rattle.path_maps.specs.Views.{View}
 use Rattle.unit_name.specs.Names.{Name, name_cmp}
 use Rattle.setting_rules.specs.declared.dependency_lists.DependencyList.{DependencyList}
@@ -49,7 +49,7 @@ ListsHaveWhatIsNamed = (s : View) (name : Name) (unit : LoadedUnit) (dep : DepKi
 
 -- Only a loaded unit names any.
 abbrev pub OthersNameNone : Type 0
-OthersNameNone = (s : View) (name : Name) (unit : LoadedUnit) (dep : DepKind) (v : Name) → IsUnit s name unit → IsNamed s name dep v → (fragment : PathParts) × (unit.status ≡ Loaded fragment)
+OthersNameNone = (s : View) (name : Name) (unit : LoadedUnit) (dep : DepKind) (v : Name) → IsUnit s name unit → IsNamed s name dep v → (fragment : PlaceParts) × (unit.status ≡ Loaded fragment)
 
 kind_there : (dep : DepKind) → IsAmong dep kinds
 kind_there Before = inl refl
@@ -79,14 +79,14 @@ ok_is (Ok x) v h = cc
 ok_is (Err e) v h = cc
 
 -- what stands for a name and the unit's status say the same
-fragment_from : (c : Choice) (status : Status) (fragment : PathParts) → IsStatus c status → status ≡ Loaded fragment → c ≡ choice.Fragment fragment
+fragment_from : (c : Choice) (status : Status) (fragment : PlaceParts) → IsStatus c status → status ≡ Loaded fragment → c ≡ choice.Fragment fragment
 fragment_from choice.NotFound status fragment p e = cc
 fragment_from choice.Masked status fragment p e = cc
 fragment_from (choice.Fragment path) status fragment p e = cc
 fragment_from (choice.Alias other) status fragment p e = absurd p
 fragment_from (choice.Bad cause) status fragment p e = cc
 
-status_from : (c : Choice) (status : Status) (fragment : PathParts) → IsStatus c status → c ≡ choice.Fragment fragment → status ≡ Loaded fragment
+status_from : (c : Choice) (status : Status) (fragment : PlaceParts) → IsStatus c status → c ≡ choice.Fragment fragment → status ≡ Loaded fragment
 status_from c status fragment p e = subst (λ (d : Choice). IsStatus d status) e p
 
 -- ---- lists without names
@@ -135,7 +135,7 @@ module _ (entries : SettingMap) (unit : Name) (links : LinkNames) where
 
 -- ---- what a loaded unit names
 
-module _ (s : View) (unit : LoadedUnit) (names_are : AreNames s unit.name unit.names) (fragment : PathParts) (fragment_is : (resolution s unit.name).choice ≡ choice.Fragment fragment) (has : HasSettings s fragment unit) where
+module _ (s : View) (unit : LoadedUnit) (names_are : AreNames s unit.name unit.names) (fragment : PlaceParts) (fragment_is : (resolution s unit.name).choice ≡ choice.Fragment fragment) (has : HasSettings s fragment unit) where
   named_by_link : (dep : DepKind) (v : Name) → HasSource (λ link z. for_unit unit.name link ≡ Some z) (links_for has.links dep) v → IsNamed s unit.name dep v
   named_by_link Wants v from = inr (
     folder.Wants,
@@ -243,7 +243,7 @@ module _ (s : View) (name : Name) (unit : LoadedUnit) (p : IsUnit s name unit) w
   listed_names dep v Masked e h l = absurd (nothing_listed dep v (subst (λ (lists : List DependencyList). IsListed lists dep v) h.no_deps l))
   listed_names dep v (Bad cause) e h l = absurd (nothing_listed dep v (subst (λ (lists : List DependencyList). IsListed lists dep v) h.no_deps l))
 
-  settings_with : (fragment : PathParts) → (resolution s unit.name).choice ≡ choice.Fragment fragment → HasSettings s fragment unit
+  settings_with : (fragment : PlaceParts) → (resolution s unit.name).choice ≡ choice.Fragment fragment → HasSettings s fragment unit
   settings_with fragment e = subst (HasAllOf s unit) (status_from (resolution s unit.name).choice unit.status fragment own_status e) p.has
 
   named_listed : (dep : DepKind) (v : Name) → IsNamed s unit.name dep v → IsListed unit.deps dep v
@@ -251,7 +251,7 @@ module _ (s : View) (name : Name) (unit : LoadedUnit) (p : IsUnit s name unit) w
       let h = settings_with n.fragment n.fragment_is in
       let names = one_list_of_names s unit.name n.names unit.names n.names_are own_names in
       let dropins = one_dropins s unit.names n.dropins unit.dropins (subst (λ (ns : List Name). AreDropIns s ns n.dropins) names n.dropins_are) h.dropins_are in
-      word_listed s unit own_names n.fragment n.fragment_is h dep v n.text (subst (λ (ps : List PathParts). IsAssigned (items_of s (n.fragment ∷ ps)) dep n.text) dropins n.assigned) n.named
+      word_listed s unit own_names n.fragment n.fragment_is h dep v n.text (subst (λ (ps : List PlaceParts). IsAssigned (items_of s (n.fragment ∷ ps)) dep n.text) dropins n.assigned) n.named
   named_listed dep v (inr (dir, kind_is, n)) =
       let names = one_list_of_names s unit.name n.names unit.names n.names_are own_names in
       subst (λ (d : DepKind). IsListed unit.deps d v) kind_is

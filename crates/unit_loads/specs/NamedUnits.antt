@@ -2,7 +2,7 @@
 -- Source: systemd.unit(5), "[Unit] Section Options" and "Description".
 use Rattle.std.specs.Prelude.{◌≡◌, ℕ, ◌⊎◌, IsTrue, Ok, Some, List, ◌∷◌, codes}
 use Rattle.std.specs.List.{Contains}
-use Rattle.load_path.specs.Paths.{PathParts}
+use Rattle.load_places.specs.Places.{PlaceParts}
 use Rattle.path_maps.specs.Views.{View}
 use Rattle.unit_name.specs.Names.{Name}
 use Rattle.section_reader.specs.declared.assignments.Assignment.{Assignment}
@@ -33,9 +33,9 @@ pub record IsAssigned (items : List Assignment) (dep : DepKind) (text : List ℕ
 pub record IsNamedByWord (s : View) (unit : Name) (dep : DepKind) (v : Name) : Type 0 where
   pub names : List Name
   pub names_are : AreNames s unit names
-  pub fragment : PathParts
+  pub fragment : PlaceParts
   pub fragment_is : (resolution s unit).choice ≡ Fragment fragment
-  pub dropins : List PathParts
+  pub dropins : List PlaceParts
   pub dropins_are : AreDropIns s names dropins
   pub text : List ℕ
   pub assigned : IsAssigned (items_of s (fragment ∷ dropins)) dep text
@@ -45,7 +45,7 @@ pub record IsNamedByWord (s : View) (unit : Name) (dep : DepKind) (v : Name) : T
 pub record IsNamedByLink (s : View) (unit : Name) (folder : Folder) (v : Name) : Type 0 where
   pub names : List Name
   pub names_are : AreNames s unit names
-  pub fragment : PathParts
+  pub fragment : PlaceParts
   pub fragment_is : (resolution s unit).choice ≡ Fragment fragment
   pub link : Name
   pub linked : IsLinked s names folder link

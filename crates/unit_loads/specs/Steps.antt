@@ -4,6 +4,7 @@ use Rattle.std.specs.Prelude.{◌≡◌, ◌↔◌, List, [], ◌++◌, map}
 use Rattle.std.specs.List.{Contains, flat_map}
 use Rattle.std.specs.List.Sorted.{IsStrictlySortedBy}
 use Rattle.load_path.specs.Paths.{PathParts}
+use Rattle.load_places.specs.Places.{PlaceParts}
 use Rattle.edit_sums.specs.Entries.{Entry}
 use Rattle.edit_sums.specs.Sums.{shown}
 use Rattle.path_maps.specs.Views.{View}
@@ -13,7 +14,7 @@ use Rattle.section_reader.specs.Sections.{assignments_of, notes_of}
 use Rattle.setting_rules.specs.Dependencies.{in_byte_order}
 use Rattle.dropins.specs.declared.link_names.Folder.{Folder}
 use Rattle.dropins.specs.declared.link_names.Folder.TheVariants.{Wants, Requires}
-use Rattle.dropins.specs.Taken.{IsLinkedOf, entry_path}
+use Rattle.dropins.specs.Taken.{IsLinkedOf, entry_place}
 use Rattle.setting_rules.specs.Rows.{rows_of}
 use Rattle.setting_rules.specs.Settings.{settings_of}
 use Rattle.setting_rules.specs.Switches.{refuses}
@@ -29,12 +30,12 @@ use Rattle.unit_loads.specs.Units.{bytes_at, file_bytes, lists_with, notes_at, s
 abbrev pub lent_items : List (PathParts × Entry) → List Assignment
 lent_items ps = flat_map (λ p. assignments_of (file_bytes (shown p.1))) ps
 
--- the notes on their lines
-abbrev pub lent_notes : List (PathParts × Entry) → List UnitNote
-lent_notes ps = flat_map (λ p. map (note.File p.0) (notes_of (file_bytes (shown p.1)))) ps
+-- the notes on their lines, with their places
+abbrev pub lent_notes : View → List (PathParts × Entry) → List UnitNote
+lent_notes s ps = flat_map (λ p. map (note.File (entry_place s p)) (notes_of (file_bytes (shown p.1)))) ps
 
 -- the assignments of a fragment in a store, and of drop-ins that are lent
-abbrev pub items_with : View → PathParts → List (PathParts × Entry) → List Assignment
+abbrev pub items_with : View → PlaceParts → List (PathParts × Entry) → List Assignment
 items_with s fragment lent = assignments_of (bytes_at s fragment) ++ lent_items lent
 
 -- the link folders of this sort in a list of folders give these names, in byte order
@@ -53,15 +54,15 @@ with_linked names [] = names
 with_linked names linked = in_byte_order (names ++ linked)
 
 -- what a fragment in a store, drop-ins that are lent and links come to for a unit
-pub record ComesTo (s : View) (fragment : PathParts) (lent : List (PathParts × Entry)) (unit : Name) (links : LinkNames) (found : Found) : Type 0 where
-  pub dropins : found.dropins ≡ map entry_path lent
+pub record ComesTo (s : View) (fragment : PlaceParts) (lent : List (PathParts × Entry)) (unit : Name) (links : LinkNames) (found : Found) : Type 0 where
+  pub dropins : found.dropins ≡ map (entry_place s) lent
   pub values : found.settled.values ≡ rows_of (settings_of (items_with s fragment lent)) unit
   pub deps : found.settled.deps ≡ lists_with (settings_of (items_with s fragment lent)) unit links
-  pub notes : found.settled.notes ≡ (notes_at s fragment ++ lent_notes lent) ++ map note.Setting (setting_notes (items_with s fragment lent) unit links)
+  pub notes : found.settled.notes ≡ (notes_at s fragment ++ lent_notes s lent) ++ map note.Setting (setting_notes (items_with s fragment lent) unit links)
   pub manual : found.settled.manual ≡ refuses (settings_of (items_with s fragment lent))
 
--- the unit of these names whose fragment is at this path
-abbrev pub found_unit : Name → List Name → PathParts → Found → LoadedUnit
+-- the unit of these names whose fragment is at this place
+abbrev pub found_unit : Name → List Name → PlaceParts → Found → LoadedUnit
 found_unit name names fragment found = record {
   name = name;
   names = names;

@@ -3,7 +3,7 @@ use Rattle.std.proofs.Common.{◌≡◌, Bool, List, ◌∷◌, ◌++◌, map, a
 use Rattle.std.specs.Cmp.Lexicographic.{nat_list_cmp_total}
 use Rattle.list_laws.specs.Members.{among_from_contains, contains_from_among}
 use Rattle.list_laws.specs.Rising.{one_rising_list}
-use Rattle.load_path.specs.Paths.{PathParts}
+use Rattle.load_places.specs.Places.{PlaceParts}
 use Rattle.path_maps.specs.Views.{View}
 use Rattle.unit_name.specs.Names.{Name, name_cmp}
 use Rattle.setting_rules.specs.declared.dependency_lists.DependencyList.{DependencyList}
@@ -39,7 +39,7 @@ one_status (choice.Bad cause) x y p q = p ∙ sym q
 
 module _ (s : View) (names : List Name) where
   -- names have one list of drop-ins
-  pub one_dropins : (ps qs : List PathParts) → AreDropIns s names ps → AreDropIns s names qs → ps ≡ qs
+  pub one_dropins : (ps qs : List PlaceParts) → AreDropIns s names ps → AreDropIns s names qs → ps ≡ qs
   one_dropins ps qs a b = one_order ps qs a.rising b.rising (λ p. (λ c. (b.exact p).1 ((a.exact p).0 c), λ c. (a.exact p).1 ((b.exact p).0 c)))
 
   -- and their link folders of a sort give one list of names
@@ -63,7 +63,7 @@ record AreAlike (a b : LoadedUnit) : Type 0 where
   manual : a.manual ≡ b.manual
 
 module _ (s : View) (a b : LoadedUnit) (name : a.name ≡ b.name) (names : a.names ≡ b.names) where
-  alike_if_loaded : (fragment : PathParts) → HasSettings s fragment a → HasSettings s fragment b → AreAlike a b
+  alike_if_loaded : (fragment : PlaceParts) → HasSettings s fragment a → HasSettings s fragment b → AreAlike a b
   alike_if_loaded fragment p q =
       let dropins = one_dropins s b.names a.dropins b.dropins (subst (λ ns. AreDropIns s ns a.dropins) names p.dropins_are) q.dropins_are in
       let links = one_pair_of_links s b.names p.links q.links (subst (λ ns. AreLinkNames s ns p.links) names p.links_are) q.links_are in
@@ -99,7 +99,7 @@ module _ (s : View) (a b : LoadedUnit) (name : a.name ≡ b.name) (names : a.nam
   alike Masked p q = alike_if_not p q
   alike (Bad cause) p q = alike_if_not p q
 
-unit_of : Name → List Name → Status → List PathParts → List Row → List DependencyList → List UnitNote → Bool → LoadedUnit
+unit_of : Name → List Name → Status → List PlaceParts → List Row → List DependencyList → List UnitNote → Bool → LoadedUnit
 unit_of name names status dropins values deps notes manual = record {
   name = name;
   names = names;

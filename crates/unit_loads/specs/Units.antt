@@ -3,10 +3,10 @@
 use Rattle.std.specs.Prelude.{◌≡◌, ℕ, false, Option, Some, None, is_none, List, [], ◌∷◌, ◌++◌, map, filter, ◌↔◌}
 use Rattle.std.specs.List.{Contains, flat_map, filter_map}
 use Rattle.std.specs.List.Sorted.{IsStrictlySortedBy}
-use Rattle.load_path.specs.Paths.{PathParts}
+use Rattle.load_places.specs.Places.{PlaceParts}
 use Rattle.edit_sums.specs.declared.contents.Content.{Content}
 use Rattle.edit_sums.specs.declared.contents.Content.TheVariants.{Gone, Link, File}
-use Rattle.path_maps.specs.Views.{View, seen_at}
+use Rattle.path_maps.specs.Views.{View, content_at}
 use Rattle.unit_name.specs.Names.{Name, name_cmp}
 use Rattle.section_reader.specs.declared.assignments.Assignment.{Assignment}
 use Rattle.section_reader.specs.Sections.{assignments_of, notes_of}
@@ -28,7 +28,7 @@ use Rattle.fragment_choice.specs.Resolutions.{main, resolution}
 use Rattle.fragment_choice.specs.UnitNames.{AreNames}
 use Rattle.dropins.specs.declared.link_names.Folder.{Folder}
 use Rattle.dropins.specs.declared.link_names.Folder.TheVariants.{Wants, Requires}
-use Rattle.dropins.specs.Taken.{IsDropIn, IsLinked, file_name}
+use Rattle.dropins.specs.Taken.{IsDropInAt, IsLinked, file_name}
 use Rattle.unit_loads.specs.declared.links.LinkNames.{LinkNames}
 use Rattle.unit_loads.specs.declared.units.Status.{Status}
 use Rattle.unit_loads.specs.declared.units.Status.TheVariants.{Loaded, NotFound, Masked, Bad}
@@ -45,26 +45,26 @@ file_bytes (Some Gone) = []
 file_bytes (Some (Link target)) = []
 file_bytes (Some (File bytes)) = bytes
 
--- the bytes of the file that is visible at a path
-abbrev pub bytes_at : View → PathParts → List ℕ
-bytes_at s p = file_bytes (seen_at s p)
+-- the bytes of the file that is visible at a place
+abbrev pub bytes_at : View → PlaceParts → List ℕ
+bytes_at s p = file_bytes (content_at s p)
 
 -- the assignments of files, one file behind another
-abbrev pub items_of : View → List PathParts → List Assignment
+abbrev pub items_of : View → List PlaceParts → List Assignment
 items_of s files = flat_map (λ p. assignments_of (bytes_at s p)) files
 
--- the notes on the lines of a file, with its path
-abbrev pub notes_at : View → PathParts → List UnitNote
+-- the notes on the lines of a file, with its place
+abbrev pub notes_at : View → PlaceParts → List UnitNote
 notes_at s p = map (note.File p) (notes_of (bytes_at s p))
 
 -- the notes on the lines of files, one file behind another
-abbrev pub file_notes : View → List PathParts → List UnitNote
+abbrev pub file_notes : View → List PlaceParts → List UnitNote
 file_notes s files = flat_map (notes_at s) files
 
 -- these are the drop-ins of a unit of these names, by file name
-pub record AreDropIns (s : View) (names : List Name) (dropins : List PathParts) : Type 0 where
+pub record AreDropIns (s : View) (names : List Name) (dropins : List PlaceParts) : Type 0 where
   pub rising : IsStrictlySortedBy name_cmp (map file_name dropins)
-  pub exact : (p : PathParts) → Contains dropins p ↔ IsDropIn s names p
+  pub exact : (p : PlaceParts) → Contains dropins p ↔ IsDropInAt s names p
 
 -- ---- links
 
@@ -120,16 +120,16 @@ setting_notes items unit links = boolean_notes items ++ escape_notes (settings_o
 abbrev pub IsStatus : Choice → Status → Type 0
 IsStatus choice.NotFound status = status ≡ NotFound
 IsStatus choice.Masked status = status ≡ Masked
-IsStatus (choice.Fragment path) status = status ≡ Loaded path
+IsStatus (choice.Fragment place) status = status ≡ Loaded place
 IsStatus (choice.Alias other) status = ⊥
 IsStatus (choice.Bad cause) status = status ≡ Bad cause
 
 -- the settings of a unit with this fragment and these drop-ins
-abbrev pub settings_in : View → PathParts → List PathParts → SettingMap
+abbrev pub settings_in : View → PlaceParts → List PlaceParts → SettingMap
 settings_in s fragment dropins = settings_of (items_of s (fragment ∷ dropins))
 
--- the unit has what its files and links come to, its fragment being at this path
-pub record HasSettings (s : View) (fragment : PathParts) (unit : LoadedUnit) : Type 0 where
+-- the unit has what its files and links come to, its fragment being at this place
+pub record HasSettings (s : View) (fragment : PlaceParts) (unit : LoadedUnit) : Type 0 where
   pub dropins_are : AreDropIns s unit.names unit.dropins
   pub links : LinkNames
   pub links_are : AreLinkNames s unit.names links
@@ -153,7 +153,7 @@ HasAllOf s unit NotFound = HasNothing unit
 HasAllOf s unit Masked = HasNothing unit
 HasAllOf s unit (Bad cause) = HasNothing unit
 
--- This is the unit of a main name in a store.
+-- This is the unit of a main name in what is looked at of a store.
 pub record IsUnit (s : View) (name : Name) (unit : LoadedUnit) : Type 0 where
   pub main_is : main s name ≡ name
   pub name_is : unit.name ≡ name

@@ -2,13 +2,12 @@
 ghost use Rattle.std.specs.Prelude.{◌≡◌, ◌++◌, ◌∷◌, [], IfOk, OnOk, map};
 ghost use Rattle.std.specs.Option.{option_copied};
 ghost use Rattle.section_reader.specs.Sections.{assignments_of, notes_of};
-ghost use Rattle.dropins.specs.Taken.{entry_path};
 ghost use Rattle.unit_loads.specs.Steps.{lent_items, lent_notes};
 ghost use Rattle.unit_loads.specs.Units.{bytes_at, file_bytes, notes_at};
 
 use crate::units::UnitNote;
 use plain_values::Items;
-use replica_store::{Content, Path, Seen, SeenEntry};
+use replica_store::{Content, Place, Seen, SeenEntry};
 use section_reader::{Assignment, Note, Sections, read};
 use std::alloc::{AllocError, Global};
 
@@ -37,50 +36,55 @@ impl UnitText {
     pub fn of(
         alloc: Global,
         seen: &Seen,
-        fragment: &Path,
+        fragment: &Place,
         dropins: &[SeenEntry],
     ) -> Result<UnitText, AllocError>
         ensures items { IfOk result (λ text. text.items
             ≡ assignments_of (bytes_at seen.now fragment.now) ++ lent_items dropins.now) }
-        ensures notes { IfOk result (λ text. text.notes ≡ notes_at seen.now fragment.now ++ lent_notes dropins.now) }
+        ensures notes { IfOk result (λ text. text.notes ≡ notes_at seen.now fragment.now ++ lent_notes seen.now dropins.now) }
     {
         let mut text = UnitText::new(alloc);
         text.add_file(alloc, fragment, bytes_of(seen.visible(fragment)))?;
         for placed in dropins {
-            text.add_drop_in(alloc, placed)?;
+            text.add_drop_in(alloc, seen, placed)?;
         }
         Ok(text)
     }
 
     // Adds what a drop-in says.
-    fn add_drop_in(&mut self, alloc: Global, placed: &SeenEntry) -> Result<(), AllocError>
+    fn add_drop_in(
+        &mut self,
+        alloc: Global,
+        seen: &Seen,
+        placed: &SeenEntry,
+    ) -> Result<(), AllocError>
         ensures items { OnOk result (self.new.items ≡ self.old.items ++ lent_items (placed.now ∷ [])) }
-        ensures notes { OnOk result (self.new.notes ≡ self.old.notes ++ lent_notes (placed.now ∷ [])) }
+        ensures notes { OnOk result (self.new.notes ≡ self.old.notes ++ lent_notes seen.now (placed.now ∷ [])) }
     {
-        self.add_file(alloc, &placed.path()?, bytes_of(placed.visible()))
+        self.add_file(alloc, &seen.place(placed)?, bytes_of(placed.visible()))
     }
 
-    // Adds what the file at a path says, which has these bytes.
-    fn add_file(&mut self, alloc: Global, path: &Path, bytes: &[u8]) -> Result<(), AllocError>
+    // Adds what the file at a place says, which has these bytes.
+    fn add_file(&mut self, alloc: Global, place: &Place, bytes: &[u8]) -> Result<(), AllocError>
         ensures items { OnOk result (self.new.items ≡ self.old.items ++ assignments_of bytes.now) }
-        ensures notes { OnOk result (self.new.notes ≡ self.old.notes ++ map (UnitNote.File path.now) (notes_of bytes.now)) }
+        ensures notes { OnOk result (self.new.notes ≡ self.old.notes ++ map (UnitNote.File place.now) (notes_of bytes.now)) }
     {
         let Sections { items, notes } = read(alloc, bytes)?;
         self.items.append(items)?;
-        add_line_notes(&mut self.notes, path, notes.as_slice())
+        add_line_notes(&mut self.notes, place, notes.as_slice())
     }
 }
 
-// Adds the notes on the lines of the file at a path.
+// Adds the notes on the lines of the file at a place.
 fn add_line_notes(
     notes: &mut Items<UnitNote>,
-    path: &Path,
+    place: &Place,
     lines: &[Note],
 ) -> Result<(), AllocError>
-    ensures added { OnOk result (notes.new ≡ notes.old ++ map (UnitNote.File path.now) lines.now) }
+    ensures added { OnOk result (notes.new ≡ notes.old ++ map (UnitNote.File place.now) lines.now) }
 {
     for line in lines {
-        notes.push(UnitNote::File(path.try_clone()?, *line))?;
+        notes.push(UnitNote::File(place.try_clone()?, *line))?;
     }
     Ok(())
 }
@@ -93,15 +97,4 @@ fn bytes_of<'a>(content: Option<&'a Content>) -> &'a [u8]
         Some(Content::File(file)) => file.bytes(),
         _ => &[],
     }
-}
-
-/// The paths of drop-ins, in their order. It fails for want of memory alone, and copies no bytes.
-pub(crate) fn paths_of(alloc: Global, dropins: &[SeenEntry]) -> Result<Vec<Path>, AllocError>
-    ensures paths { IfOk result (λ paths. paths.items ≡ map entry_path dropins.now) }
-{
-    let mut paths = Vec::new(alloc);
-    for placed in dropins {
-        paths.push(placed.path()?)?;
-    }
-    Ok(paths)
 }

@@ -3,13 +3,13 @@ ghost use Rattle.std.specs.Prelude.{◌≡◌, IfOk};
 ghost use Rattle.unit_loads.specs.Steps.{ComesTo, found_unit};
 ghost use Rattle.unit_loads.specs.Units.{HasSettings};
 
-use crate::files::{UnitText, paths_of};
+use crate::files::UnitText;
 use crate::links::LinkNames;
 use crate::settled::Settled;
 use crate::units::{Status, Unit};
-use dropins::UnitFolders;
+use dropins::{UnitFolders, places_of};
 use plain_values::Items;
-use replica_store::{Path, Seen, SeenEntry};
+use replica_store::{Place, Seen, SeenEntry};
 use std::alloc::{AllocError, Global};
 use unit_name::UnitName;
 
@@ -17,20 +17,20 @@ use unit_name::UnitName;
 #[derive(Drop)]
 pub(crate) struct Found {
     /// The drop-ins, by file name.
-    pub dropins: Items<Path>,
+    pub dropins: Items<Place>,
     /// What the fragment, the drop-ins and the links come to.
     pub settled: Settled,
 }
 
 impl Found {
-    /// Those of the unit of these names whose fragment is at this path. Its folders are listed once, for drop-ins and for
+    /// Those of the unit of these names whose fragment is at this place. Its folders are listed once, for drop-ins and for
     /// links. It fails for want of memory alone.
     pub fn of(
         alloc: Global,
         seen: &Seen,
         name: &UnitName,
         names: &[UnitName],
-        fragment: &Path,
+        fragment: &Place,
     ) -> Result<Found, AllocError>
         ensures settings { IfOk result (λ found. HasSettings seen.now fragment.now
             (found_unit name.now names.now fragment.now found)) }
@@ -41,8 +41,8 @@ impl Found {
         Self::of_files(alloc, seen, name, fragment, &dropins, links)
     }
 
-    /// The unit of these names whose fragment is at this path, with these drop-ins and this that they come to.
-    pub fn into_unit(self, name: UnitName, names: Vec<UnitName>, fragment: Path) -> Unit
+    /// The unit of these names whose fragment is at this place, with these drop-ins and this that they come to.
+    pub fn into_unit(self, name: UnitName, names: Vec<UnitName>, fragment: Place) -> Unit
         ensures unit { result ≡ found_unit name names.items fragment self }
     {
         let Found { dropins, settled } = self;
@@ -63,7 +63,7 @@ impl Found {
         alloc: Global,
         seen: &Seen,
         name: &UnitName,
-        fragment: &Path,
+        fragment: &Place,
         dropins: &[SeenEntry],
         links: LinkNames,
     ) -> Result<Found, AllocError>
@@ -71,7 +71,7 @@ impl Found {
     {
         let text = UnitText::of(alloc, seen, fragment, dropins)?;
         let settled = Settled::of(alloc, name, text, links)?;
-        let dropins = paths_of(alloc, dropins)?;
+        let dropins = places_of(alloc, seen, dropins)?;
         Ok(Found {
             dropins: Items::from_vec(dropins),
             settled,

@@ -1,6 +1,7 @@
 //! A unit of a store.
 ghost use Rattle.std.specs.Prelude.{◌≡◌, IfOk};
-ghost use Rattle.path_maps.specs.Views.{fleet_of};
+ghost use Rattle.std.specs.Option.{option_copied};
+ghost use Rattle.path_maps.specs.Views.{view_of};
 ghost use Rattle.fragment_choice.specs.Resolutions.{main, resolution};
 ghost use Rattle.unit_loads.specs.Units.{HasNothing, IsUnit, no_names};
 
@@ -8,7 +9,7 @@ use crate::found::Found;
 use crate::units::{Status, Unit};
 use fragment_choice::{AliasIndex, Choice, Resolution};
 use plain_values::Items;
-use replica_store::Store;
+use replica_store::{HostName, Store};
 use setting_rules::{DepKind, DependencyList};
 use std::alloc::{AllocError, Global};
 use unit_name::UnitName;
@@ -27,13 +28,19 @@ pub fn load_unit(alloc: Global, index: &AliasIndex, name: &UnitName) -> Result<U
     load_resolved(alloc, index, resolved)
 }
 
-/// The unit of a name's main in a store, as `load_unit` gives it.
+/// The unit of a name's main in a store, as a host sees it or as it is seen without one: as `load_unit` gives it.
 ///
 /// It makes an index of the whole store; for several units make one and ask for each. It fails for want of memory alone.
-pub fn load_one(alloc: Global, store: &Store, name: &UnitName) -> Result<Unit, AllocError>
-    ensures unit { IfOk result (IsUnit (fleet_of store.now) (main (fleet_of store.now) name.now)) }
+pub fn load_one(
+    alloc: Global,
+    store: &Store,
+    host: Option<&HostName>,
+    name: &UnitName,
+) -> Result<Unit, AllocError>
+    ensures unit { IfOk result (IsUnit (view_of store.now (option_copied host.entry))
+        (main (view_of store.now (option_copied host.entry)) name.now)) }
 {
-    let index = AliasIndex::of(alloc, store)?;
+    let index = AliasIndex::of(alloc, store, host)?;
     let resolved = index.resolve(alloc, name)?;
     load_resolved(alloc, &index, resolved)
 }
@@ -51,9 +58,9 @@ pub fn load_resolved(
     let Resolution { main, choice } = resolved;
     let names = index.names_of(alloc, &main)?;
     match choice {
-        Choice::Fragment(path) => {
-            let found = Found::of(alloc, index.seen(), &main, &names, &path)?;
-            Ok(found.into_unit(main, names, path))
+        Choice::Fragment(place) => {
+            let found = Found::of(alloc, index.seen(), &main, &names, &place)?;
+            Ok(found.into_unit(main, names, place))
         }
         Choice::NotFound => unloaded(alloc, main, names, Status::NotFound),
         Choice::Masked => unloaded(alloc, main, names, Status::Masked),

@@ -2,7 +2,7 @@
 
 use fragment_choice::Cause;
 use plain_values::Items;
-use replica_store::Path;
+use replica_store::Place;
 use section_reader::Note;
 use setting_rules::{DependencyList, Row, SettingNote};
 use unit_name::UnitName;
@@ -10,8 +10,8 @@ use unit_name::UnitName;
 /// What stands for a unit (systemd.unit(5), "Unit File Load Path").
 #[derive(Debug, PartialEq, Eq, Drop)]
 pub enum Status {
-    /// The file at this path, which is the unit's fragment.
-    Loaded(Path),
+    /// The file at this place, which is the unit's fragment.
+    Loaded(Place),
     /// Nothing.
     NotFound,
     /// An empty file or a link to `/dev/null`.
@@ -23,8 +23,8 @@ pub enum Status {
 /// What is wrong in a unit's files, or with what they set.
 #[derive(Debug, PartialEq, Eq, Drop)]
 pub enum UnitNote {
-    /// With a line of the file at this path.
-    File(Path, Note),
+    /// With a line of the file at this place.
+    File(Place, Note),
     /// With a value, a word of one, or a link's name.
     Setting(SettingNote),
 }
@@ -39,7 +39,7 @@ pub struct Unit {
     /// What stands for it.
     pub status: Status,
     /// The drop-ins, by file name.
-    pub dropins: Items<Path>,
+    pub dropins: Items<Place>,
     /// The values of keys that set no dependencies, in the order of the keys.
     pub values: Items<Row>,
     /// For each kind that a unit file may set, in the order of the kinds, the names that words and links give, in byte order.

@@ -3,4 +3,4 @@ use Rattle.unit_loads.specs.declared.units.UnitNote.TheVariants.{File}
 use Rattle.unit_loads.proofs.files.add_line_notes.Given as goal
 
 abbrev pub invariant-loop-line : goal.invariant-loop-line
-invariant-loop-line l = l.notes ≡ l.initial.notes ++ map (File l.path) (take l.line-index l.lines)
+invariant-loop-line l = l.notes ≡ l.initial.notes ++ map (File l.place) (take l.line-index l.lines)

@@ -16,7 +16,7 @@ returns c =
     let items = items_with c.args.seen.now c.args.fragment.now c.args.dropins.now in
     record {
       found = record {
-        dropins = c.from_vec.ensures.elements ∙ c.in_ok-dropins.ensures.paths;
+        dropins = c.from_vec.ensures.elements ∙ c.in_ok-dropins.ensures.places;
         values = settled.values ∙ ap (λ xs. rows_of (settings_of xs) name) text.items;
         deps = settled.deps ∙ ap (λ xs. lists_with (settings_of xs) name links) text.items;
         notes =
