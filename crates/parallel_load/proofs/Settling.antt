@@ -10,7 +10,7 @@ use Rattle.std.specs.Result.{IfErr, IsErrAnd}
 use Rattle.std.proofs.lemmas.List.{length-map}
 use Rattle.std.proofs.lemmas.List.Elements.{All-nil, All-cons}
 use Rattle.list_laws.specs.Members.{IsAmong}
-use Rattle.path_maps.specs.Views.{View}
+use Rattle.path_maps.specs.Views.{View, looker_of}
 use Rattle.unit_name.specs.Names.{Name, name_cmp}
 use Rattle.setting_rules.specs.declared.dependency_lists.DependencyList.{DependencyList}
 use Rattle.setting_rules.specs.Dependencies.{in_byte_order}
@@ -150,8 +150,9 @@ module _ (s : View) (extra : List Name) (found : List (Name × NameLoad)) (f : I
   whole_found = whole_from s found f.loaded next
 
   -- and is the load, with main names put in
-  pub load_is : (load : LoadMap) → load.extra ≡ extra → AreSettled found load.names → IsLoad s extra load
-  load_is load asked settled = record {
+  pub load_is : (load : LoadMap) → load.host ≡ looker_of s → load.extra ≡ extra → AreSettled found load.names → IsLoad s extra load
+  load_is load host asked settled = record {
+    host_is = host;
     extra_is = asked;
     universe = subst (AreUniverse s extra)
         (sym (ap (λ (ps : List (Name × NameLoad)). keys_of ps) settled.names_are ∙ settled_keys settled.mains found)) f.universe;

@@ -30,5 +30,6 @@ pub one_load : OneLoad
 one_load s extra a b p q =
     let nodes = one_closure (IsSource s extra) (LeadsTo s) name_cmp nat_list_cmp_total (keys_of a.names) (keys_of b.names) p.universe q.universe in
     let names = one_load_of_nodes (IsNameLoad s) (one_name_load s) a.names b.names nodes p.loaded q.loaded in
-    ap (λ (x : List Name). let l : LoadMap = record { extra = x; names = a.names } in l) (p.extra_is ∙ sym q.extra_is)
-    ∙ ap (λ (x : List (Name × NameLoad)). let l : LoadMap = record { extra = b.extra; names = x } in l) names
+    let host = p.host_is ∙ sym q.host_is in
+    let asked = p.extra_is ∙ sym q.extra_is in
+    (λ i. record { host = host i; extra = asked i; names = names i })

@@ -1,12 +1,13 @@
 -- What a load of a store is: for each name of the universe its unit, or the main name of which it is an alias.
 -- Source: systemd.unit(5), "Description"; that dependencies are told by main names is this project's own.
 use Rattle.std.specs.Prelude.{◌≡◌, ◌≢◌, not, Option, Some, None, List, map, filter, refl}
-use Rattle.std.specs.Coded.{Coded, code_by, coded×, coded_list, coded_ℕ}
+use Rattle.std.specs.Coded.{Coded, code_by, coded×, coded_list, coded_option, coded_ℕ}
 use Rattle.std.specs.List.{filter_map}
 use Rattle.std.specs.FinMap.{find}
 use Rattle.std.specs.Map.{keys_of}
 use Rattle.std.specs.Option.{option_and_then, option_map}
-use Rattle.path_maps.specs.Views.{View}
+use Rattle.load_places.specs.Levels.{Looker}
+use Rattle.path_maps.specs.Views.{View, looker_of}
 use Rattle.unit_name.specs.Names.{Name, name_cmp}
 use Rattle.setting_rules.specs.declared.dependency_lists.DependencyList.{DependencyList}
 use Rattle.setting_rules.specs.Dependencies.{in_byte_order}
@@ -53,8 +54,9 @@ IsNameLoad s name (OfAlias of) = IsAliasOf s name of
 
 -- ---- the load
 
--- what is loaded: the names that were asked for, and all names in byte order, each with what it stands for
+-- what is loaded: for which host, if for one, the names that were asked for, and all names in byte order, each with what it stands for
 pub record LoadMap : Type 0 where
+  pub host : Looker
   pub extra : List Name
   pub names : List (Name × NameLoad)
 
@@ -63,11 +65,12 @@ coded_name_load = (one.the_row).coded
 
 abbrev pub coded_load : Coded LoadMap
 coded_load =
-    code_by (List Name × List (Name × NameLoad)) (coded× (coded_list (coded_list coded_ℕ)) (coded_list (coded× (coded_list coded_ℕ) (one.the_row).coded)))
-    (λ l. (l.extra, l.names)) (λ p. record { extra = p.0; names = p.1 }) (λ _. refl)
+    code_by (Looker × (List Name × List (Name × NameLoad))) (coded× (coded_option (coded_list coded_ℕ)) (coded× (coded_list (coded_list coded_ℕ)) (coded_list (coded× (coded_list coded_ℕ) (one.the_row).coded))))
+    (λ l. (l.host, (l.extra, l.names))) (λ p. record { host = p.0; extra = p.1.0; names = p.1.1 }) (λ _. refl)
 
--- This is the load of a store with the names that are asked for.
+-- This is the load of what is looked at of a store, with the names that are asked for.
 pub record IsLoad (s : View) (extra : List Name) (load : LoadMap) : Type 0 where
+  pub host_is : load.host ≡ looker_of s
   pub extra_is : load.extra ≡ extra
   pub universe : AreUniverse s extra (keys_of load.names)
   pub loaded : AreLoaded (IsNameLoad s) load.names

@@ -6,7 +6,7 @@ use Rattle.std.specs.FinMap as finmap
 use Rattle.load_path.specs.Paths.{PathParts}
 use Rattle.edit_sums.specs.Entries.{Entry}
 use Rattle.edit_sums.specs.Sums.{shown}
-use Rattle.path_maps.specs.Views.{View}
+use Rattle.path_maps.specs.Views.{View, seen}
 use Rattle.path_maps.specs.Folders.{is_in}
 use Rattle.unit_name.specs.declared.names.Shape.{Shape as UnitShape}
 use Rattle.unit_name.specs.declared.names.Shape.TheVariants.{Plain, Template, Instance}
@@ -21,6 +21,6 @@ is_template Instance = false
 abbrev pub visible_name : PathParts × Entry → Option Name
 visible_name p = if is_some (shown p.1) && is_name p.0.name && not (is_template (shape p.0.name)) then Some p.0.name else None
 
--- those of a rank
+-- those of a level
 abbrev pub visible_names : View → ℕ → List Name
-visible_names s rank = filter_map visible_name (filter (λ p. is_in rank [] p.0) (finmap.entries s))
+visible_names s level = filter_map visible_name (filter (λ p. is_in level [] p.0) (finmap.entries (seen s)))

@@ -12,15 +12,15 @@ use Rattle.fragment_choice.specs.Resolutions.{main}
 use Rattle.name_closure.specs.Chains.{IsReached, IsClosure, HasOver}
 use Rattle.unit_loads.specs.NamedUnits.{IsNamed}
 
--- a unit name, no template, at whose path of this rank something is visible
-pub record IsVisibleAt (s : View) (rank : ℕ) (n : Name) : Type 0 where
+-- a unit name, no template, of which something is visible at this level
+pub record IsVisibleAt (s : View) (level : ℕ) (n : Name) : Type 0 where
   pub name : IsName n
   pub whole : shape n ≢ Template
-  pub shown : IsSome (seen_at s (own_path n rank))
+  pub shown : IsSome (seen_at s (own_path n level))
 
 -- the same at some level
 abbrev pub IsVisibleName : View → Name → Type 0
-IsVisibleName s n = (rank : ℕ) × IsLevel rank × IsVisibleAt s rank n
+IsVisibleName s n = (level : ℕ) × IsLevel level × IsVisibleAt s level n
 
 -- a name that is asked for, or one at which something is visible
 abbrev pub IsSource : View → List Name → Name → Type 0

@@ -2,6 +2,7 @@
 ghost use Rattle.std.specs.Prelude.{◌≡◌, ◌<◌, map, IfOk, IsTrue};
 ghost use Rattle.std.specs.BTreeMap.{keys};
 ghost use Rattle.std.specs.FinMap.{is_sorted};
+ghost use Rattle.std.specs.Option.{option_copied};
 ghost use Rattle.std.specs.List.Sorted.{IsStrictlySortedBy};
 ghost use Rattle.unit_name.specs.Names.{name_cmp};
 ghost use Rattle.parallel_load.specs.Numbers.{AreDependencyRows};
@@ -12,6 +13,7 @@ use crate::loaded::{Dependency, Loaded, NameLoad};
 use crate::loader::add_names;
 use crate::mains::{Mains, Settled};
 use plain_values::Items;
+use replica_store::HostName;
 use std::alloc::{AllocError, Global};
 use std::collections::BTreeMap;
 use std::thread::Threads;
@@ -21,23 +23,26 @@ use worker_rounds::{Share, work_by_shares};
 /// The load of what was found, with dependencies by main names. It fails for want of memory alone.
 pub(crate) fn settled(
     alloc: Global,
+    host: Option<&HostName>,
     extra: &[UnitName],
     found: BTreeMap<UnitName, Kept>,
 ) -> Result<Loaded, AllocError>
     requires rising { IsStrictlySortedBy name_cmp (keys found) }
     requires whole { IsWhole found.entries }
+    ensures host { IfOk result (λ load. load.host ≡ option_copied host.entry) }
     ensures extra { IfOk result (λ load. load.extra ≡ extra.now) }
     ensures names { IfOk result (λ load. AreSettled found.entries load.names) }
 {
     let Found { pairs, mains } = found_of(alloc, found)?;
     let names = mains.settle_all(alloc, pairs)?;
-    load_of(alloc, extra, names)
+    load_of(alloc, host, extra, names)
 }
 
 /// The same, where so many workers put the main names in, each for a share of the names. It may wait for threads.
 pub(crate) fn settled_by_workers<R: Threads + Sync>(
     rt: &R,
     alloc: Global,
+    host: Option<&HostName>,
     extra: &[UnitName],
     found: BTreeMap<UnitName, Kept>,
     workers: usize,
@@ -45,12 +50,13 @@ pub(crate) fn settled_by_workers<R: Threads + Sync>(
     requires some { 0 < workers }
     requires rising { IsStrictlySortedBy name_cmp (keys found) }
     requires whole { IsWhole found.entries }
+    ensures host { IfOk result (λ load. load.host ≡ option_copied host.entry) }
     ensures extra { IfOk result (λ load. load.extra ≡ extra.now) }
     ensures names { IfOk result (λ load. AreSettled found.entries load.names) }
 {
     let Found { pairs, mains } = found_of(alloc, found)?;
     let names = settle_by_workers(rt, alloc, &mains, pairs, workers)?;
-    load_of(alloc, extra, names)
+    load_of(alloc, host, extra, names)
 }
 
 // What was found, in order, and the numbers of main names.
@@ -106,16 +112,33 @@ fn settle_by_workers<R: Threads + Sync>(
 }
 
 // The load of these names, which are in byte order.
-fn load_of(alloc: Global, extra: &[UnitName], settled: Vec<Settled>) -> Result<Loaded, AllocError>
+fn load_of(
+    alloc: Global,
+    host: Option<&HostName>,
+    extra: &[UnitName],
+    settled: Vec<Settled>,
+) -> Result<Loaded, AllocError>
     requires sorted { IsTrue (is_sorted name_cmp (name_loads settled.items)) }
     requires rows { AreDependencyRows (name_loads settled.items) (name_numbers settled.items) }
+    ensures host { IfOk result (λ load. load.host ≡ option_copied host.entry) }
     ensures extra { IfOk result (λ load. load.extra ≡ extra.now) }
     ensures names { IfOk result (λ load. load.names ≡ name_loads settled.items) }
 {
+    let host = copy_of(host)?;
     let mut asked = Vec::new(alloc);
     add_names(&mut asked, extra)?;
     let Parts { names, deps } = parts_of(alloc, settled)?;
-    Ok(Loaded::new(Items::from_vec(asked), names, deps))
+    Ok(Loaded::new(host, Items::from_vec(asked), names, deps))
+}
+
+// The name of a host, if there is one. It shares its bytes.
+fn copy_of(host: Option<&HostName>) -> Result<Option<HostName>, AllocError>
+    ensures copy { IfOk result (λ copy. copy ≡ option_copied host.entry) }
+{
+    match host {
+        Some(host) => Ok(Some(host.try_clone()?)),
+        None => Ok(None),
+    }
 }
 
 // Names with what they stand for, and beside them their dependencies by numbers.

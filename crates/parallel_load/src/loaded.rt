@@ -7,6 +7,7 @@ ghost use Rattle.parallel_load.specs.Loads.{load_at, main_in, unit_in, units_in}
 ghost use Rattle.parallel_load.specs.Numbers.{AreDependencyRows};
 
 use plain_values::Items;
+use replica_store::HostName;
 use setting_rules::DepKind;
 use sorted_pairs::seek;
 use std::alloc::{AllocError, Global};
@@ -32,9 +33,11 @@ pub struct Dependency {
     pub number: usize,
 }
 
-/// What is loaded from one store: the names that were asked for, and what each name of the universe stands for.
+/// What is loaded from one store: for which host, the names that were asked for, and what each name of the universe
+/// stands for.
 #[derive(Debug, Drop)]
 pub struct Loaded {
+    host: Option<HostName>,
     extra: Items<UnitName>,
     names: Vec<(UnitName, NameLoad)>,
     // For each name the dependencies of what it stands for.
@@ -49,7 +52,7 @@ impl Model for Loaded {
 
     ghost coded = { coded_load };
 
-    ghost view = { λ l. record { extra = l.extra; names = l.names.items } };
+    ghost view = { λ l. record { host = l.host; extra = l.extra; names = l.names.items } };
 
     ghost invariant = { λ l. IsKept l.names.items l.deps.items };
 }
@@ -57,20 +60,33 @@ impl Model for Loaded {
 impl Loaded {
     // The load of these names, which are in byte order, each with its dependencies by numbers.
     pub(crate) fn new(
+        host: Option<HostName>,
         extra: Items<UnitName>,
         names: Vec<(UnitName, NameLoad)>,
         deps: Vec<Items<Dependency>>,
     ) -> Loaded
         requires sorted { IsTrue (is_sorted name_cmp names.items) }
         requires rows { AreDependencyRows names.items deps.items }
-        ensures load { result ≡ record { extra = extra; names = names.items } }
+        ensures load { result ≡ record { host = host; extra = extra; names = names.items } }
     {
-        Loaded { extra, names, deps }
+        Loaded {
+            host,
+            extra,
+            names,
+            deps,
+        }
     }
 
     /// The allocator that the load takes its memory from.
     pub fn allocator(&self) -> Global {
         *self.names.allocator()
+    }
+
+    /// The host for which it was loaded; none where it was loaded without one. It takes no memory.
+    pub fn host(&self) -> Option<&HostName>
+        ensures host { option_copied result ≡ self.now.host }
+    {
+        self.host.as_ref()
     }
 
     /// The names that were asked for, as they were given. It takes no memory.

@@ -1,13 +1,14 @@
 //! What is loaded for one name.
 ghost use Rattle.std.specs.Prelude.{◌≡◌, ◌++◌, ◌∷◌, [], IfOk, OnOk};
-ghost use Rattle.path_maps.specs.Views.{fleet_of};
+ghost use Rattle.std.specs.Option.{option_copied};
+ghost use Rattle.path_maps.specs.Views.{view_of};
 ghost use Rattle.parallel_load.specs.Alone.{names_in_lists};
 
 use crate::kept::Kept;
 use crate::loaded::NameLoad;
 use fragment_choice::AliasIndex;
 use name_closure::Loads;
-use replica_store::Store;
+use replica_store::{HostName, Store};
 use setting_rules::DependencyList;
 use std::alloc::{AllocError, Global};
 use unit_loads::load_resolved;
@@ -20,11 +21,15 @@ pub(crate) struct UnitLoader<'a> {
 }
 
 impl<'a> UnitLoader<'a> {
-    /// The loader of a store. It fails for want of memory alone.
-    pub fn of(alloc: Global, store: &'a Store) -> Result<UnitLoader<'a>, AllocError>
-        ensures seen { IfOk result (λ loader. loader.index ≡ fleet_of store.now) }
+    /// The loader of a store for a host, or without one. It fails for want of memory alone.
+    pub fn of(
+        alloc: Global,
+        store: &'a Store,
+        host: Option<&'a HostName>,
+    ) -> Result<UnitLoader<'a>, AllocError>
+        ensures seen { IfOk result (λ loader. loader.index ≡ view_of store.now (option_copied host.entry)) }
     {
-        let index = AliasIndex::of(alloc, store)?;
+        let index = AliasIndex::of(alloc, store, host)?;
         Ok(UnitLoader { index })
     }
 }

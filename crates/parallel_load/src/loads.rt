@@ -1,6 +1,7 @@
 //! Loads of a store.
 ghost use Rattle.std.specs.Prelude.{◌≡◌, ◌↔◌, ◌⊎◌, ◌<◌, Err, IfOk, IfErr};
-ghost use Rattle.path_maps.specs.Views.{fleet_of};
+ghost use Rattle.std.specs.Option.{option_copied};
+ghost use Rattle.path_maps.specs.Views.{view_of};
 ghost use Rattle.parallel_load.specs.Loads.{IsLoad};
 ghost use Rattle.parallel_load.specs.Refusals.{OnTooMany, OnWorkers};
 ghost use Rattle.parallel_load.specs.Universe.{IsTooLarge};
@@ -12,7 +13,7 @@ use crate::loaded::Loaded;
 use crate::loader::UnitLoader;
 use crate::sources::sources;
 use name_closure::close_loaded;
-use replica_store::Store;
+use replica_store::{HostName, Store};
 use std::alloc::Global;
 use std::thread::Threads;
 use unit_name::UnitName;
@@ -21,21 +22,27 @@ use worker_rounds::{Gate, close_loaded_by_workers, is_crew};
 /// So many names are loaded at most, aliases counted.
 pub const MOST_NAMES: usize = 4096;
 
-/// All units that a manager must load from a store, with these names asked for beside all at which something is visible:
+/// All units that a host's manager must load from a store, or one without a host, with these names asked for beside all
+/// at which something is visible to it:
 /// the load of the least set of names that is closed under main names and under what units name (systemd.unit(5)).
 ///
 /// `TooManyUnits` exactly where these names are more than 4,096, aliases counted; or `Memory` for want of memory, and
 /// `Workers` never. Linear in the bytes of the units' files, beside the logarithm of the number of names and of paths.
-pub fn load_here(alloc: Global, store: &Store, extra: &[UnitName]) -> Result<Loaded, LoadFault>
-    ensures load { IfOk result (IsLoad (fleet_of store.now) extra.now) }
-    ensures over { IfErr result (λ fault. OnTooMany fault (IsTooLarge (fleet_of store.now) extra.now)) }
-    ensures not_over { IfOk result (λ _. ¬ IsTooLarge (fleet_of store.now) extra.now) }
+pub fn load_here(
+    alloc: Global,
+    store: &Store,
+    host: Option<&HostName>,
+    extra: &[UnitName],
+) -> Result<Loaded, LoadFault>
+    ensures load { IfOk result (IsLoad (view_of store.now (option_copied host.entry)) extra.now) }
+    ensures over { IfErr result (λ fault. OnTooMany fault (IsTooLarge (view_of store.now (option_copied host.entry)) extra.now)) }
+    ensures not_over { IfOk result (λ _. ¬ IsTooLarge (view_of store.now (option_copied host.entry)) extra.now) }
     ensures no_workers { IfErr result (λ fault. OnWorkers fault ⊥) }
 {
-    let sources = sources(alloc, &store.fleet(), extra)?;
-    let loader = UnitLoader::of(alloc, store)?;
+    let sources = sources(alloc, &store.seen_by(host), extra)?;
+    let loader = UnitLoader::of(alloc, store, host)?;
     let found = close_loaded(alloc, &loader, &sources, MOST_NAMES)?;
-    Ok(settled(alloc, extra, found)?)
+    Ok(settled(alloc, host, extra, found)?)
 }
 
 /// The same load by 1 to 64 workers, whatever their number and whatever the gate answers; refusals too.
@@ -48,20 +55,21 @@ pub fn load_fleet<R: Threads + Sync, G: Gate + Sync>(
     rt: &R,
     alloc: Global,
     store: &Store,
+    host: Option<&HostName>,
     extra: &[UnitName],
     workers: usize,
     gate: &G,
 ) -> Result<Loaded, LoadFault>
     ensures workers { (result ≡ Err Workers) ↔ ((workers ≡ 0) ⊎ (64 < workers)) }
-    ensures load { IfOk result (IsLoad (fleet_of store.now) extra.now) }
-    ensures over { IfErr result (λ fault. OnTooMany fault (IsTooLarge (fleet_of store.now) extra.now)) }
-    ensures not_over { IfOk result (λ _. ¬ IsTooLarge (fleet_of store.now) extra.now) }
+    ensures load { IfOk result (IsLoad (view_of store.now (option_copied host.entry)) extra.now) }
+    ensures over { IfErr result (λ fault. OnTooMany fault (IsTooLarge (view_of store.now (option_copied host.entry)) extra.now)) }
+    ensures not_over { IfOk result (λ _. ¬ IsTooLarge (view_of store.now (option_copied host.entry)) extra.now) }
 {
     if !is_crew(workers) {
         return Err(LoadFault::Workers);
     }
-    let sources = sources(alloc, &store.fleet(), extra)?;
-    let loader = UnitLoader::of(alloc, store)?;
+    let sources = sources(alloc, &store.seen_by(host), extra)?;
+    let loader = UnitLoader::of(alloc, store, host)?;
     let found = close_loaded_by_workers(rt, alloc, &loader, &sources, MOST_NAMES, workers, gate)?;
-    Ok(settled_by_workers(rt, alloc, extra, found, workers)?)
+    Ok(settled_by_workers(rt, alloc, host, extra, found, workers)?)
 }

@@ -8,7 +8,7 @@ ghost use Rattle.parallel_load.specs.Sources.{visible_name, visible_names};
 ghost use Rattle.parallel_load.specs.Universe.{IsSource};
 
 use crate::loader::add_names;
-use load_path::LEVELS;
+use load_places::LEVELS;
 use replica_store::{Seen, SeenEntry};
 use std::alloc::{AllocError, Global};
 use unit_name::{NameFault, UnitName};

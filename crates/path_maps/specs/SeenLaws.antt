@@ -21,7 +21,7 @@ use Rattle.path_maps.specs.Scopes.{PathMap, scope_of, within}
 use Rattle.path_maps.specs.ScopeLaws.{get-scope_of}
 use Rattle.path_maps.specs.Sights.{path_behind}
 use Rattle.path_maps.specs.ViewLaws.{get-seen}
-use Rattle.path_maps.specs.Views.{AreForOne, Own, View, content_at, held_by, held_by_own, own_scope, scope_at, seen, seen_at, seen_place, view_of}
+use Rattle.path_maps.specs.Views.{AreForOne, Own, View, content_at, held_by, held_by_own, looker_of, own_scope, scope_at, seen, seen_at, seen_place, view_of}
 
 -- a place with a level is seen at it
 abbrev pub PlacesAreSeen : Type 0
@@ -133,6 +133,11 @@ content_seen v path c is = by (finmap.get (seen v) path) refl is
 -- a path has one place in views for one host
 pub same_place : (v w : View) → AreForOne v w → (path : PathParts) → seen_place v path ≡ seen_place w path
 same_place v w one path = (λ i. record { scope = cond (path.rank % 2 == 0) (one i) Fleet; path = path_behind path })
+
+-- a view is for the host that looks
+pub one_looker : (s : EntryMap) (host : Looker) → looker_of (view_of s host) ≡ host
+one_looker s None = refl
+one_looker s (Some h) = refl
 
 -- ---- other hosts
 

@@ -35,6 +35,10 @@ own_of s host = record { host = host; held = scope_of s (Host host) }
 abbrev pub view_of : EntryMap → Looker → View
 view_of s host = record { own = option_map (own_of s) host; fleet = scope_of s Fleet }
 
+-- the name of the host that looks, if one does
+abbrev pub looker_of : View → Looker
+looker_of v = option_map (λ own. own.host) v.own
+
 -- ---- by level
 
 -- an entry at a level: its path has the level in the place of its rank

@@ -1,38 +1,41 @@
-use Rattle.path_maps.specs.Views.{fleet_of}
+use Rattle.std.proofs.Common.{sym, ◌∙◌}
+use Rattle.std.specs.Option.{option_copied}
+use Rattle.path_maps.specs.SeenLaws.{one_looker}
+use Rattle.path_maps.specs.Views.{view_of}
 use Rattle.parallel_load.specs.Universe.{IsTooLarge}
 use Rattle.parallel_load.proofs.Settling.{found_from, load_is, not_too_large, over_here, refused_over, seen_sources, whole_found}
 use Rattle.parallel_load.proofs.loads.load_here.Goals as goal
 
 pub returns-in_err-found-clause-over : goal.returns-in_err-found-clause-over
 returns-in_err-found-clause-over c =
-    refused_over c.from_residual-in_err-found.result _ (IsTooLarge (fleet_of c.args.store.now) c.args.extra.now)
+    refused_over c.from_residual-in_err-found.result _ (IsTooLarge (view_of c.args.store.now (option_copied c.args.host)) c.args.extra.now)
     c.from_residual-in_err-found.ensures.1
-    (over_here (fleet_of c.args.store.now) c.in_ok-loader.loader.index c.in_ok-loader.ensures.seen
+    (over_here (view_of c.args.store.now (option_copied c.args.host)) c.in_ok-loader.loader.index c.in_ok-loader.ensures.seen
     c.args.extra.now c.in_ok-sources.sources.items c.deref.result.now
-    (seen_sources c.fleet.result (fleet_of c.args.store.now) c.args.extra.now c.in_ok-sources.sources.items c.fleet.ensures.seen c.in_ok-sources.ensures.sources) c.deref.ensures.value
+    (seen_sources c.seen_by.result (view_of c.args.store.now (option_copied c.args.host)) c.args.extra.now c.in_ok-sources.sources.items c.seen_by.ensures.view c.in_ok-sources.ensures.sources) c.deref.ensures.value
     c.in_err-found.field-0.0 c.in_err-found.ensures.over)
 
 pub settled-requires-clause-whole : goal.settled-requires-clause-whole
 settled-requires-clause-whole c =
-    whole_found (fleet_of c.args.store.now) c.args.extra.now c.in_ok-found.found.entries
-    (found_from (fleet_of c.args.store.now) c.in_ok-loader.loader.index c.in_ok-loader.ensures.seen
+    whole_found (view_of c.args.store.now (option_copied c.args.host)) c.args.extra.now c.in_ok-found.found.entries
+    (found_from (view_of c.args.store.now (option_copied c.args.host)) c.in_ok-loader.loader.index c.in_ok-loader.ensures.seen
     c.args.extra.now c.in_ok-sources.sources.items c.deref.result.now
-    (seen_sources c.fleet.result (fleet_of c.args.store.now) c.args.extra.now c.in_ok-sources.sources.items c.fleet.ensures.seen c.in_ok-sources.ensures.sources) c.deref.ensures.value
+    (seen_sources c.seen_by.result (view_of c.args.store.now (option_copied c.args.host)) c.args.extra.now c.in_ok-sources.sources.items c.seen_by.ensures.view c.in_ok-sources.ensures.sources) c.deref.ensures.value
     c.in_ok-found.found.entries c.in_ok-found.ensures.closure c.in_ok-found.ensures.loaded c.in_ok-found.ensures.room)
 
 pub returns-clause-load : goal.returns-clause-load
 returns-clause-load c =
-    load_is (fleet_of c.args.store.now) c.args.extra.now c.in_ok-found.found.entries
-    (found_from (fleet_of c.args.store.now) c.in_ok-loader.loader.index c.in_ok-loader.ensures.seen
+    load_is (view_of c.args.store.now (option_copied c.args.host)) c.args.extra.now c.in_ok-found.found.entries
+    (found_from (view_of c.args.store.now (option_copied c.args.host)) c.in_ok-loader.loader.index c.in_ok-loader.ensures.seen
     c.args.extra.now c.in_ok-sources.sources.items c.deref.result.now
-    (seen_sources c.fleet.result (fleet_of c.args.store.now) c.args.extra.now c.in_ok-sources.sources.items c.fleet.ensures.seen c.in_ok-sources.ensures.sources) c.deref.ensures.value
+    (seen_sources c.seen_by.result (view_of c.args.store.now (option_copied c.args.host)) c.args.extra.now c.in_ok-sources.sources.items c.seen_by.ensures.view c.in_ok-sources.ensures.sources) c.deref.ensures.value
     c.in_ok-found.found.entries c.in_ok-found.ensures.closure c.in_ok-found.ensures.loaded c.in_ok-found.ensures.room)
-    c.in_ok-settled.field-0 c.in_ok-settled.ensures.extra c.in_ok-settled.ensures.names
+    c.in_ok-settled.field-0 (c.in_ok-settled.ensures.host ∙ sym (one_looker c.args.store.now (option_copied c.args.host))) c.in_ok-settled.ensures.extra c.in_ok-settled.ensures.names
 
 pub returns-clause-not_over : goal.returns-clause-not_over
 returns-clause-not_over c =
-    not_too_large (fleet_of c.args.store.now) c.args.extra.now c.in_ok-found.found.entries
-    (found_from (fleet_of c.args.store.now) c.in_ok-loader.loader.index c.in_ok-loader.ensures.seen
+    not_too_large (view_of c.args.store.now (option_copied c.args.host)) c.args.extra.now c.in_ok-found.found.entries
+    (found_from (view_of c.args.store.now (option_copied c.args.host)) c.in_ok-loader.loader.index c.in_ok-loader.ensures.seen
     c.args.extra.now c.in_ok-sources.sources.items c.deref.result.now
-    (seen_sources c.fleet.result (fleet_of c.args.store.now) c.args.extra.now c.in_ok-sources.sources.items c.fleet.ensures.seen c.in_ok-sources.ensures.sources) c.deref.ensures.value
+    (seen_sources c.seen_by.result (view_of c.args.store.now (option_copied c.args.host)) c.args.extra.now c.in_ok-sources.sources.items c.seen_by.ensures.view c.in_ok-sources.ensures.sources) c.deref.ensures.value
     c.in_ok-found.found.entries c.in_ok-found.ensures.closure c.in_ok-found.ensures.loaded c.in_ok-found.ensures.room)

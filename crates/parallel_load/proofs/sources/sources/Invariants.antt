@@ -3,4 +3,4 @@ use Rattle.parallel_load.proofs.Rows.{names_below}
 use Rattle.parallel_load.proofs.sources.sources.Given as goal
 
 abbrev pub invariant-loop-level : goal.invariant-loop-level
-invariant-loop-level l = (l.names.items ≡ l.extra ++ names_below l.seen l.level) × (l.level ≤ 4)
+invariant-loop-level l = (l.names.items ≡ l.extra ++ names_below l.seen l.level) × (l.level ≤ 8)
