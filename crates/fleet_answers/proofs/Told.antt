@@ -4,14 +4,15 @@ use Rattle.std.specs.Prelude.{MatchOption}
 use Rattle.std.specs.Option.{IfSome}
 use Rattle.unit_name.specs.Names.{Name}
 use Rattle.edit_sums.specs.Sums.{EntryMap}
-use Rattle.path_maps.specs.Views.{fleet_of}
+use Rattle.path_maps.specs.SeenLaws.{one_looker}
+use Rattle.path_maps.specs.Views.{view_of}
 use Rattle.inverse_deps.specs.Edges.{EdgeMap}
 use Rattle.parallel_load.specs.Loads.{LoadMap}
 use Rattle.unit_graph.specs.Graphs.{AreDepths, GraphMap, IsKnown}
 use Rattle.start_plan.specs.declared.requests.Request.{Request}
 use Rattle.start_plan.specs.Requests.{HasTemplate, IsOfGraph}
 use Rattle.fleet_answers.specs.AnswerLaws.{own_are_known}
-use Rattle.fleet_answers.specs.Answers.{AreKnown, IsAnswer, IsSnapshot, IsTold, asked, names_asked}
+use Rattle.fleet_answers.specs.Answers.{AreKnown, IsAnswer, IsSnapshot, IsTold, asked, host_asked, names_asked}
 use Rattle.fleet_answers.specs.declared.questions.Answer.{Answer}
 use Rattle.fleet_answers.specs.declared.questions.Question.{Question}
 
@@ -40,12 +41,16 @@ of_there A B o x e h = subst (λ (p : Option _). MatchOption p A (λ _. B)) e h
 -- a snapshot of all names that are asked for answers as the store does
 module _ (s : EntryMap) (extra : List Name) (question : Question) (found : Option (Vec Name Global)) (names : Vec Name Global) (is : found ≡ Some names)
     (all : IfSome found (λ (ns : Vec Name Global). ns.items ≡ asked extra question)) (lent : List Name) (same : lent ≡ names.items) (graph : GraphMap)
-    (made : IsSnapshot (fleet_of s) lent graph) where
-  all_asked : IsSnapshot (fleet_of s) (asked extra question) graph
-  all_asked = subst (λ (ns : List Name). IsSnapshot (fleet_of s) ns graph) (same ∙ of_some (λ (ns : Vec Name Global). ns.items ≡ asked extra question) found names is all) made
+    (made : IsSnapshot (view_of s (host_asked question)) lent graph) where
+  all_asked : IsSnapshot (view_of s (host_asked question)) (asked extra question) graph
+  all_asked = subst (λ (ns : List Name). IsSnapshot (view_of s (host_asked question)) ns graph) (same ∙ of_some (λ (ns : Vec Name Global). ns.items ≡ asked extra question) found names is all) made
 
   pub own_known : AreKnown graph.load (names_asked question)
-  own_known = own_are_known (fleet_of s) extra question graph.load all_asked.is_load
+  own_known = own_are_known (view_of s (host_asked question)) extra question graph.load all_asked.is_load
+
+  -- it is for the question's host
+  pub own_host : graph.load.host ≡ host_asked question
+  own_host = made.is_load.host_is ∙ one_looker s (host_asked question)
 
   pub answers : MatchOption found (HasTemplate (asked extra question)) (λ _. ¬ HasTemplate (asked extra question)) → (answer : Answer) → IsTold graph question answer
       → IsAnswer s extra question answer

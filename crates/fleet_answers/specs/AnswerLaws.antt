@@ -5,7 +5,7 @@ use Rattle.std.specs.Prelude.{◌↔◌}
 use Rattle.std.specs.Cmp.Lexicographic.{nat_list_cmp_total}
 use Rattle.list_laws.specs.Members.{IsAmong, IsAmong-append_right}
 use Rattle.edit_sums.specs.Sums.{EntryMap}
-use Rattle.path_maps.specs.Views.{View, fleet_of}
+use Rattle.path_maps.specs.Views.{View, view_of}
 use Rattle.unit_name.specs.Names.{Name, name_cmp}
 use Rattle.setting_rules.specs.declared.dependency_lists.DependencyList.{DependencyList}
 use Rattle.setting_rules.specs.declared.kinds.DepKind.{DepKind}
@@ -29,7 +29,7 @@ use Rattle.start_plan.specs.declared.requests.Refusal.TheVariants.{Template, Not
 use Rattle.start_plan.specs.declared.requests.Request.{Request}
 use Rattle.start_plan.specs.Outcomes.{IsFault, IsPlanned, IsRefused, IsRefusalOf}
 use Rattle.start_plan.specs.PlanLaws.{one_case, one_plan, one_refusal_told, plan_or_refusal}
-use Rattle.fleet_answers.specs.Answers.{AreKnown, IsAnswer, IsLinkedUnit, IsPlanTold, IsTold, IsToldFrom, IsWholeAnswer, asked, edge_lists, names_asked}
+use Rattle.fleet_answers.specs.Answers.{AreKnown, IsAnswer, IsLinkedUnit, IsPlanTold, IsTold, IsToldFrom, IsWholeAnswer, asked, edge_lists, host_asked, names_asked}
 use Rattle.fleet_answers.specs.declared.questions.Answer.{Answer}
 use Rattle.fleet_answers.specs.declared.questions.Answer.TheVariants as answer
 use Rattle.fleet_answers.specs.declared.questions.LinkedUnit.{LinkedUnit}
@@ -137,8 +137,8 @@ module _ (load : LoadMap) (request : Request) (x y : EdgeMap) (p : AreEdges load
 
 one_told : (load : LoadMap) (x y : EdgeMap) → AreEdges load x → AreEdges load y → (question : Question) → AreKnown load (names_asked question) → (a b : Answer)
     → IsTold (graph_of load x) question a → IsTold (graph_of load y) question b → a ≡ b
-one_told load x y p q (OfUnit name) known a b f g = f.2 ∙ ap answer.Unit (one_linked load x y p q name f.0 g.0 f.1 g.1) ∙ sym g.2
-one_told load x y p q (OfPulled name) known a b f g = f.2 ∙ ap answer.Pulled (one_pulled load x y p q name f.0 g.0 (known name (inl refl)) f.1 g.1) ∙ sym g.2
+one_told load x y p q (OfUnit host name) known a b f g = f.2 ∙ ap answer.Unit (one_linked load x y p q name f.0 g.0 f.1 g.1) ∙ sym g.2
+one_told load x y p q (OfPulled host name) known a b f g = f.2 ∙ ap answer.Pulled (one_pulled load x y p q name f.0 g.0 (known name (inl refl)) f.1 g.1) ∙ sym g.2
 one_told load x y p q (OfPlan request) known a b f g = one_plan_told load request x y p q a b f g
 
 module _ (s : View) (names : List Name) (question : Question) (own : (load : LoadMap) → IsLoad s names load → AreKnown load (names_asked question)) (a b : Answer) where
@@ -158,4 +158,4 @@ pub one_answer : OneAnswer
 one_answer s extra question a b (inl f) (inl g) = f.1 ∙ sym g.1
 one_answer s extra question a b (inl f) (inr g) = absurd (g.0 f.0)
 one_answer s extra question a b (inr f) (inl g) = absurd (f.0 g.0)
-one_answer s extra question a b (inr f) (inr g) = one_whole (fleet_of s) (asked extra question) question (own_are_known (fleet_of s) extra question) a b f.1 g.1
+one_answer s extra question a b (inr f) (inr g) = one_whole (view_of s (host_asked question)) (asked extra question) question (own_are_known (view_of s (host_asked question)) extra question) a b f.1 g.1

@@ -3,7 +3,8 @@
 use Rattle.std.specs.Prelude.{◌≡◌, ◌≢◌, ◌⊎◌, ℕ, Some, List, [], ◌∷◌, ◌++◌, map}
 use Rattle.list_laws.specs.Members.{IsAmong}
 use Rattle.edit_sums.specs.Sums.{EntryMap}
-use Rattle.path_maps.specs.Views.{View, fleet_of}
+use Rattle.load_places.specs.Levels.{Looker}
+use Rattle.path_maps.specs.Views.{View, view_of}
 use Rattle.unit_name.specs.Names.{Name}
 use Rattle.setting_rules.specs.declared.dependency_lists.DependencyList.{DependencyList}
 use Rattle.setting_rules.specs.declared.kinds.DepKind.{DepKind}
@@ -28,9 +29,15 @@ use Rattle.fleet_answers.specs.declared.questions.Question.TheVariants.{Unit as 
 
 -- the names of a question
 abbrev pub names_asked : Question → List Name
-names_asked (OfUnit name) = name ∷ []
-names_asked (OfPulled name) = name ∷ []
+names_asked (OfUnit host name) = name ∷ []
+names_asked (OfPulled host name) = name ∷ []
 names_asked (OfPlan request) = request.target ∷ request.running
+
+-- the host for which it is asked, if for one
+abbrev pub host_asked : Question → Looker
+host_asked (OfUnit host name) = host
+host_asked (OfPulled host name) = host
+host_asked (OfPlan request) = request.host
 
 -- all names that are asked for
 abbrev pub asked : List Name → Question → List Name
@@ -66,13 +73,13 @@ module _ (graph : GraphMap) where
 
   -- this is what a question is told, all of whose names stand for units
   abbrev pub IsTold : Question → Answer → Type 0
-  IsTold (OfUnit name) told = (unit : LinkedUnit) × IsLinkedUnit name unit × (told ≡ answer.Unit unit)
-  IsTold (OfPulled name) told = (pairs : List (ℕ × Name)) × AreDepths graph name pairs × (told ≡ answer.Pulled pairs)
+  IsTold (OfUnit host name) told = (unit : LinkedUnit) × IsLinkedUnit name unit × (told ≡ answer.Unit unit)
+  IsTold (OfPulled host name) told = (pairs : List (ℕ × Name)) × AreDepths graph name pairs × (told ≡ answer.Pulled pairs)
   IsTold (OfPlan request) told = IsPlanTold request told
 
 -- ---- what a store answers
 
--- this is the load of what is seen of a store with these names asked for, where it isn't too large, and these are its edges
+-- this is the load of what is looked at of a store with these names asked for, where it isn't too large, and these are its edges
 pub record IsSnapshot (s : View) (extra : List Name) (graph : GraphMap) : Type 0 where
   pub within : ¬ IsTooLarge s extra
   pub is_load : IsLoad s extra graph.load
@@ -88,8 +95,8 @@ pub record IsToldFrom (s : View) (names : List Name) (question : Question) (told
 abbrev pub IsWholeAnswer : View → List Name → Question → Answer → Type 0
 IsWholeAnswer s names question told = (IsTooLarge s names × (told ≡ answer.TooManyUnits)) ⊎ IsToldFrom s names question told
 
--- This is what a question is answered from a store, where further names are asked for: a template among the names is told before the store is looked at.
+-- This is what a question is answered from a store, as its host sees it or as it is seen without one, where further names are asked for: a template among the names is told before the store is looked at.
 abbrev pub IsAnswer : EntryMap → List Name → Question → Answer → Type 0
 IsAnswer s extra question told =
     (HasTemplate (asked extra question) × (told ≡ answer.Template))
-    ⊎ (¬ HasTemplate (asked extra question) × IsWholeAnswer (fleet_of s) (asked extra question) question told)
+    ⊎ (¬ HasTemplate (asked extra question) × IsWholeAnswer (view_of s (host_asked question)) (asked extra question) question told)

@@ -12,7 +12,7 @@ use std::alloc::{AllocError, Global};
 use std::thread::Threads;
 use unit_name::UnitName;
 
-/// Answers a question from a store, on one thread, where these names are loaded beside those of the question. It fails for
+/// Answers a question from a store for its host, on one thread, where these names are loaded beside those of the question. It fails for
 /// want of memory alone.
 ///
 /// A template among the names is told before anything is loaded.
@@ -27,7 +27,7 @@ pub fn answer_here(
     let Some(names) = whole_names(alloc, extra, question)? else {
         return Ok(Answer::Template);
     };
-    match Snapshot::of(alloc, store, &names) {
+    match Snapshot::of(alloc, store, question.host(), &names) {
         Ok(snapshot) => snapshot.answer(question),
         Err(LoadFault::TooManyUnits) => Ok(Answer::TooManyUnits),
         Err(_) => Err(AllocError),
@@ -54,7 +54,7 @@ pub fn answer_question<R: Threads + Sync, G: Gate + Sync>(
     let Some(names) = whole_names(alloc, extra, question)? else {
         return Ok(Answer::Template);
     };
-    match Snapshot::by_workers(rt, alloc, store, &names, workers, gate) {
+    match Snapshot::by_workers(rt, alloc, store, question.host(), &names, workers, gate) {
         Ok(snapshot) => Ok(snapshot.answer(question)?),
         Err(LoadFault::TooManyUnits) => Ok(Answer::TooManyUnits),
         Err(_) => Err(AnswerFault::Memory),

@@ -45,7 +45,7 @@ fn append_own(names: &mut Vec<UnitName>, question: &Question) -> Result<(), Allo
     ensures appended { OnOk result (names.new.items ≡ names.old.items ++ names_asked question.now) }
 {
     match question {
-        Question::Unit(name) | Question::Pulled(name) => append_copy(names, name),
+        Question::Unit { name, .. } | Question::Pulled { name, .. } => append_copy(names, name),
         Question::Plan(request) => {
             append_copy(names, &request.target)?;
             append_copies(names, request.running.as_slice())

@@ -1,6 +1,10 @@
 //! What is asked of a store, and what is answered.
+ghost use Rattle.std.specs.Prelude.{◌≡◌};
+ghost use Rattle.std.specs.Option.{option_copied};
+ghost use Rattle.fleet_answers.specs.Answers.{host_asked};
 
 use plain_values::Items;
+use replica_store::HostName;
 use setting_rules::DependencyList;
 use start_plan::{Plan, Refusal, Request};
 use std::alloc::AllocError;
@@ -8,15 +12,33 @@ use thiserror::Error;
 use unit_loads::Unit;
 use unit_name::UnitName;
 
-/// A question of a store. Names may be aliases.
+/// A question of a store: what a host makes of it, or what comes of it without one. Names may be aliases.
 #[derive(Debug, Drop)]
 pub enum Question {
     /// Which unit a name stands for, and what it depends on and what on it.
-    Unit(UnitName),
+    Unit {
+        host: Option<HostName>,
+        name: UnitName,
+    },
     /// Which units the unit pulls for which a name stands, and how far they are.
-    Pulled(UnitName),
+    Pulled {
+        host: Option<HostName>,
+        name: UnitName,
+    },
     /// Which units start and which stop for a request.
     Plan(Request),
+}
+
+impl Question {
+    /// The host for which it is asked; none where it is asked without one. It takes no memory.
+    pub fn host(&self) -> Option<&HostName>
+        ensures host { option_copied result ≡ host_asked self.now }
+    {
+        match self {
+            Question::Unit { host, .. } | Question::Pulled { host, .. } => host.as_ref(),
+            Question::Plan(request) => request.host.as_ref(),
+        }
+    }
 }
 
 /// A unit with its edges.

@@ -1,6 +1,7 @@
 //! What all that must be loaded of a store comes to.
 ghost use Rattle.std.specs.Prelude.{◌≡◌, ◌↔◌, ◌⊎◌, ◌<◌, Err, IfOk, IfErr, Some};
-ghost use Rattle.path_maps.specs.Views.{fleet_of};
+ghost use Rattle.std.specs.Option.{option_copied};
+ghost use Rattle.path_maps.specs.Views.{view_of};
 ghost use Rattle.parallel_load.specs.Refusals.{OnTooMany, OnWorkers};
 ghost use Rattle.parallel_load.specs.Universe.{IsTooLarge};
 ghost use Rattle.parallel_load.specs.declared.faults.LoadFault.TheVariants.{Workers};
@@ -8,13 +9,13 @@ ghost use Rattle.parallel_load.specs.Loads.{main_in};
 ghost use Rattle.unit_graph.specs.Graphs.{AreDepths, IsKnown};
 ghost use Rattle.start_plan.specs.Outcomes.{IsPlanned, IsRefusalOf};
 ghost use Rattle.start_plan.specs.Requests.{IsOfGraph};
-ghost use Rattle.fleet_answers.specs.Answers.{AreKnown, IsLinkedUnit, IsPlanTold, IsSnapshot, IsTold, edge_lists, names_asked};
+ghost use Rattle.fleet_answers.specs.Answers.{AreKnown, IsLinkedUnit, IsPlanTold, IsSnapshot, IsTold, edge_lists, host_asked, names_asked};
 
 use crate::questions::{Answer, LinkedUnit, Question};
 use inverse_deps::{Edges, edges};
 use parallel_load::{Gate, LoadFault, Loaded, load_fleet, load_here};
 use plain_values::Items;
-use replica_store::Store;
+use replica_store::{HostName, Store};
 use setting_rules::{DepKind, DependencyList};
 use start_plan::{Plan, Refusal, Request, plan};
 use std::alloc::{AllocError, Global};
@@ -44,16 +45,21 @@ impl Model for Snapshot {
 }
 
 impl Snapshot {
-    /// The snapshot of a store with these names asked for beside all at which something is visible, by one thread.
+    /// The snapshot of a store for a host, or without one, with these names asked for beside all at which something is visible, by one thread.
     /// `TooManyUnits` exactly where more than 4,096 names must be loaded, aliases counted; or `Memory` for want of memory.
     ///
     /// One load (systemd.unit(5)), and then its edges.
-    pub fn of(alloc: Global, store: &Store, extra: &[UnitName]) -> Result<Snapshot, LoadFault>
-        ensures snapshot { IfOk result (IsSnapshot (fleet_of store.now) extra.now) }
-        ensures over { IfErr result (λ fault. OnTooMany fault (IsTooLarge (fleet_of store.now) extra.now)) }
+    pub fn of(
+        alloc: Global,
+        store: &Store,
+        host: Option<&HostName>,
+        extra: &[UnitName],
+    ) -> Result<Snapshot, LoadFault>
+        ensures snapshot { IfOk result (IsSnapshot (view_of store.now (option_copied host.entry)) extra.now) }
+        ensures over { IfErr result (λ fault. OnTooMany fault (IsTooLarge (view_of store.now (option_copied host.entry)) extra.now)) }
         ensures no_workers { IfErr result (λ fault. OnWorkers fault ⊥) }
     {
-        let loaded = load_here(alloc, store, extra)?;
+        let loaded = load_here(alloc, store, host, extra)?;
         Ok(Snapshot::with_edges(alloc, loaded)?)
     }
 
@@ -63,18 +69,19 @@ impl Snapshot {
         rt: &R,
         alloc: Global,
         store: &Store,
+        host: Option<&HostName>,
         extra: &[UnitName],
         workers: usize,
         gate: &G,
     ) -> Result<Snapshot, LoadFault>
         ensures workers { (result ≡ Err Workers) ↔ ((workers ≡ 0) ⊎ (64 < workers)) }
-        ensures snapshot { IfOk result (IsSnapshot (fleet_of store.now) extra.now) }
-        ensures over { IfErr result (λ fault. OnTooMany fault (IsTooLarge (fleet_of store.now) extra.now)) }
+        ensures snapshot { IfOk result (IsSnapshot (view_of store.now (option_copied host.entry)) extra.now) }
+        ensures over { IfErr result (λ fault. OnTooMany fault (IsTooLarge (view_of store.now (option_copied host.entry)) extra.now)) }
     {
         if workers == 1 {
-            return Snapshot::of(alloc, store, extra);
+            return Snapshot::of(alloc, store, host, extra);
         }
-        let loaded = load_fleet(rt, alloc, store, extra, workers, gate)?;
+        let loaded = load_fleet(rt, alloc, store, host, extra, workers, gate)?;
         Ok(Snapshot::with_edges(alloc, loaded)?)
     }
 
@@ -100,14 +107,15 @@ impl Snapshot {
         &self.edges
     }
 
-    /// Answers a question all of whose names stand for units. It fails for want of memory alone.
+    /// Answers a question for its host, all of whose names stand for units. It fails for want of memory alone.
     pub fn answer(self, question: &Question) -> Result<Answer, AllocError>
+        requires host { self.load.host ≡ host_asked question.now }
         requires known { AreKnown self.load (names_asked question.now) }
         ensures told { IfOk result (IsTold self question.now) }
     {
         match question {
-            Question::Unit(name) => Ok(Answer::Unit(self.linked_unit(name)?)),
-            Question::Pulled(name) => Ok(Answer::Pulled(self.pulled(name)?)),
+            Question::Unit { name, .. } => Ok(Answer::Unit(self.linked_unit(name)?)),
+            Question::Pulled { name, .. } => Ok(Answer::Pulled(self.pulled(name)?)),
             Question::Plan(request) => self.planned(request),
         }
     }
@@ -143,6 +151,7 @@ impl Snapshot {
 
     // The plan of a request, or why there is none.
     fn planned(&self, request: &Request) -> Result<Answer, AllocError>
+        requires host { request.now.host ≡ self.now.load.host }
         requires names { IsOfGraph self.now.load request.now }
         ensures told { IfOk result (IsPlanTold self.now request.now) }
     {
@@ -155,6 +164,7 @@ impl Snapshot {
 
     // The plan of a request, or the first reason why there is none.
     fn plan(&self, request: &Request) -> Result<Plan, Refusal>
+        requires host { request.now.host ≡ self.now.load.host }
         requires names { IsOfGraph self.now.load request.now }
         ensures plan { IfOk result (IsPlanned self.now.load self.now.edges request.now) }
         ensures refusal { IfErr result (IsRefusalOf self.now.load self.now.edges request.now) }

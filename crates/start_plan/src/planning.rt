@@ -1,5 +1,5 @@
 //! The plan of a request.
-ghost use Rattle.std.specs.Prelude.{IfOk, IfErr};
+ghost use Rattle.std.specs.Prelude.{◌≡◌, IfOk, IfErr};
 ghost use Rattle.index_rows.specs.Numbering.{IsNumbering};
 ghost use Rattle.unit_name.specs.Names.{name_cmp};
 ghost use Rattle.plan_choice.specs.RowRefusals.{refusal_of};
@@ -34,13 +34,14 @@ fn numbered_answer(
     plan_rows(alloc, &case)
 }
 
-/// Which units start, in which order, and which stop, or the first reason why not. Each name of the request is a template
-/// or stands for a unit of the graph.
+/// Which units start, in which order, and which stop, or the first reason why not. The request is for the host of the
+/// graph, and each of its names is a template or stands for a unit of the graph.
 ///
 /// The target and what it pulls start where they don't run: what it needs by `Requires` and `BindsTo`, and what these wish
 /// for by `Wants`, if that can be had without a fault and without a conflict. Units that run stop where they conflict with
 /// what is chosen, and with them those that they take along. `Memory` for want of memory alone. O(n log n) and the edges.
 pub fn plan(alloc: Global, graph: &Graph, request: &Request) -> Result<Plan, Refusal>
+    requires host { request.now.host ≡ graph.now.load.host }
     requires names { IsOfGraph graph.now.load request.now }
     ensures plan { IfOk result (IsPlanned graph.now.load graph.now.edges request.now) }
     ensures refusal { IfErr result (IsRefusalOf graph.now.load graph.now.edges request.now) }

@@ -1,6 +1,7 @@
 //! What is asked of a plan, and what it answers.
 
 use plain_values::Items;
+use replica_store::HostName;
 use std::alloc::AllocError;
 use thiserror::Error;
 use unit_name::UnitName;
@@ -8,6 +9,8 @@ use unit_name::UnitName;
 /// A request to start a unit while others run. Names may be aliases; those that run may repeat.
 #[derive(Debug, Drop)]
 pub struct Request {
+    /// The host whose units they are; none for those that are seen without one.
+    pub host: Option<HostName>,
     /// The unit that is to start.
     pub target: UnitName,
     /// The units that run.

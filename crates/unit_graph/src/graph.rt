@@ -10,6 +10,7 @@ ghost use Rattle.unit_graph.specs.Graphs.{HasInverses, IsKnown, IsNumberFor, Lea
 
 use inverse_deps::{Edges, number_of};
 use parallel_load::{Loaded, Status};
+use replica_store::HostName;
 use setting_rules::DepKind;
 use std::marker::Model;
 use unit_name::UnitName;
@@ -42,6 +43,13 @@ impl<'a> Graph<'a> {
         ensures edges { result.edges ≡ edges.now }
     {
         Graph { loaded, edges }
+    }
+
+    /// The host for which the load is; none where it is without one. It takes no memory.
+    pub fn host(&self) -> Option<&HostName>
+        ensures host { option_copied result ≡ self.now.load.host }
+    {
+        self.loaded.host()
     }
 
     /// The load. Numbers of names rise with them.

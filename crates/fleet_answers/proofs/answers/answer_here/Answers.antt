@@ -1,10 +1,12 @@
 use Rattle.std.proofs.lemmas.Result.{IfOk-weaker}
 use Rattle.fleet_answers.specs.Answers.{IsAnswer, IsTold}
-use Rattle.fleet_answers.proofs.Told.{answers, own_known}
+use Rattle.fleet_answers.proofs.Told.{answers, own_host, own_known}
 use Rattle.fleet_answers.proofs.answers.answer_here.Goals as goal
 
 pub answer-requires : goal.answer-requires
 answer-requires c = record {
+  host = own_host c.args.store.now c.args.extra.now c.args.question.now c.in_ok-names.field-0 c.in-Some.names c.in-Some.is c.in_ok-names.ensures.names c.deref.result.now
+      c.deref.ensures.value c.in-Ok.snapshot c.in-Ok.ensures.snapshot;
   known = own_known c.args.store.now c.args.extra.now c.args.question.now c.in_ok-names.field-0 c.in-Some.names c.in-Some.is c.in_ok-names.ensures.names c.deref.result.now
       c.deref.ensures.value c.in-Ok.snapshot c.in-Ok.ensures.snapshot;
 }
