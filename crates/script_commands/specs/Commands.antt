@@ -9,11 +9,18 @@ use Rattle.script_commands.specs.declared.commands.Command.{Command}
 use Rattle.script_commands.specs.declared.commands.Command.TheVariants.{Node, Put, Link, Remove, Merge, Part, Send, Sweep, Files, Cat, Show, List as ListUnits, Plan, Workers, Same, Crowd}
 use Rattle.script_commands.specs.declared.commands.LineRefusal.{LineRefusal}
 use Rattle.script_commands.specs.declared.commands.LineRefusal.TheVariants.{UnknownCommand, Arguments}
+use Rattle.script_commands.specs.Hosts.{host_in, node_in}
 
 -- a command of a name and a word
 abbrev pub with_name_and_word : (List ℕ → List ℕ → Command) → List (List ℕ) → Result Command LineRefusal
 with_name_and_word command (name ∷ word ∷ []) = if is_name name then Ok (command name word) else Err Arguments
 with_name_and_word command words = Err Arguments
+
+-- a command of a node, the host that it is asked for, and a word: the node is what stands before the first at sign of its word, or the whole
+-- word if there is none, and the host what stands behind it, which is kept unread
+abbrev pub with_node_and_word : (List ℕ → Option (List ℕ) → List ℕ → Command) → List (List ℕ) → Result Command LineRefusal
+with_node_and_word command (first ∷ word ∷ []) = if is_name (node_in first) then Ok (command (node_in first) (host_in first) word) else Err Arguments
+with_node_and_word command words = Err Arguments
 
 -- a command of two names
 abbrev pub with_two_names : (List ℕ → List ℕ → Command) → List (List ℕ) → Result Command LineRefusal
@@ -50,9 +57,9 @@ abbrev pub files_command : List (List ℕ) → Result Command LineRefusal
 files_command (node ∷ []) = if is_name node then Ok (Files node) else Err Arguments
 files_command words = Err Arguments
 
--- the units that run are the words that follow; there may be none
+-- the node and its host are one word, as in `with_node_and_word`; the units that run are the words that follow, and there may be none
 abbrev pub plan_command : List (List ℕ) → Result Command LineRefusal
-plan_command (node ∷ unit ∷ running) = if is_name node then Ok (Plan node unit running) else Err Arguments
+plan_command (first ∷ unit ∷ running) = if is_name (node_in first) then Ok (Plan (node_in first) (host_in first) unit running) else Err Arguments
 plan_command words = Err Arguments
 
 abbrev pub workers_with : Option ℕ → Result Command LineRefusal
@@ -73,18 +80,23 @@ abbrev pub crowd_command : List (List ℕ) → Result Command LineRefusal
 crowd_command (node ∷ seats ∷ edits ∷ []) = crowd_with node (number_of seats) (number_of edits)
 crowd_command words = Err Arguments
 
+-- the first word names the command, which asks for units of a node, as one host has them or as all do
+abbrev pub unit_question_of : List ℕ → List (List ℕ) → Result Command LineRefusal
+unit_question_of verb words =
+    if bytes_eq verb (codes "cat") then with_node_and_word Cat words
+    else (if bytes_eq verb (codes "show") then with_node_and_word Show words
+    else (if bytes_eq verb (codes "list") then with_node_and_word ListUnits words
+    else (if bytes_eq verb (codes "plan") then plan_command words
+    else Err UnknownCommand)))
+
 -- the first word names the command, which changes no node
 abbrev pub question_of : List ℕ → List (List ℕ) → Result Command LineRefusal
 question_of verb words =
     if bytes_eq verb (codes "files") then files_command words
-    else (if bytes_eq verb (codes "cat") then with_name_and_word Cat words
-    else (if bytes_eq verb (codes "show") then with_name_and_word Show words
-    else (if bytes_eq verb (codes "list") then with_name_and_word ListUnits words
-    else (if bytes_eq verb (codes "plan") then plan_command words
     else (if bytes_eq verb (codes "workers") then workers_command words
     else (if bytes_eq verb (codes "same") then with_two_names Same words
     else (if bytes_eq verb (codes "crowd") then crowd_command words
-    else Err UnknownCommand)))))))
+    else unit_question_of verb words)))
 
 -- the first word names the command; the text is what follows two further words and one space
 abbrev pub change_of : List ℕ → List (List ℕ) → List ℕ → Result Command LineRefusal

@@ -2,6 +2,8 @@
 -- Source: this project's own.
 use Rattle.edit_sums.specs.declared.contents.ContentFault.{ContentFault}
 use Rattle.edit_sums.specs.declared.contents.ContentFault.TheVariants as content
+use Rattle.load_places.specs.declared.hosts.HostFault.{HostFault}
+use Rattle.load_places.specs.declared.hosts.HostFault.TheVariants as host
 use Rattle.load_places.specs.declared.texts.PlaceFault.{PlaceFault}
 use Rattle.load_places.specs.declared.texts.PlaceFault.TheVariants as place
 use Rattle.replica_store.specs.declared.replicas.EditFault.{EditFault}
@@ -18,6 +20,10 @@ fault_of_place place.Directory = Refused Directory
 fault_of_place place.Depth = Refused Depth
 fault_of_place place.Component = Refused Component
 fault_of_place place.Memory = Memory
+
+abbrev pub fault_of_host : HostFault → Fault
+fault_of_host host.HostName = Refused HostName
+fault_of_host host.Memory = Memory
 
 abbrev pub fault_of_content : ContentFault → Fault
 fault_of_content content.FileTooLarge = Refused FileTooLarge

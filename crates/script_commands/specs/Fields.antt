@@ -1,8 +1,9 @@
 -- What a line must hold for its next field, and why a field is refused.
 -- Source: this project's own.
-use Rattle.std.specs.Prelude.{◌≡◌, ◌<◌, ℕ, false, List, [], ◌∷◌, Option, Some, None}
+use Rattle.std.specs.Prelude.{◌≡◌, ◌<◌, ℕ, true, false, List, [], ◌∷◌, Option, Some, None}
 use Rattle.script_words.specs.Names.{is_name}
 use Rattle.script_words.specs.Numbers.{number_of}
+use Rattle.script_commands.specs.Hosts.{host_in, node_in}
 
 -- these are none, or the first fails so
 abbrev FirstFails : (List ℕ → Type 0) → List (List ℕ) → Type 0
@@ -20,6 +21,16 @@ AreNotOne = OneFails (λ word. ⊥)
 -- these don't begin with a name
 abbrev pub BeginsWithNoName : List (List ℕ) → Type 0
 BeginsWithNoName = FirstFails (λ word. is_name word ≡ false)
+
+-- the first of these names this node and asks for this host, if for one, and those follow: the node is what stands before the word's first
+-- at sign, or the whole word, and the host what stands behind it
+abbrev pub BeginsWithNode : List ℕ → Option (List ℕ) → List (List ℕ) → List (List ℕ) → Type 0
+BeginsWithNode node host [] rest = ⊥
+BeginsWithNode node host (word ∷ words) rest = (node_in word ≡ node) × (host_in word ≡ host) × (is_name node ≡ true) × (words ≡ rest)
+
+-- these don't begin with a node, or with one and a host
+abbrev pub BeginsWithNoNode : List (List ℕ) → Type 0
+BeginsWithNoNode = FirstFails (λ word. is_name (node_in word) ≡ false)
 
 abbrev pub AreNotOneName : List (List ℕ) → Type 0
 AreNotOneName = OneFails (λ word. is_name word ≡ false)

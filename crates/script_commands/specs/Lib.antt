@@ -3,6 +3,8 @@ pub mod Each
 pub mod Faults
 pub mod Fields
 pub mod Files
+pub mod HostLaws
+pub mod Hosts
 pub mod Outcomes
 pub mod Places
 pub mod ReadLaws

@@ -11,8 +11,10 @@ use Rattle.script_commands.specs.declared.commands.Command.TheVariants.{Node, Pu
 use Rattle.script_commands.specs.declared.commands.Command.{Command}
 use Rattle.script_commands.specs.declared.commands.LineRefusal.{LineRefusal}
 use Rattle.script_commands.specs.declared.commands.LineRefusal.TheVariants.{Arguments, UnknownCommand}
-use Rattle.script_commands.specs.Commands.{command_of_words, crowd_command, crowd_with, files_command, link_command, node_command, node_with, part_command, plan_command, put_command, sweep_command, with_name_and_word, with_two_names, workers_command, workers_with}
-use Rattle.script_commands.specs.WrittenLaws.{AreWordsOf, BeginsWithVerb, IsName, IsOneOf, JustItsWordsAreRead, OthersAreRefused, verbs}
+use Rattle.script_commands.specs.Commands.{command_of_words, crowd_command, crowd_with, files_command, link_command, node_command, node_with, part_command, plan_command, put_command, sweep_command, with_name_and_word, with_node_and_word, with_two_names, workers_command, workers_with}
+use Rattle.script_commands.specs.HostLaws.{node_word-read}
+use Rattle.script_commands.specs.Hosts.{host_in, node_in, node_word}
+use Rattle.script_commands.specs.WrittenLaws.{AreWordsOf, BeginsWithVerb, IsName, IsOneOf, JustItsWordsAreRead, OthersAreRefused, node_word_is_cut, verbs}
 
 -- ---- no other words
 
@@ -35,6 +37,16 @@ module _ (c : Command) (line : List ℕ) where
   name_and_word_read verb command are (name ∷ word ∷ []) e =
       read_where (is_name name) (command name word) (verb ∷ name ∷ word ∷ []) (are name word) e
   name_and_word_read verb command are words e = absurd (never Arguments c e)
+
+  node_and_word_read : (verb : List ℕ) (command : List ℕ → Option (List ℕ) → List ℕ → Command)
+      → ((node : List ℕ) (host : Option (List ℕ)) (word : List ℕ) → IsName node
+      → AreWordsOf (command node host word) (verb ∷ node_word node host ∷ word ∷ []) line)
+      → (words : List (List ℕ)) → with_node_and_word command words ≡ Ok c → AreWordsOf c (verb ∷ words) line
+  node_and_word_read verb command are (first ∷ word ∷ []) e =
+      read_where (is_name (node_in first)) (command (node_in first) (host_in first) word) (verb ∷ first ∷ word ∷ [])
+      (λ named. subst (λ (v : List ℕ). AreWordsOf (command (node_in first) (host_in first) word) (verb ∷ v ∷ word ∷ []) line) (node_word-read first)
+      (are (node_in first) (host_in first) word named)) e
+  node_and_word_read verb command are words e = absurd (never Arguments c e)
 
   two_names_read : (verb : List ℕ) (command : List ℕ → List ℕ → Command)
       → ((first second : List ℕ) → IsName first → IsName second → AreWordsOf (command first second) (verb ∷ first ∷ second ∷ []) line)
@@ -81,8 +93,9 @@ module _ (c : Command) (line : List ℕ) where
   files_read words e = absurd (never Arguments c e)
 
   plan_read : (words : List (List ℕ)) → plan_command words ≡ Ok c → AreWordsOf c (codes "plan" ∷ words) line
-  plan_read (node ∷ unit ∷ running) e =
-      read_where (is_name node) (Plan node unit running) (codes "plan" ∷ node ∷ unit ∷ running) (λ named. (refl, named)) e
+  plan_read (first ∷ unit ∷ running) e =
+      read_where (is_name (node_in first)) (Plan (node_in first) (host_in first) unit running) (codes "plan" ∷ first ∷ unit ∷ running)
+      (λ named. (ap (λ v. codes "plan" ∷ v ∷ unit ∷ running) (sym (node_word-read first)), named)) e
   plan_read words e = absurd (never Arguments c e)
 
   workers_read : (words : List (List ℕ)) → workers_command words ≡ Ok c → AreWordsOf c (codes "workers" ∷ words) line
@@ -129,17 +142,17 @@ module _ (c : Command) (line : List ℕ) where
       (two_names_read (codes "send") Send (λ piece node is and. (refl, is, and)) words) (λ e6.
       verb_or verb (codes "sweep") words (sweep_command words) _ e6 (sweep_read words) (λ e7.
       verb_or verb (codes "files") words (files_command words) _ e7 (files_read words) (λ e8.
-      verb_or verb (codes "cat") words (with_name_and_word Cat words) _ e8
-      (name_and_word_read (codes "cat") Cat (λ node unit named. (refl, named)) words) (λ e9.
-      verb_or verb (codes "show") words (with_name_and_word Show words) _ e9
-      (name_and_word_read (codes "show") Show (λ node unit named. (refl, named)) words) (λ e10.
-      verb_or verb (codes "list") words (with_name_and_word ListUnits words) _ e10
-      (name_and_word_read (codes "list") ListUnits (λ node unit named. (refl, named)) words) (λ e11.
-      verb_or verb (codes "plan") words (plan_command words) _ e11 (plan_read words) (λ e12.
-      verb_or verb (codes "workers") words (workers_command words) _ e12 (workers_read words) (λ e13.
-      verb_or verb (codes "same") words (with_two_names Same words) _ e13
-      (two_names_read (codes "same") Same (λ left right is and. (refl, is, and)) words) (λ e14.
-      verb_or verb (codes "crowd") words (crowd_command words) _ e14 (crowd_read words) (λ e15.
+      verb_or verb (codes "workers") words (workers_command words) _ e8 (workers_read words) (λ e9.
+      verb_or verb (codes "same") words (with_two_names Same words) _ e9
+      (two_names_read (codes "same") Same (λ left right is and. (refl, is, and)) words) (λ e10.
+      verb_or verb (codes "crowd") words (crowd_command words) _ e10 (crowd_read words) (λ e11.
+      verb_or verb (codes "cat") words (with_node_and_word Cat words) _ e11
+      (node_and_word_read (codes "cat") Cat (λ node host unit named. (refl, named)) words) (λ e12.
+      verb_or verb (codes "show") words (with_node_and_word Show words) _ e12
+      (node_and_word_read (codes "show") Show (λ node host unit named. (refl, named)) words) (λ e13.
+      verb_or verb (codes "list") words (with_node_and_word ListUnits words) _ e13
+      (node_and_word_read (codes "list") ListUnits (λ node host unit named. (refl, named)) words) (λ e14.
+      verb_or verb (codes "plan") words (plan_command words) _ e14 (plan_read words) (λ e15.
       absurd (never UnknownCommand c e15)))))))))))))))))
 
 -- and these are read
@@ -155,10 +168,14 @@ read_as (Part piece from to places) words line (same, named, is, and) =
 read_as (Send piece node) words line (same, named, is) = ap (λ v. command_of_words v line) same ∙ cond-true _ _ _ (and_from _ _ named is)
 read_as Sweep words line same = ap (λ v. command_of_words v line) same
 read_as (Files node) words line (same, named) = ap (λ v. command_of_words v line) same ∙ cond-true _ _ _ named
-read_as (Cat node unit) words line (same, named) = ap (λ v. command_of_words v line) same ∙ cond-true _ _ _ named
-read_as (Show node unit) words line (same, named) = ap (λ v. command_of_words v line) same ∙ cond-true _ _ _ named
-read_as (ListUnits node unit) words line (same, named) = ap (λ v. command_of_words v line) same ∙ cond-true _ _ _ named
-read_as (Plan node unit running) words line (same, named) = ap (λ v. command_of_words v line) same ∙ cond-true _ _ _ named
+read_as (Cat node host unit) words line (same, named) =
+    ap (λ v. command_of_words v line) same ∙ node_word_is_cut node host (λ n h. Cat n h unit) named
+read_as (Show node host unit) words line (same, named) =
+    ap (λ v. command_of_words v line) same ∙ node_word_is_cut node host (λ n h. Show n h unit) named
+read_as (ListUnits node host unit) words line (same, named) =
+    ap (λ v. command_of_words v line) same ∙ node_word_is_cut node host (λ n h. ListUnits n h unit) named
+read_as (Plan node host unit running) words line (same, named) =
+    ap (λ v. command_of_words v line) same ∙ node_word_is_cut node host (λ n h. Plan n h unit running) named
 read_as (Workers count) words line (number, same, is) = ap (λ v. command_of_words v line) same ∙ ap workers_with is
 read_as (Same left right) words line (same, is, and) = ap (λ v. command_of_words v line) same ∙ cond-true _ _ _ (and_from _ _ is and)
 read_as (Crowd node seats edits) words line (first, second, same, is, and, named, few) =
@@ -184,6 +201,11 @@ module _ (r : LineRefusal) (line : List ℕ) where
       → with_name_and_word command words ≡ Err r → r ≡ Arguments
   name_and_word_refused command (name ∷ word ∷ []) e = refused_where (is_name name) (command name word) r e
   name_and_word_refused command words e = same_refusal r Arguments e
+
+  node_and_word_refused : (command : List ℕ → Option (List ℕ) → List ℕ → Command) (words : List (List ℕ))
+      → with_node_and_word command words ≡ Err r → r ≡ Arguments
+  node_and_word_refused command (first ∷ word ∷ []) e = refused_where (is_name (node_in first)) (command (node_in first) (host_in first) word) r e
+  node_and_word_refused command words e = same_refusal r Arguments e
 
   two_names_refused : (command : List ℕ → List ℕ → Command) (words : List (List ℕ))
       → with_two_names command words ≡ Err r → r ≡ Arguments
@@ -219,7 +241,7 @@ module _ (r : LineRefusal) (line : List ℕ) where
   files_refused words e = same_refusal r Arguments e
 
   plan_refused : (words : List (List ℕ)) → plan_command words ≡ Err r → r ≡ Arguments
-  plan_refused (node ∷ unit ∷ running) e = refused_where (is_name node) (Plan node unit running) r e
+  plan_refused (first ∷ unit ∷ running) e = refused_where (is_name (node_in first)) (Plan (node_in first) (host_in first) unit running) r e
   plan_refused words e = same_refusal r Arguments e
 
   workers_refused : (words : List (List ℕ)) → workers_command words ≡ Err r → r ≡ Arguments
@@ -271,13 +293,13 @@ module _ (r : LineRefusal) (line : List ℕ) where
       refused_at verb (codes "send") (drop 7 verbs) (with_two_names Send words) _ e5 (two_names_refused Send words) (λ e6.
       refused_at verb (codes "sweep") (drop 8 verbs) (sweep_command words) _ e6 (sweep_refused words) (λ e7.
       refused_at verb (codes "files") (drop 9 verbs) (files_command words) _ e7 (files_refused words) (λ e8.
-      refused_at verb (codes "cat") (drop 10 verbs) (with_name_and_word Cat words) _ e8 (name_and_word_refused Cat words) (λ e9.
-      refused_at verb (codes "show") (drop 11 verbs) (with_name_and_word Show words) _ e9 (name_and_word_refused Show words) (λ e10.
-      refused_at verb (codes "list") (drop 12 verbs) (with_name_and_word ListUnits words) _ e10 (name_and_word_refused ListUnits words) (λ e11.
-      refused_at verb (codes "plan") (drop 13 verbs) (plan_command words) _ e11 (plan_refused words) (λ e12.
-      refused_at verb (codes "workers") (drop 14 verbs) (workers_command words) _ e12 (workers_refused words) (λ e13.
-      refused_at verb (codes "same") (drop 15 verbs) (with_two_names Same words) _ e13 (two_names_refused Same words) (λ e14.
-      refused_at verb (codes "crowd") (drop 16 verbs) (crowd_command words) _ e14 (crowd_refused words) (λ e15.
+      refused_at verb (codes "workers") (drop 10 verbs) (workers_command words) _ e8 (workers_refused words) (λ e9.
+      refused_at verb (codes "same") (drop 11 verbs) (with_two_names Same words) _ e9 (two_names_refused Same words) (λ e10.
+      refused_at verb (codes "crowd") (drop 12 verbs) (crowd_command words) _ e10 (crowd_refused words) (λ e11.
+      refused_at verb (codes "cat") (drop 13 verbs) (with_node_and_word Cat words) _ e11 (node_and_word_refused Cat words) (λ e12.
+      refused_at verb (codes "show") (drop 14 verbs) (with_node_and_word Show words) _ e12 (node_and_word_refused Show words) (λ e13.
+      refused_at verb (codes "list") (drop 15 verbs) (with_node_and_word ListUnits words) _ e13 (node_and_word_refused ListUnits words) (λ e14.
+      refused_at verb (codes "plan") (drop 16 verbs) (plan_command words) _ e14 (plan_refused words) (λ e15.
       inr (λ none. none, same_refusal r UnknownCommand e15)))))))))))))))))
 
 pub others_are_refused : OthersAreRefused

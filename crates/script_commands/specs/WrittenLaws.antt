@@ -1,5 +1,5 @@
 -- A command is read back from how it is written: its words, with one space between each two.
-use Rattle.std.proofs.Common.{◌≡◌, ◌≢◌, ◌⊎◌, ◌<◌, ◌≤◌, ◌^◌, ℕ, Bool, true, false, ◌&&◌, List, [], ◌∷◌, ◌++◌, length, Some, Ok, Err, codes, refl, sym, ap, ◌∙◌, append_assoc, arith, rules}
+use Rattle.std.proofs.Common.{◌≡◌, ◌≢◌, ◌⊎◌, ◌<◌, ◌≤◌, ◌^◌, ℕ, Bool, true, false, ◌&&◌, List, [], ◌∷◌, ◌++◌, length, length-append, Option, Some, None, Result, Ok, Err, cond, codes, refl, sym, ap, ◌∙◌, append_assoc, arith, rules}
 use Rattle.std.specs.Prelude.{◌↔◌, nat_lt}
 use Rattle.std.specs.Char.{is_ascii_alphanumeric, is_ascii_digit}
 use Rattle.std.specs.Fmt.{decimal}
@@ -7,7 +7,7 @@ use Rattle.std.specs.List.{All, AllByRecursion, join_with_byte, list_all}
 use Rattle.std.proofs.lemmas.Bool.{cond-true, and_from, and_parts, true≢false, le-leb}
 use Rattle.std.proofs.lemmas.Bool.Decides.{nat_tests}
 use Rattle.std.proofs.lemmas.Fmt.{decimal_nonempty, digits_decimal, length-decimal-le}
-use Rattle.std.proofs.lemmas.List.Elements.{All-from_recursion, recursion_from_All}
+use Rattle.std.proofs.lemmas.List.Elements.{All-append, All-cons, All-from_recursion, recursion_from_All}
 use Rattle.std.proofs.lemmas.Str.Parse.{IsDigitsTest, numerals_by_value}
 use Rattle.script_words.specs.Names.{is_name}
 use Rattle.script_words.specs.Numbers.{number_of}
@@ -18,7 +18,9 @@ use Rattle.script_commands.specs.declared.commands.Command.TheVariants.{Node, Pu
 use Rattle.script_commands.specs.declared.commands.Command.{Command}
 use Rattle.script_commands.specs.declared.commands.LineRefusal.{LineRefusal}
 use Rattle.script_commands.specs.declared.commands.LineRefusal.TheVariants.{Arguments, UnknownCommand}
-use Rattle.script_commands.specs.Commands.{command_of, command_of_words, crowd_with, node_with, with_name_and_word, with_two_names, workers_with}
+use Rattle.script_commands.specs.Commands.{command_of, command_of_words, crowd_with, node_with, with_name_and_word, with_node_and_word, with_two_names, workers_with}
+use Rattle.script_commands.specs.HostLaws.{host_in-node_word, node_in-node_word}
+use Rattle.script_commands.specs.Hosts.{host_in, node_in, node_word}
 
 -- words, with one space between each two
 abbrev pub line_of : List (List ℕ) → List ℕ
@@ -34,6 +36,16 @@ IsName word = is_name word ≡ true
 abbrev pub NameAndWordAreReadBack : List ℕ → (List ℕ → List ℕ → Command) → Type 0
 NameAndWordAreReadBack verb command = (name word : List ℕ) → IsName name → IsWord word
     → command_of (line_of (verb ∷ name ∷ word ∷ [])) ≡ Ok (command name word)
+
+-- a host as it may stand in a word: there is none, or its bytes have no space; it may be empty
+abbrev pub HasNoSpace : Option (List ℕ) → Type 0
+HasNoSpace None = Unit {0}
+HasNoSpace (Some host) = All (λ b. b ≢ 32) host
+
+-- the command of this verb, a node with or without a host, and a word
+abbrev pub NodeAndWordAreReadBack : List ℕ → (List ℕ → Option (List ℕ) → List ℕ → Command) → Type 0
+NodeAndWordAreReadBack verb command = (node : List ℕ) (host : Option (List ℕ)) (word : List ℕ) → IsName node → HasNoSpace host → IsWord word
+    → command_of (line_of (verb ∷ node_word node host ∷ word ∷ [])) ≡ Ok (command node host word)
 
 -- the command of this verb and two names
 abbrev pub TwoNamesAreReadBack : List ℕ → (List ℕ → List ℕ → Command) → Type 0
@@ -81,18 +93,19 @@ FilesIsReadBack = (node : List ℕ) → IsName node
     → command_of (line_of (codes "files" ∷ node ∷ [])) ≡ Ok (Files node)
 
 abbrev pub CatIsReadBack : Type 0
-CatIsReadBack = NameAndWordAreReadBack (codes "cat") Cat
+CatIsReadBack = NodeAndWordAreReadBack (codes "cat") Cat
 
 abbrev pub ShowIsReadBack : Type 0
-ShowIsReadBack = NameAndWordAreReadBack (codes "show") Show
+ShowIsReadBack = NodeAndWordAreReadBack (codes "show") Show
 
 abbrev pub ListIsReadBack : Type 0
-ListIsReadBack = NameAndWordAreReadBack (codes "list") ListUnits
+ListIsReadBack = NodeAndWordAreReadBack (codes "list") ListUnits
 
 -- any number of running units, also none
 abbrev pub PlanIsReadBack : Type 0
-PlanIsReadBack = (node unit : List ℕ) (running : List (List ℕ)) → IsName node → IsWord unit → All IsWord running
-    → command_of (line_of (codes "plan" ∷ node ∷ unit ∷ running)) ≡ Ok (Plan node unit running)
+PlanIsReadBack = (node : List ℕ) (host : Option (List ℕ)) (unit : List ℕ) (running : List (List ℕ))
+    → IsName node → HasNoSpace host → IsWord unit → All IsWord running
+    → command_of (line_of (codes "plan" ∷ node_word node host ∷ unit ∷ running)) ≡ Ok (Plan node host unit running)
 
 -- a number of 32 bits, in decimal
 abbrev pub WorkersIsReadBack : Type 0
@@ -121,10 +134,10 @@ AreWordsOf (Part piece from to places) words line =
 AreWordsOf (Send piece node) words line = (words ≡ codes "send" ∷ piece ∷ node ∷ []) × IsName piece × IsName node
 AreWordsOf Sweep words line = words ≡ codes "sweep" ∷ []
 AreWordsOf (Files node) words line = (words ≡ codes "files" ∷ node ∷ []) × IsName node
-AreWordsOf (Cat node unit) words line = (words ≡ codes "cat" ∷ node ∷ unit ∷ []) × IsName node
-AreWordsOf (Show node unit) words line = (words ≡ codes "show" ∷ node ∷ unit ∷ []) × IsName node
-AreWordsOf (ListUnits node unit) words line = (words ≡ codes "list" ∷ node ∷ unit ∷ []) × IsName node
-AreWordsOf (Plan node unit running) words line = (words ≡ codes "plan" ∷ node ∷ unit ∷ running) × IsName node
+AreWordsOf (Cat node host unit) words line = (words ≡ codes "cat" ∷ node_word node host ∷ unit ∷ []) × IsName node
+AreWordsOf (Show node host unit) words line = (words ≡ codes "show" ∷ node_word node host ∷ unit ∷ []) × IsName node
+AreWordsOf (ListUnits node host unit) words line = (words ≡ codes "list" ∷ node_word node host ∷ unit ∷ []) × IsName node
+AreWordsOf (Plan node host unit running) words line = (words ≡ codes "plan" ∷ node_word node host ∷ unit ∷ running) × IsName node
 AreWordsOf (Workers count) words line = (number : List ℕ) × (words ≡ codes "workers" ∷ number ∷ []) × (number_of number ≡ Some count)
 AreWordsOf (Same left right) words line = (words ≡ codes "same" ∷ left ∷ right ∷ []) × IsName left × IsName right
 AreWordsOf (Crowd node seats edits) words line =
@@ -136,7 +149,7 @@ JustItsWordsAreRead = (line : List ℕ) (command : Command) → (command_of line
 
 -- the words that name commands
 abbrev pub verbs : List (List ℕ)
-verbs = codes "node" ∷ codes "put" ∷ codes "link" ∷ codes "remove" ∷ codes "merge" ∷ codes "part" ∷ codes "send" ∷ codes "sweep" ∷ codes "files" ∷ codes "cat" ∷ codes "show" ∷ codes "list" ∷ codes "plan" ∷ codes "workers" ∷ codes "same" ∷ codes "crowd" ∷ []
+verbs = codes "node" ∷ codes "put" ∷ codes "link" ∷ codes "remove" ∷ codes "merge" ∷ codes "part" ∷ codes "send" ∷ codes "sweep" ∷ codes "files" ∷ codes "workers" ∷ codes "same" ∷ codes "crowd" ∷ codes "cat" ∷ codes "show" ∷ codes "list" ∷ codes "plan" ∷ []
 
 -- the word is one of these
 abbrev pub IsOneOf : List ℕ → List (List ℕ) → Type 0
@@ -176,11 +189,11 @@ line_of-text (word ∷ next ∷ words) text =
 
 -- ---- which words may stand in a line
 
-without_space : (p : ℕ → Bool) → p 32 ≡ false → (word : List ℕ) → list_all p word ≡ true → AllByRecursion (λ b. b ≢ 32) word
-without_space p free [] all = tt
-without_space p free (b ∷ word) all =
+without : (c : ℕ) (p : ℕ → Bool) → p c ≡ false → (word : List ℕ) → list_all p word ≡ true → AllByRecursion (λ b. b ≢ c) word
+without c p free [] all = tt
+without c p free (b ∷ word) all =
     let parts = and_parts (p b) (list_all p word) all in
-    (λ same. true≢false (sym parts.0 ∙ ap p same ∙ free), without_space p free word parts.1)
+    (λ same. true≢false (sym parts.0 ∙ ap p same ∙ free), without c p free word parts.1)
 
 some_bytes : (n : ℕ) → nat_lt 0 n ≡ true → 0 < n
 some_bytes n some = grind (arith, nat_tests)
@@ -190,7 +203,18 @@ unfolding is_name
 name_is_word word is =
     let parts = and_parts _ _ is in
     let some : nat_lt 0 (length word) ≡ true = (and_parts _ _ parts.0).0 in
-    (some_bytes (length word) some, All-from_recursion (λ b. b ≢ 32) word (without_space is_ascii_alphanumeric refl word parts.1))
+    (some_bytes (length word) some, All-from_recursion (λ b. b ≢ 32) word (without 32 is_ascii_alphanumeric refl word parts.1))
+
+name_without_at : (word : List ℕ) → IsName word → AllByRecursion (λ b. b ≢ 64) word
+unfolding is_name
+name_without_at word is = without 64 is_ascii_alphanumeric refl word (and_parts _ _ is).1
+
+node_word_is_word : (node : List ℕ) (host : Option (List ℕ)) → IsName node → HasNoSpace host → IsWord (node_word node host)
+node_word_is_word node None is free = name_is_word node is
+node_word_is_word node (Some host) is free =
+    let alone : IsWord node = name_is_word node is in
+    let behind : All (λ b. b ≢ 32) (64 ∷ host) = All-cons (λ b. b ≢ 32) 64 host (λ same. omega arith) free in
+    (omega (arith, alone.0, length-append node (64 ∷ host)), All-append (λ b. b ≢ 32) node (64 ∷ host) alone.1 behind)
 
 -- each byte is a decimal digit
 abbrev AreDigits : List ℕ → Type 0
@@ -202,7 +226,7 @@ tells_digits = search rules
 number_is_word : (n : ℕ) → n < 2 ^ 32 → IsWord (decimal n)
 number_is_word n small = (
   decimal_nonempty n (omega arith),
-  All-from_recursion (λ b. b ≢ 32) (decimal n) (without_space is_ascii_digit refl (decimal n) (digits_decimal (numerals_by_value _ tells_digits) n (omega arith))),
+  All-from_recursion (λ b. b ≢ 32) (decimal n) (without 32 is_ascii_digit refl (decimal n) (digits_decimal (numerals_by_value _ tells_digits) n (omega arith))),
 )
 
 -- a word of some letters, as the words are that name commands
@@ -212,7 +236,7 @@ IsVerb word = (nat_lt 0 (length word) && list_all is_ascii_alphanumeric word) �
 is_verb : (word : List ℕ) → IsVerb word → IsWord word
 is_verb word is =
     let parts = and_parts _ _ is in
-    (some_bytes (length word) parts.0, All-from_recursion (λ b. b ≢ 32) word (without_space is_ascii_alphanumeric refl word parts.1))
+    (some_bytes (length word) parts.0, All-from_recursion (λ b. b ≢ 32) word (without 32 is_ascii_alphanumeric refl word parts.1))
 
 -- ---- each command
 
@@ -223,6 +247,25 @@ name_and_word_are_read_back verb command letters reads name word is at =
     let words : List (List ℕ) = verb ∷ name ∷ word ∷ [] in
     read_words words (is_verb verb letters, (name_is_word name is, (at, tt)))
     ∙ reads (name ∷ word ∷ []) (line_of words) ∙ cond-true _ _ _ is
+
+-- a node of a lawful name and a host are what is read of their word
+pub node_word_is_cut : (node : List ℕ) (host : Option (List ℕ)) (command : List ℕ → Option (List ℕ) → Command) → IsName node
+    → let word = node_word node host in
+    ◌≡◌ {A = Result Command LineRefusal} (cond (is_name (node_in word)) (Ok (command (node_in word) (host_in word))) (Err Arguments)) (Ok (command node host))
+node_word_is_cut node host command is =
+    let free : AllByRecursion (λ b. b ≢ 64) node = name_without_at node is in
+    cond-true _ _ _ (ap is_name (node_in-node_word node host free) ∙ is)
+    ∙ ap (λ v. Ok (command v (host_in (node_word node host)))) (node_in-node_word node host free)
+    ∙ ap (λ v. Ok (command node v)) (host_in-node_word node host free)
+
+node_and_word_are_read_back : (verb : List ℕ) (command : List ℕ → Option (List ℕ) → List ℕ → Command) → IsVerb verb
+    → ((words : List (List ℕ)) (line : List ℕ) → command_of_words (verb ∷ words) line ≡ with_node_and_word command words)
+    → NodeAndWordAreReadBack verb command
+node_and_word_are_read_back verb command letters reads node host word is free at =
+    let words : List (List ℕ) = verb ∷ node_word node host ∷ word ∷ [] in
+    read_words words (is_verb verb letters, (node_word_is_word node host is free, (at, tt)))
+    ∙ reads (node_word node host ∷ word ∷ []) (line_of words)
+    ∙ node_word_is_cut node host (λ n h. command n h word) is
 
 two_names_are_read_back : (verb : List ℕ) (command : List ℕ → List ℕ → Command) → IsVerb verb
     → ((words : List (List ℕ)) (line : List ℕ) → command_of_words (verb ∷ words) line ≡ with_two_names command words)
@@ -281,17 +324,19 @@ pub files_is_read_back : FilesIsReadBack
 files_is_read_back node is = read_words (codes "files" ∷ node ∷ []) (is_verb (codes "files") refl, (name_is_word node is, tt)) ∙ cond-true _ _ _ is
 
 pub cat_is_read_back : CatIsReadBack
-cat_is_read_back = name_and_word_are_read_back (codes "cat") Cat refl (λ words line. refl)
+cat_is_read_back = node_and_word_are_read_back (codes "cat") Cat refl (λ words line. refl)
 
 pub show_is_read_back : ShowIsReadBack
-show_is_read_back = name_and_word_are_read_back (codes "show") Show refl (λ words line. refl)
+show_is_read_back = node_and_word_are_read_back (codes "show") Show refl (λ words line. refl)
 
 pub list_is_read_back : ListIsReadBack
-list_is_read_back = name_and_word_are_read_back (codes "list") ListUnits refl (λ words line. refl)
+list_is_read_back = node_and_word_are_read_back (codes "list") ListUnits refl (λ words line. refl)
 
 pub plan_is_read_back : PlanIsReadBack
-plan_is_read_back node unit running is word all =
-    read_words (codes "plan" ∷ node ∷ unit ∷ running) (is_verb (codes "plan") refl, (name_is_word node is, (word, recursion_from_All IsWord running all))) ∙ cond-true _ _ _ is
+plan_is_read_back node host unit running is free word all =
+    let words : List (List ℕ) = codes "plan" ∷ node_word node host ∷ unit ∷ running in
+    read_words words (is_verb (codes "plan") refl, (node_word_is_word node host is free, (word, recursion_from_All IsWord running all)))
+    ∙ node_word_is_cut node host (λ n h. Plan n h unit running) is
 
 pub workers_is_read_back : WorkersIsReadBack
 workers_is_read_back count small =

@@ -3,7 +3,7 @@ ghost use Rattle.std.specs.Prelude.{◌≡◌, ℕ, List};
 
 use crate::edit_counts::EditCount;
 use edit_sums::ContentFault;
-use load_places::PlaceFault;
+use load_places::{HostFault, PlaceFault};
 use plain_values::Items;
 use replica_store::EditFault;
 use script_words::cut_word;
@@ -124,24 +124,28 @@ pub enum Command<'a> {
     Files {
         node: Word<'a>,
     },
-    /// The fragment of a unit, as a node has it.
+    /// The files of a unit, as a node has them for a host or for the fleet. The host is unread, here and below.
     Cat {
         node: Word<'a>,
+        host: Option<Word<'a>>,
         unit: Word<'a>,
     },
     /// A unit, as a node's units come to it: its names, files, values, dependencies and notes.
     Show {
         node: Word<'a>,
+        host: Option<Word<'a>>,
         unit: Word<'a>,
     },
     /// All that a unit pulls, as a node's units come to it, each with its least distance.
     List {
         node: Word<'a>,
+        host: Option<Word<'a>>,
         unit: Word<'a>,
     },
     /// What starts and what stops where a unit is to start while others run, as a node's units come to it.
     Plan {
         node: Word<'a>,
+        host: Option<Word<'a>>,
         unit: Word<'a>,
         running: Words<'a>,
     },
@@ -173,7 +177,7 @@ pub enum LineRefusal {
     NodeTaken,
     WriterTaken,
     LineTooLong,
-    /// What stands before a path's first colon names no host.
+    /// What stands before a path's first colon, or behind a node's first at sign, names no host.
     HostName,
     Directory,
     Depth,
@@ -266,6 +270,20 @@ impl From<PlaceFault> for Fault {
             PlaceFault::Depth => Fault::Refused(LineRefusal::Depth),
             PlaceFault::Component => Fault::Refused(LineRefusal::Component),
             PlaceFault::Memory => Fault::Memory,
+        }
+    }
+}
+
+impl From<HostFault> for Fault {
+    ghost use Rattle.std.specs.Prelude.{◌≡◌};
+    ghost use Rattle.script_commands.specs.Faults.{fault_of_host};
+
+    ghost from_gives = { λ refused fault. fault ≡ fault_of_host refused };
+
+    fn from(refused: HostFault) -> Fault {
+        match refused {
+            HostFault::HostName => Fault::Refused(LineRefusal::HostName),
+            HostFault::Memory => Fault::Memory,
         }
     }
 }

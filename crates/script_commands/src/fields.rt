@@ -3,10 +3,11 @@ ghost use Rattle.std.specs.Prelude.{◌≡◌, ◌≢◌, ◌≤◌, [], ◌∷�
 ghost use Rattle.script_words.specs.Names.{is_name};
 ghost use Rattle.script_words.specs.Words.{words_of, after_word, text_after};
 ghost use Rattle.script_commands.specs.declared.commands.LineRefusal.TheVariants.{Arguments};
-ghost use Rattle.script_commands.specs.Fields.{AreNotOne, AreNotOneEditCount, AreNotOneName, AreNotOneNumber, BeginsWithNoName, BeginsWithNoNumber, BeginsWithNumber};
+ghost use Rattle.script_commands.specs.Fields.{AreNotOne, AreNotOneEditCount, AreNotOneName, AreNotOneNumber, BeginsWithNoName, BeginsWithNoNode, BeginsWithNoNumber, BeginsWithNode, BeginsWithNumber};
 
 use crate::commands::{LineRefusal, Word, Words};
 use crate::edit_counts::EditCount;
+use crate::host_words::cut_host;
 use script_words::{cut_word, is_name, parse_number, text_of_rest};
 use std::marker::Model;
 
@@ -57,6 +58,20 @@ impl<'a> Fields<'a> {
             return Err(LineRefusal::Arguments);
         }
         Ok(name)
+    }
+
+    /// The next word, which is a node's name, or one, an at sign and a host, which is kept unread.
+    pub(crate) fn node_and_host(&mut self) -> Result<(Word<'a>, Option<Word<'a>>), LineRefusal>
+        ensures cut { MatchResult result
+            (λ cut. BeginsWithNode cut.0 cut.1 (words_of self.old) (words_of self.new))
+            (λ refusal. (refusal ≡ Arguments) × BeginsWithNoNode (words_of self.old)) }
+    {
+        let word = self.word()?;
+        let (node, host) = cut_host(word.as_slice());
+        if !is_name(node.as_slice()) {
+            return Err(LineRefusal::Arguments);
+        }
+        Ok((node, host))
     }
 
     /// Nothing more.

@@ -2,7 +2,7 @@
 ghost use Rattle.std.specs.Prelude.{◌≡◌};
 ghost use Rattle.std.specs.Str.{bytes_eq};
 ghost use Rattle.script_words.specs.Words.{words_of, text_after};
-ghost use Rattle.script_commands.specs.Commands.{change_of, command_of, question_of};
+ghost use Rattle.script_commands.specs.Commands.{change_of, command_of, question_of, unit_question_of};
 
 use crate::commands::{Command, LineRefusal};
 use crate::fields::Fields;
@@ -77,27 +77,6 @@ fn question<'a>(verb: &[u8], mut fields: Fields<'a>) -> Result<Command<'a>, Line
         Ok(Command::Files {
             node: fields.last_name()?,
         })
-    } else if is_same(verb, b"cat") {
-        Ok(Command::Cat {
-            node: fields.name()?,
-            unit: fields.last_word()?,
-        })
-    } else if is_same(verb, b"show") {
-        Ok(Command::Show {
-            node: fields.name()?,
-            unit: fields.last_word()?,
-        })
-    } else if is_same(verb, b"list") {
-        Ok(Command::List {
-            node: fields.name()?,
-            unit: fields.last_word()?,
-        })
-    } else if is_same(verb, b"plan") {
-        Ok(Command::Plan {
-            node: fields.name()?,
-            unit: fields.word()?,
-            running: fields.rest(),
-        })
     } else if is_same(verb, b"workers") {
         Ok(Command::Workers {
             count: fields.last_number()?,
@@ -112,6 +91,35 @@ fn question<'a>(verb: &[u8], mut fields: Fields<'a>) -> Result<Command<'a>, Line
             node: fields.name()?,
             seats: fields.number()?,
             edits: fields.last_edit_count()?,
+        })
+    } else {
+        unit_question(verb, fields)
+    }
+}
+
+// The command that this word begins, if it asks for units of a node.
+fn unit_question<'a>(verb: &[u8], mut fields: Fields<'a>) -> Result<Command<'a>, LineRefusal>
+    ensures command { result ≡ unit_question_of verb.now (words_of fields.entry) }
+{
+    if is_same(verb, b"cat") {
+        let (node, host) = fields.node_and_host()?;
+        let unit = fields.last_word()?;
+        Ok(Command::Cat { node, host, unit })
+    } else if is_same(verb, b"show") {
+        let (node, host) = fields.node_and_host()?;
+        let unit = fields.last_word()?;
+        Ok(Command::Show { node, host, unit })
+    } else if is_same(verb, b"list") {
+        let (node, host) = fields.node_and_host()?;
+        let unit = fields.last_word()?;
+        Ok(Command::List { node, host, unit })
+    } else if is_same(verb, b"plan") {
+        let (node, host) = fields.node_and_host()?;
+        Ok(Command::Plan {
+            node,
+            host,
+            unit: fields.word()?,
+            running: fields.rest(),
         })
     } else {
         Err(LineRefusal::UnknownCommand)
