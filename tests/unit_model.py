@@ -1,6 +1,6 @@
 """What unit files of a store come to: the rules of systemd.unit(5) and systemd.syntax(7) as docs/DEFINITIONS.md tells them, once more and
-in another language, without a look at the program. A store is a dictionary from the paths at which something is visible to contents: the text
-of a file (a character for each byte), or a `Link`."""
+in another language, without a look at the program. A store is a dictionary from the places at which something is visible to contents: the text
+of a file (a character for each byte), or a `Link`. A place is a path, which is the fleet's, or a host's name, a colon and a path."""
 import re
 
 DIRECTORIES = ["/etc/systemd/system", "/run/systemd/system", "/usr/local/lib/systemd/system", "/usr/lib/systemd/system"]
@@ -16,7 +16,7 @@ for pair in ("Before After", "Wants WantedBy", "Requires RequiredBy", "Requisite
     INVERSES[one], INVERSES[other] = other, one
 SETTABLE = "Before After Wants Requires Requisite BindsTo PartOf Conflicts OnFailure PropagatesReloadTo ReloadPropagatedFrom".split()
 
-FAULT_NAMES = {"N1": "Length", "N2": "Kind", "N3": "EmptyPrefix", "N4": "BadByte", "B1": "Kind", "B2": "Shape", "B3": "Loop",
+FAULT_NAMES = {"H1": "HostName", "N1": "Length", "N2": "Kind", "N3": "EmptyPrefix", "N4": "BadByte", "B1": "Kind", "B2": "Shape", "B3": "Loop",
                "B4": "Target", "P1": "Template", "P2": "NotFound", "P3": "Masked", "P4": "Bad", "P5": "ManualStart", "P6": "Requisite",
                "P7": "Conflict", "P8": "Cycle", "L2": "TooManyUnits"}
 
@@ -180,24 +180,31 @@ def settings_of(items):
 # ---- what a store gives for a name
 
 
-class Fleet:
-    """What a store comes to."""
+class Units:
+    """What a store comes to for a host, or, without one, for the whole fleet. H1 where the host has no name that a host may have."""
 
-    def __init__(self, store):
+    def __init__(self, store, host):
+        if host is not None and not re.fullmatch(r"[A-Za-z0-9.-]{1,64}", host):
+            raise Refused("H1")
         self.store = store
+        # The directories that are looked at, by levels: of each the host's own, and then the fleet's.
+        scopes = [""] if host is None else [f"{host}:", ""]
+        self.levels = [scope + directory for directory in DIRECTORIES for scope in scopes]
 
-    def own(self, rank, name):
-        return self.store.get(f"{DIRECTORIES[rank]}/{name}")
+    def own(self):
+        """The names of one component at which something stands, each with that, in no order."""
+        cut = [(place.rpartition("/"), content) for place, content in self.store.items()]
+        return [(name, content) for (directory, _, name), content in cut if directory in self.levels]
 
-    def folder(self, rank, folder):
+    def folder(self, directory, folder):
         """The names and contents in a folder, in no order."""
-        head = f"{DIRECTORIES[rank]}/{folder}/"
-        return [(path[len(head):], content) for path, content in self.store.items() if path.startswith(head)]
+        head = f"{directory}/{folder}/"
+        return [(place[len(head):], content) for place, content in self.store.items() if place.startswith(head)]
 
     def says(self, own, name):
-        """What the own paths of a name say for a name."""
-        for rank, directory in enumerate(DIRECTORIES):
-            content = self.own(rank, own)
+        """What the own places of a name say for a name."""
+        for directory in self.levels:
+            content = self.store.get(f"{directory}/{own}")
             if content is None:
                 continue
             if not isinstance(content, Link):
@@ -243,8 +250,7 @@ class Fleet:
 
     def linked_names(self):
         """The names at which a link is visible."""
-        found = {path.rpartition("/")[2] for path, content in self.store.items() if isinstance(content, Link) and is_own(path)}
-        return [it for it in found if name_or_none(it)]
+        return [it for it in {name for name, content in self.own() if isinstance(content, Link)} if name_or_none(it)]
 
     def names(self, main):
         name, found = Name(main), set()
@@ -259,21 +265,21 @@ class Fleet:
     # ---- drop-ins and link folders
 
     def taken(self, names, types, ending, counts):
-        """For each file name what is taken: folders of names go before those of types, then the least in rank counts, and then the place in
-        the list of folders."""
+        """For each file name what is taken: folders of names go before those of types, then the least level counts, and then where the folder
+        stands in the list."""
         found = {}
         for turn, owners in enumerate([names, types]):
-            for place, folder in enumerate(owners):
-                for rank, directory in enumerate(DIRECTORIES):
-                    for file, content in self.folder(rank, folder + ending):
+            for at, folder in enumerate(owners):
+                for level, directory in enumerate(self.levels):
+                    for file, content in self.folder(directory, folder + ending):
                         if counts(file, content):
-                            found.setdefault(file, []).append((turn, rank, place, f"{directory}/{folder}{ending}/{file}", content))
+                            found.setdefault(file, []).append((turn, level, at, f"{directory}/{folder}{ending}/{file}", content))
         return {file: min(those)[3:] for file, those in found.items()}
 
     def dropins(self, names):
         types = list(dict.fromkeys(Name(name).kind for name in names))
         taken = self.taken(folders(names), types, ".d", is_dropin)
-        return [path for _, (path, content) in sorted(taken.items()) if content and not isinstance(content, Link)]
+        return [place for _, (place, content) in sorted(taken.items()) if content and not isinstance(content, Link)]
 
     def links(self, names, ending):
         taken = self.taken(folders(names), [], ending, lambda _, content: isinstance(content, Link))
@@ -290,10 +296,10 @@ class Fleet:
             return unit
         unit["dropins"] = self.dropins(names)
         items = []
-        for path in [said[1], *unit["dropins"]]:
-            more, notes = read(self.store[path])
+        for place in [said[1], *unit["dropins"]]:
+            more, notes = read(self.store[place])
             items += more
-            unit["notes"] += [f"{code} {path}:{line}" for code, line in notes]
+            unit["notes"] += [f"{code} {place}:{line}" for code, line in notes]
         rows, notes = settings_of(items)
         unit["notes"] += [f"{code} {key}" for code, key in notes]
         switch = rows.get(("Unit", "RefuseManualStart"), [])
@@ -339,8 +345,7 @@ class Fleet:
 
     def load(self, extra):
         """The main name of each name of the universe, and the units by main name."""
-        visible = {path.rpartition("/")[2] for path in self.store if is_own(path)}
-        waiting = sorted({*extra, *[it for it in visible if name_or_none(it) and Name(it).shape != "template"]})
+        waiting = sorted({*extra, *[it for it, _ in self.own() if name_or_none(it) and Name(it).shape != "template"]})
         mains, units = {}, {}
         while waiting:
             name = waiting.pop()
@@ -355,10 +360,6 @@ class Fleet:
             else:
                 waiting.append(mains[name])
         return mains, units
-
-
-def is_own(path):
-    return any(path.startswith(f"{it}/") and "/" not in path[len(it) + 1:] for it in DIRECTORIES)
 
 
 def is_dropin(file, content):
@@ -507,14 +508,15 @@ class Graph:
 # ---- what scripts are answered
 
 
-def asked_graph(store, names):
-    if any(Name(it).shape == "template" for it in names):
+def asked_graph(store, host, names):
+    units = Units(store, host)
+    if "template" in [Name(it).shape for it in names]:
         raise Refused("P1")
-    return Graph(*Fleet(store).load(names))
+    return Graph(*units.load(names))
 
 
-def show(store, name):
-    graph = asked_graph(store, [name])
+def show(store, host, name):
+    graph = asked_graph(store, host, [name])
     unit = graph.units[graph.mains[name]]
     said = unit["said"]
     status = {"fragment": "loaded", "bad": "bad", "masked": "masked", "not-found": "not-found"}[said[0]]
@@ -527,13 +529,13 @@ def show(store, name):
     return lines + [f"note {it}" for it in unit["notes"]] + ["end"]
 
 
-def list_pulled(store, name):
-    graph = asked_graph(store, [name])
+def list_pulled(store, host, name):
+    graph = asked_graph(store, host, [name])
     return [*[f"{depth} {it}" for depth, it in graph.depths(graph.mains[name])], "end"]
 
 
-def plan(store, name, running):
-    graph = asked_graph(store, [name, *running])
+def plan(store, host, name, running):
+    graph = asked_graph(store, host, [name, *running])
     target, running = graph.mains[name], {graph.mains[it] for it in running}
     graph.refuse(target, running)
     chosen = graph.chosen(target, running)
@@ -541,12 +543,12 @@ def plan(store, name, running):
     return [*[f"stop {it}" for it in graph.stopped(chosen, running)], *[f"start {it}" for it in starts], "end"]
 
 
-def cat(store, name):
-    fleet = Fleet(store)
-    main, said = fleet.resolved(Name(name).text)
+def cat(store, host, name):
+    units = Units(store, host)
+    main, said = units.resolved(Name(name).text)
     if said[0] != "fragment":
         raise Refused({"not-found": "P2", "masked": "P3", "bad": "P4"}[said[0]], main)
     text = ""
-    for path in [said[1], *fleet.dropins(fleet.names(main))]:
-        text += f"# {path}\n" + store[path] + ("" if store[path].endswith("\n") else "\n")
+    for place in [said[1], *units.dropins(units.names(main))]:
+        text += f"# {place}\n" + store[place] + ("" if store[place].endswith("\n") else "\n")
     return [*text.removesuffix("\n").split("\n"), "end"]
