@@ -10,6 +10,7 @@ SCRIPTS = 1_000
 EACH_CASE = 25
 
 NODES = [b"a", b"b", b"c", b"", b"a" * 33, b"a-b"]
+HOSTS = [b"web1", b"web2", b"w" * 64, b"we_b", b"", b"web1@x"]
 NUMBERS = [b"0", b"1", b"2", b"7", b"64", b"65", b"4294967295", b"4294967296", b"00000000001", b"x"]
 NAMES = [b"a.service", b"b.service", b"t.target", b"g@.service", b"g@x.service", b"a.servic", b".service", b"a b"]
 FOLDERS = [b"", b"a.service.d/", b"t.target.wants/", b"g@.service.d/", b"service.d/", b"x/y/", b"../"]
@@ -32,20 +33,30 @@ def path(dice):
     return dice.choice(DIRECTORIES) + dice.choice(FOLDERS) + dice.choice(NAMES)
 
 
+def place(dice):
+    """A place, every other one of a host."""
+    return path(dice) if dice.random() < 0.5 else dice.choice(HOSTS) + b":" + path(dice)
+
+
+def asked(dice):
+    """A node, every other time with a host."""
+    return dice.choice(NODES) if dice.random() < 0.5 else dice.choice(NODES) + b"@" + dice.choice(HOSTS)
+
+
 COMMANDS = {
     b"node": lambda dice: [dice.choice(NODES), dice.choice(NUMBERS)],
-    b"put": lambda dice: [dice.choice(NODES), path(dice), dice.choice(TEXTS)],
-    b"link": lambda dice: [dice.choice(NODES), path(dice), dice.choice([b"/dev/null", b"b.service", path(dice)])],
-    b"remove": lambda dice: [dice.choice(NODES), path(dice)],
+    b"put": lambda dice: [dice.choice(NODES), place(dice), dice.choice(TEXTS)],
+    b"link": lambda dice: [dice.choice(NODES), place(dice), dice.choice([b"/dev/null", b"b.service", path(dice)])],
+    b"remove": lambda dice: [dice.choice(NODES), place(dice)],
     b"merge": lambda dice: [dice.choice(NODES), dice.choice(NODES)],
-    b"part": lambda dice: [dice.choice([b"p", b"q"]), b"a", b"b", *(path(dice) for _ in range(dice.randrange(3)))],
+    b"part": lambda dice: [dice.choice([b"p", b"q"]), b"a", b"b", *(place(dice) for _ in range(dice.randrange(3)))],
     b"send": lambda dice: [dice.choice([b"p", b"q", b"r"]), dice.choice(NODES)],
     b"sweep": lambda dice: [],
     b"files": lambda dice: [dice.choice(NODES)],
-    b"cat": lambda dice: [dice.choice(NODES), dice.choice(NAMES)],
-    b"show": lambda dice: [dice.choice(NODES), dice.choice(NAMES)],
-    b"list": lambda dice: [dice.choice(NODES), dice.choice(NAMES)],
-    b"plan": lambda dice: [dice.choice(NODES), *(dice.choice(NAMES) for _ in range(dice.randrange(3)))],
+    b"cat": lambda dice: [asked(dice), dice.choice(NAMES)],
+    b"show": lambda dice: [asked(dice), dice.choice(NAMES)],
+    b"list": lambda dice: [asked(dice), dice.choice(NAMES)],
+    b"plan": lambda dice: [asked(dice), *(dice.choice(NAMES) for _ in range(dice.randrange(3)))],
     b"workers": lambda dice: [dice.choice(NUMBERS[:6])],
     b"same": lambda dice: [dice.choice(NODES), dice.choice(NODES)],
     b"crowd": lambda dice: [dice.choice(NODES), dice.choice(NUMBERS[:3]), dice.choice(NUMBERS[:3])],
