@@ -4,6 +4,7 @@ use Rattle.std.specs.Prelude.{MatchOption}
 use Rattle.std.specs.Option.{IfSome}
 use Rattle.unit_name.specs.Names.{Name}
 use Rattle.edit_sums.specs.Sums.{EntryMap}
+use Rattle.load_places.specs.Levels.{Looker}
 use Rattle.path_maps.specs.SeenLaws.{one_looker}
 use Rattle.path_maps.specs.Views.{view_of}
 use Rattle.inverse_deps.specs.Edges.{EdgeMap}
@@ -40,17 +41,17 @@ of_there A B o x e h = subst (λ (p : Option _). MatchOption p A (λ _. B)) e h
 
 -- a snapshot of all names that are asked for answers as the store does
 module _ (s : EntryMap) (extra : List Name) (question : Question) (found : Option (Vec Name Global)) (names : Vec Name Global) (is : found ≡ Some names)
-    (all : IfSome found (λ (ns : Vec Name Global). ns.items ≡ asked extra question)) (lent : List Name) (same : lent ≡ names.items) (graph : GraphMap)
-    (made : IsSnapshot (view_of s (host_asked question)) lent graph) where
+    (all : IfSome found (λ (ns : Vec Name Global). ns.items ≡ asked extra question)) (lent : List Name) (same : lent ≡ names.items)
+    (host : Looker) (host_is : host ≡ host_asked question) (graph : GraphMap) (made : IsSnapshot (view_of s host) lent graph) where
   all_asked : IsSnapshot (view_of s (host_asked question)) (asked extra question) graph
-  all_asked = subst (λ (ns : List Name). IsSnapshot (view_of s (host_asked question)) ns graph) (same ∙ of_some (λ (ns : Vec Name Global). ns.items ≡ asked extra question) found names is all) made
+  all_asked = subst (λ (h : Looker). IsSnapshot (view_of s h) (asked extra question) graph) host_is (subst (λ (ns : List Name). IsSnapshot (view_of s host) ns graph) (same ∙ of_some (λ (ns : Vec Name Global). ns.items ≡ asked extra question) found names is all) made)
 
   pub own_known : AreKnown graph.load (names_asked question)
   own_known = own_are_known (view_of s (host_asked question)) extra question graph.load all_asked.is_load
 
   -- it is for the question's host
   pub own_host : graph.load.host ≡ host_asked question
-  own_host = made.is_load.host_is ∙ one_looker s (host_asked question)
+  own_host = all_asked.is_load.host_is ∙ one_looker s (host_asked question)
 
   pub answers : MatchOption found (HasTemplate (asked extra question)) (λ _. ¬ HasTemplate (asked extra question)) → (answer : Answer) → IsTold graph question answer
       → IsAnswer s extra question answer

@@ -1,10 +1,14 @@
--- Laws of answers: a store and a question have one.
+-- Laws of answers: a store and a question have one, which no other host's place changes.
 use Rattle.std.proofs.Common.{◌≡◌, ℕ, Some, List, [], ◌∷◌, map, inl, inr, refl, ap, sym, subst, ◌∙◌}
 use mathlib.Core.Path.{fun_ext}
-use Rattle.std.specs.Prelude.{◌↔◌}
+use Rattle.std.specs.Prelude.{◌↔◌, ◌≢◌, None}
+use Rattle.std.specs.FinMap as finmap
 use Rattle.std.specs.Cmp.Lexicographic.{nat_list_cmp_total}
 use Rattle.list_laws.specs.Members.{IsAmong, IsAmong-append_right}
 use Rattle.edit_sums.specs.Sums.{EntryMap}
+use Rattle.load_places.specs.Levels.{level_for}
+use Rattle.load_places.specs.Places.{PlaceParts}
+use Rattle.path_maps.specs.SeenLaws.{others_arent_looked_at}
 use Rattle.path_maps.specs.Views.{View, view_of}
 use Rattle.unit_name.specs.Names.{Name, name_cmp}
 use Rattle.setting_rules.specs.declared.dependency_lists.DependencyList.{DependencyList}
@@ -39,6 +43,11 @@ use Rattle.fleet_answers.specs.declared.questions.Question.TheVariants.{Unit as 
 -- A store and a question have one answer.
 abbrev pub OneAnswer : Type 0
 OneAnswer = (s : EntryMap) (extra : List Name) (question : Question) (a b : Answer) → IsAnswer s extra question a → IsAnswer s extra question b → a ≡ b
+
+-- What stands at another host's place changes no answer for this host, and what stands at any host's place changes none without one.
+abbrev pub OtherHostsChangeNothing : Type 0
+OtherHostsChangeNothing = (s t : EntryMap) (extra : List Name) (question : Question) (place : PlaceParts) → level_for (host_asked question) place ≡ None
+    → ((q : PlaceParts) → q ≢ place → finmap.get s q ≡ finmap.get t q) → (a : Answer) → IsAnswer s extra question a → IsAnswer t extra question a
 
 -- ---- the names of a question are known to a load of them
 
@@ -153,6 +162,11 @@ module _ (s : View) (names : List Name) (question : Question) (own : (load : Loa
   one_whole (inl f) (inr g) = absurd (g.snapshot.within f.0)
   one_whole (inr f) (inl g) = absurd (f.snapshot.within g.0)
   one_whole (inr f) (inr g) = one_from f g
+
+pub other_hosts_change_nothing : OtherHostsChangeNothing
+other_hosts_change_nothing s t extra question place none same a (inl template) = inl template
+other_hosts_change_nothing s t extra question place none same a (inr whole) =
+    inr (whole.0, subst (λ (v : View). IsWholeAnswer v (asked extra question) question a) (others_arent_looked_at s t (host_asked question) place none same) whole.1)
 
 pub one_answer : OneAnswer
 one_answer s extra question a b (inl f) (inl g) = f.1 ∙ sym g.1

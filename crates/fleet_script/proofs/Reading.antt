@@ -40,10 +40,10 @@ module _ (world other : ScriptWorld) (left right : List ℕ) (j k : ℕ) (is_lef
 
   alike : (command : Command) → IsReading command → Does world (of_node left command) a x → Does other (of_node right command) b y → a ≡ b
   alike (Files node) h p q = read_alike TellsPlaces (λ s a b p q. p ∙ sym q) p q
-  alike (Cat node unit) h p q = read_alike (TellsFiles unit) (files_are_told_once unit) p q
-  alike (Show node unit) h p q = read_alike (TellsUnit unit) (questions_are_told_once (unit_asked unit)) p q
-  alike (ListUnits node unit) h p q = read_alike (TellsList unit) (questions_are_told_once (pulled_asked unit)) p q
-  alike (Plan node unit running) h p q = read_alike (TellsPlan unit running) (questions_are_told_once (plan_asked unit running)) p q
+  alike (Cat node host unit) h p q = read_alike (TellsFiles host unit) (files_are_told_once host unit) p q
+  alike (Show node host unit) h p q = read_alike (TellsUnit host unit) (questions_are_told_once (unit_asked unit) host) p q
+  alike (ListUnits node host unit) h p q = read_alike (TellsList host unit) (questions_are_told_once (pulled_asked unit) host) p q
+  alike (Plan node host unit running) h p q = read_alike (TellsPlan host unit running) (questions_are_told_once (plan_asked unit running) host) p q
   alike (Crowd node seats edits) h p q = read_alike (TellsCrowd seats edits) (crowds_are_told_once seats edits) p q
   alike (Node name writer) h p q = absurd h
   alike (Put node place text) h p q = absurd h

@@ -273,10 +273,10 @@ module _ (old : ScriptWorld) where
       let others = numbers_from 1 (length old.nodes - 1) in
       gives (codes "ok\n") (swept old) (puts_nothing (swept old) (lawful_swept old) (puts_merged_all old (map (λ k. (k, 0)) others ++ map (λ k. (0, k)) others)))
   does (Files node) = reads node TellsPlaces (λ s a b p q. p ∙ sym q) (λ s outcome p. ap is_spent p)
-  does (Cat node unit) = reads node (TellsFiles unit) (files_are_told_once unit) (files_spend_nothing unit)
-  does (Show node unit) = reads node (TellsUnit unit) (questions_are_told_once (unit_asked unit)) (questions_spend_nothing (unit_asked unit))
-  does (ListUnits node unit) = reads node (TellsList unit) (questions_are_told_once (pulled_asked unit)) (questions_spend_nothing (pulled_asked unit))
-  does (Plan node unit running) = reads node (TellsPlan unit running) (questions_are_told_once (plan_asked unit running)) (questions_spend_nothing (plan_asked unit running))
+  does (Cat node host unit) = reads node (TellsFiles host unit) (files_are_told_once host unit) (files_spend_nothing host unit)
+  does (Show node host unit) = reads node (TellsUnit host unit) (questions_are_told_once (unit_asked unit) host) (questions_spend_nothing (unit_asked unit) host)
+  does (ListUnits node host unit) = reads node (TellsList host unit) (questions_are_told_once (pulled_asked unit) host) (questions_spend_nothing (pulled_asked unit) host)
+  does (Plan node host unit running) = reads node (TellsPlan host unit running) (questions_are_told_once (plan_asked unit running) host) (questions_spend_nothing (plan_asked unit running) host)
   does (Workers count) = gives_or_refuses (IsCrew count) (codes "ok\n") NoCrew refl
   does (Same left right) =
       let C : ℕ → ℕ → Outcome → ScriptWorld → Type 0 = λ j k outcome new. ((held old j ≡ held old k) × Gives (codes "same\n") old outcome new) ⊎ ((held old j ≡ held old k → ⊥) × Gives (codes "differ\n") old outcome new) in

@@ -14,20 +14,20 @@ use Rattle.fleet_script.specs.Scripts.{Run}
 -- the command reads one node, and nothing else happens
 abbrev pub IsReading : Command → Type 0
 IsReading (command.Files node) = Unit {0}
-IsReading (command.Cat node unit) = Unit {0}
-IsReading (command.Show node unit) = Unit {0}
-IsReading (command.List node unit) = Unit {0}
-IsReading (command.Plan node unit running) = Unit {0}
+IsReading (command.Cat node host unit) = Unit {0}
+IsReading (command.Show node host unit) = Unit {0}
+IsReading (command.List node host unit) = Unit {0}
+IsReading (command.Plan node host unit running) = Unit {0}
 IsReading (command.Crowd node seats edits) = Unit {0}
 IsReading other = ⊥
 
 -- the same command, which reads the node of this name
 abbrev pub of_node : List ℕ → Command → Command
 of_node name (command.Files node) = command.Files name
-of_node name (command.Cat node unit) = command.Cat name unit
-of_node name (command.Show node unit) = command.Show name unit
-of_node name (command.List node unit) = command.List name unit
-of_node name (command.Plan node unit running) = command.Plan name unit running
+of_node name (command.Cat node host unit) = command.Cat name host unit
+of_node name (command.Show node host unit) = command.Show name host unit
+of_node name (command.List node host unit) = command.List name host unit
+of_node name (command.Plan node host unit running) = command.Plan name host unit running
 of_node name (command.Crowd node seats edits) = command.Crowd name seats edits
 of_node name other = other
 

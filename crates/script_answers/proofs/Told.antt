@@ -1,11 +1,17 @@
 -- From what is told of a question to what is told of words.
-use Rattle.std.proofs.Common.{◌≡◌, inl, inr, Global, ℕ, [], Result, Ok, Err, Vec, refl, ap, sym, subst}
+use Rattle.std.proofs.Common.{◌≡◌, inl, inr, Global, ℕ, List, [], Option, Result, Ok, Err, Vec, refl, ap, sym, subst}
+use Rattle.std.specs.Prelude.{MatchResult}
 use Rattle.edit_sums.specs.Sums.{EntryMap}
+use Rattle.load_places.specs.Levels.{Looker}
+use Rattle.load_places.specs.declared.hosts.HostFault.{HostFault}
+use Rattle.load_places.specs.declared.hosts.HostFault.TheVariants as host
 use Rattle.unit_name.specs.declared.names.NameFault.{NameFault}
 use Rattle.unit_name.specs.declared.names.NameFault.TheVariants as name
 use Rattle.script_commands.specs.declared.commands.Fault.{Fault}
 use Rattle.script_commands.specs.declared.commands.Fault.TheVariants as fault
-use Rattle.script_commands.specs.Faults.{fault_of_name}
+use Rattle.script_commands.specs.declared.commands.LineRefusal.TheVariants.{HostName}
+use Rattle.script_commands.specs.Hosts.{IsHostFault, host_asked}
+use Rattle.script_commands.specs.Faults.{fault_of_host, fault_of_name}
 use Rattle.script_commands.specs.Outcomes.{IsSaid, Outcome}
 use Rattle.fleet_answers.specs.Answers.{IsAnswer}
 use Rattle.fleet_answers.specs.declared.questions.Answer.{Answer}
@@ -13,6 +19,7 @@ use Rattle.fleet_answers.specs.declared.questions.Answer.TheVariants as answer
 use Rattle.fleet_answers.specs.declared.questions.Question.{Question}
 use Rattle.start_plan.specs.declared.requests.Refusal.{Refusal as PlanRefusal}
 use Rattle.script_answers.specs.Files.{RefusesName}
+use Rattle.script_answers.specs.Hosts.{ForHost, RefusesHost}
 use Rattle.script_answers.specs.Plans.{fault_of_plan}
 use Rattle.script_answers.specs.Requests.{IsNameFault}
 use Rattle.script_answers.specs.Tells.{IsOutcomeOf, TellsQuestion, TellsWords, asks}
@@ -62,3 +69,21 @@ module _ {X : Type 0} (make : X → Question) (read : Result X NameFault) (s : E
 -- what is told of an answer is told of its question
 pub answer_told : (s : EntryMap) (question : Question) (told : Answer) → IsAnswer s [] question told → (r : Told) → IsTold r (IsOutcomeOf told) → IsTold r (TellsQuestion question s)
 answer_told s question told is r said = weaker r (IsOutcomeOf told) (TellsQuestion question s) (λ outcome o. (told, is, o)) said
+
+-- ---- for the host that is asked for
+
+module _ (asked : Option (List ℕ)) (Tells : Looker → EntryMap → Outcome → Type 0) (s : EntryMap) where
+  -- bytes that name no host are refused
+  pub host_told : (f : Fault) → IsHostFault (host_asked asked) f → IsTold (Err f) (ForHost asked Tells s)
+  host_told f (inl memory) = subst (λ (x : Fault). IsTold (Err x) (ForHost asked Tells s)) (sym memory.2) tt
+  host_told f (inr why) = subst (λ (x : Fault). IsTold (Err x) (ForHost asked Tells s)) (sym why.2) (by why.0 why.1)
+    where
+      by : (g : HostFault) → host_asked asked ≡ Err g → IsTold (Err (fault_of_host g)) (ForHost asked Tells s)
+      by host.HostName e = subst (λ (r : Result Looker HostFault). MatchResult r (λ h. Tells h s (Err HostName)) (λ g. RefusesHost g (Err HostName))) (sym e) refl
+      by host.Memory e = tt
+
+  -- and what is told for a host is told for the one that is asked for
+  pub for_host : (h : Looker) → host_asked asked ≡ Ok h → (r : Told) → IsTold r (Tells h s) → IsTold r (ForHost asked Tells s)
+  for_host h are r told =
+      weaker r (Tells h s) (ForHost asked Tells s)
+      (λ outcome whole. subst (λ (x : Result Looker HostFault). MatchResult x (λ k. Tells k s outcome) (λ g. RefusesHost g outcome)) (sym are) whole) told

@@ -1,6 +1,8 @@
 pub mod CrowdLaws
 pub mod Crowds
 pub mod FileLaws
+pub mod Hosts
+pub mod HostLaws
 pub mod Files
 pub mod Plans
 pub mod PulledLines

@@ -1,7 +1,8 @@
 -- What is told of a question of a node's store: how its answer is written, or why the words make none.
 -- Source: systemctl(1), "show", "list-dependencies", "start"; the texts are this project's own.
-use Rattle.std.specs.Prelude.{◌≡◌, ℕ, List, [], Result, Ok, Err, MatchResult}
+use Rattle.std.specs.Prelude.{◌≡◌, ℕ, List, [], Option, Result, Ok, Err, MatchResult}
 use Rattle.edit_sums.specs.Sums.{EntryMap}
+use Rattle.load_places.specs.Levels.{Looker}
 use Rattle.unit_name.specs.declared.names.NameFault.{NameFault}
 use Rattle.unit_name.specs.Names.{name_of}
 use Rattle.script_commands.specs.declared.commands.LineRefusal.TheVariants as refusal
@@ -12,6 +13,7 @@ use Rattle.fleet_answers.specs.declared.questions.Answer.TheVariants as answer
 use Rattle.fleet_answers.specs.declared.questions.Question.{Question}
 use Rattle.fleet_answers.specs.declared.questions.Question.TheVariants as question
 use Rattle.script_answers.specs.Files.{RefusesName}
+use Rattle.script_answers.specs.Hosts.{ForHost}
 use Rattle.script_answers.specs.Plans.{RefusesPlan, plan_text}
 use Rattle.script_answers.specs.PulledLines.{pulled_text}
 use Rattle.script_answers.specs.Requests.{request_of}
@@ -42,24 +44,28 @@ asks make (Ok read) = Ok (make read)
 asks make (Err fault) = Err fault
 
 -- which unit a word stands for
-abbrev pub unit_asked : List ℕ → Result Question NameFault
-unit_asked word = asks question.Unit (name_of word)
+abbrev pub unit_asked : List ℕ → Looker → Result Question NameFault
+unit_asked word host = asks (question.Unit host) (name_of word)
 
 -- what the unit of a word pulls
-abbrev pub pulled_asked : List ℕ → Result Question NameFault
-pulled_asked word = asks question.Pulled (name_of word)
+abbrev pub pulled_asked : List ℕ → Looker → Result Question NameFault
+pulled_asked word host = asks (question.Pulled host) (name_of word)
 
 -- the plan where the unit of a word is to start while those of other words run
-abbrev pub plan_asked : List ℕ → List (List ℕ) → Result Question NameFault
-plan_asked unit running = asks question.Plan (request_of unit running)
+abbrev pub plan_asked : List ℕ → List (List ℕ) → Looker → Result Question NameFault
+plan_asked unit running host = asks question.Plan (request_of host unit running)
 
--- ---- what is told
+-- ---- what is told, for the host that a word asks for
 
-abbrev pub TellsUnit : List ℕ → EntryMap → Outcome → Type 0
-TellsUnit word = TellsWords (unit_asked word)
+-- the answer of the question that is made for it
+abbrev pub TellsFor : (Looker → Result Question NameFault) → Option (List ℕ) → EntryMap → Outcome → Type 0
+TellsFor asks_for asked = ForHost asked (λ host. TellsWords (asks_for host))
 
-abbrev pub TellsList : List ℕ → EntryMap → Outcome → Type 0
-TellsList word = TellsWords (pulled_asked word)
+abbrev pub TellsUnit : Option (List ℕ) → List ℕ → EntryMap → Outcome → Type 0
+TellsUnit asked word = TellsFor (unit_asked word) asked
 
-abbrev pub TellsPlan : List ℕ → List (List ℕ) → EntryMap → Outcome → Type 0
-TellsPlan unit running = TellsWords (plan_asked unit running)
+abbrev pub TellsList : Option (List ℕ) → List ℕ → EntryMap → Outcome → Type 0
+TellsList asked word = TellsFor (pulled_asked word) asked
+
+abbrev pub TellsPlan : Option (List ℕ) → List ℕ → List (List ℕ) → EntryMap → Outcome → Type 0
+TellsPlan asked unit running = TellsFor (plan_asked unit running) asked

@@ -3,7 +3,8 @@
 use Rattle.std.specs.Prelude.{ℕ, codes, List, [], ◌∷◌, ◌++◌}
 use Rattle.std.specs.Fmt.{decimal}
 use Rattle.std.specs.List.{flat_map}
-use Rattle.load_path.specs.Paths.{PathParts, text_of}
+use Rattle.load_places.specs.Places.{PlaceParts}
+use Rattle.load_places.specs.Texts.{place_text}
 use Rattle.unit_name.specs.Names.{Name}
 use Rattle.section_reader.specs.Words as line_notes
 use Rattle.setting_rules.specs.Notes as setting_notes
@@ -30,13 +31,13 @@ cause_text Target = codes "B4 Target"
 
 -- what stands for a unit
 abbrev pub status_text : Status → List ℕ
-status_text (Loaded path) = codes "loaded " ++ text_of path
+status_text (Loaded place) = codes "loaded " ++ place_text place
 status_text NotFound = codes "not-found"
 status_text Masked = codes "masked"
 status_text (Bad cause) = codes "bad " ++ cause_text cause
 
-abbrev pub dropin_line : PathParts → List ℕ
-dropin_line path = codes "dropin " ++ text_of path ++ codes "\n"
+abbrev pub dropin_line : PlaceParts → List ℕ
+dropin_line place = codes "dropin " ++ place_text place ++ codes "\n"
 
 -- the section, the key, the value
 abbrev pub row_line : Row → List ℕ
@@ -52,7 +53,7 @@ kind_line list = names_line list.kind list.names
 
 -- the code of a note, and the line or the key that it is on
 abbrev pub note_line : UnitNote → List ℕ
-note_line (File path note) = codes "note " ++ line_notes.code_of note.kind ++ codes " " ++ text_of path ++ codes ":" ++ decimal note.line ++ codes "\n"
+note_line (File place note) = codes "note " ++ line_notes.code_of note.kind ++ codes " " ++ place_text place ++ codes ":" ++ decimal note.line ++ codes "\n"
 note_line (Setting note) = codes "note " ++ setting_notes.code_of note.kind ++ codes " " ++ note.section ++ codes "." ++ note.key ++ codes "\n"
 
 -- the main name of a unit, what stands for it, and all its names

@@ -10,27 +10,30 @@ use crate::requests::{read_name, read_request};
 use crate::unit_lines::unit_text;
 use fleet_answers::{Answer, AnswerFault, Question, answer_question};
 use replica_store::Store;
-use script_commands::{Fault, LineRefusal, Words};
+use script_commands::{Fault, LineRefusal, Word, Words, read_host};
 use std::alloc::Global;
 use std::thread::Threads;
 use worker_rounds::OpenGate;
 
-/// Tells the unit that a word names, as all that must be loaded of a store comes to it: its main name, status, names,
-/// drop-ins, values, dependencies in both directions, and notes. Refused are, in this order, a word that is no unit name,
-/// a template, and a store of which more than 4,096 names must be loaded.
+/// Tells the unit that a word names, as all that must be loaded of a store comes to it for the host that another word asks
+/// for: its main name, status, names, drop-ins, values, dependencies in both directions, and notes. Refused are, in this
+/// order, a word that names no host, a word that is no unit name, a template, and a store of which more than 4,096 names
+/// must be loaded.
 ///
 /// It loads all units once, by 1 to 64 workers, whose number changes nothing of the answer.
 pub fn tell_unit<R: Threads + Sync>(
     rt: &R,
     alloc: Global,
     store: &Store,
+    host: Option<Word<'_>>,
     unit: &[u8],
     workers: &Crew,
 ) -> Result<Vec<u8>, Fault>
-    ensures told { IsSaid (λ text. text.items) result (TellsUnit unit.now store.now) }
+    ensures told { IsSaid (λ text. text.items) result (TellsUnit host.entry unit.now store.now) }
 {
-    let question = Question::Unit(read_name(alloc, unit)?);
-    tell(rt, alloc, store, &question, workers)
+    let host = read_host(alloc, host)?;
+    let name = read_name(alloc, unit)?;
+    tell(rt, alloc, store, &Question::Unit { host, name }, workers)
 }
 
 /// Lists what the unit that a word names pulls, over what it requires, has as requisite, binds to and wants, each unit once
@@ -39,17 +42,20 @@ pub fn tell_list<R: Threads + Sync>(
     rt: &R,
     alloc: Global,
     store: &Store,
+    host: Option<Word<'_>>,
     unit: &[u8],
     workers: &Crew,
 ) -> Result<Vec<u8>, Fault>
-    ensures told { IsSaid (λ text. text.items) result (TellsList unit.now store.now) }
+    ensures told { IsSaid (λ text. text.items) result (TellsList host.entry unit.now store.now) }
 {
-    let question = Question::Pulled(read_name(alloc, unit)?);
-    tell(rt, alloc, store, &question, workers)
+    let host = read_host(alloc, host)?;
+    let name = read_name(alloc, unit)?;
+    tell(rt, alloc, store, &Question::Pulled { host, name }, workers)
 }
 
 /// Tells what stops, and then what starts and in which order, where the unit that a word names is to start while those that
-/// other words name run. Refused are, in this order, the first word that is no unit name; a template; a store of which more
+/// other words name run, of the units of the host that is asked for. Refused are, in this order, a word that names no host;
+/// the first word that is no unit name; a template; a store of which more
 /// than 4,096 names must be loaded; and a request without a plan, for the first cause that stands.
 ///
 /// It loads all units once, all names of the request among them, by 1 to 64 workers, whose number changes nothing of the
@@ -58,14 +64,16 @@ pub fn tell_plan<R: Threads + Sync>(
     rt: &R,
     alloc: Global,
     store: &Store,
+    host: Option<Word<'_>>,
     unit: &[u8],
     running: Words<'_>,
     workers: &Crew,
 ) -> Result<Vec<u8>, Fault>
-    ensures told { IsSaid (λ text. text.items) result (TellsPlan unit.now running.entry store.now) }
+    ensures told { IsSaid (λ text. text.items) result (TellsPlan host.entry unit.now running.entry store.now) }
 {
-    let question = Question::Plan(read_request(alloc, unit, running)?);
-    tell(rt, alloc, store, &question, workers)
+    let host = read_host(alloc, host)?;
+    let request = read_request(alloc, host, unit, running)?;
+    tell(rt, alloc, store, &Question::Plan(request), workers)
 }
 
 // Tells what a question is answered.

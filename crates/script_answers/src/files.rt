@@ -2,17 +2,16 @@
 ghost use Rattle.std.specs.Prelude.{◌≡◌, ◌++◌, IfOk, OnOk};
 ghost use Rattle.std.specs.Option.{option_copied};
 ghost use Rattle.edit_sums.specs.Sums.{shown};
-ghost use Rattle.path_maps.specs.Views.{fleet_of};
+ghost use Rattle.path_maps.specs.Views.{view_of};
 ghost use Rattle.fragment_choice.specs.Resolutions.{main};
 ghost use Rattle.script_commands.specs.Outcomes.{IsSaid};
-ghost use Rattle.script_answers.specs.Files.{AreFiles, IsCat, IsFile, IsFileAt, TellsFiles, entry_lines, file_bytes, file_lines, lent_text};
+ghost use Rattle.script_answers.specs.Files.{AreFiles, IsCat, IsFile, IsFileAt, TellsFiles, TellsFilesOf, entry_lines, file_bytes, file_lines, lent_text};
 
 use dropins::UnitFolders;
 use edit_sums::Content;
 use fragment_choice::{Choice, Resolution, names_of, resolve};
-use load_path::Path;
-use replica_store::{Seen, SeenEntry, Store};
-use script_commands::{Fault, LineRefusal};
+use replica_store::{HostName, Place, Seen, SeenEntry, Store};
+use script_commands::{Fault, LineRefusal, Word, read_host};
 use std::alloc::{AllocError, Global};
 use unit_name::UnitName;
 
@@ -27,13 +26,13 @@ fn bytes_of<'a>(content: Option<&'a Content>) -> &'a [u8]
     }
 }
 
-// Appends a file: its path behind `# `, and its bytes, with a line feed added if the last of them
+// Appends a file: its place behind `# `, and its bytes, with a line feed added if the last of them
 // is none.
-fn append_file(out: &mut Vec<u8>, path: &Path, bytes: &[u8]) -> Result<(), AllocError>
-    ensures appended { OnOk result (out.new.items ≡ out.old.items ++ file_lines path.now bytes.now) }
+fn append_file(out: &mut Vec<u8>, place: &Place, bytes: &[u8]) -> Result<(), AllocError>
+    ensures appended { OnOk result (out.new.items ≡ out.old.items ++ file_lines place.now bytes.now) }
 {
     out.extend_from_slice(b"# ")?;
-    path.append_to(out)?;
+    place.append_to(out)?;
     out.push(b'\n')?;
     out.extend_from_slice(bytes)?;
     if bytes.last() != Some(&b'\n') {
@@ -43,11 +42,11 @@ fn append_file(out: &mut Vec<u8>, path: &Path, bytes: &[u8]) -> Result<(), Alloc
 }
 
 // The same of an entry that is a file.
-fn append_entry(out: &mut Vec<u8>, placed: &SeenEntry) -> Result<(), AllocError>
+fn append_entry(out: &mut Vec<u8>, seen: &Seen, placed: &SeenEntry) -> Result<(), AllocError>
     requires file { IsFile (shown placed.now.1) }
-    ensures appended { OnOk result (out.new.items ≡ out.old.items ++ entry_lines placed.now) }
+    ensures appended { OnOk result (out.new.items ≡ out.old.items ++ entry_lines seen.now placed.now) }
 {
-    append_file(out, &placed.path()?, bytes_of(placed.visible()))
+    append_file(out, &seen.place(placed)?, bytes_of(placed.visible()))
 }
 
 // The files of a unit: its fragment, and then its drop-ins. Linear in what is written, and a
@@ -55,7 +54,7 @@ fn append_entry(out: &mut Vec<u8>, placed: &SeenEntry) -> Result<(), AllocError>
 fn files_text(
     alloc: Global,
     seen: &Seen,
-    fragment: &Path,
+    fragment: &Place,
     dropins: &[SeenEntry],
 ) -> Result<Vec<u8>, AllocError>
     requires file { IsFileAt seen.now fragment.now }
@@ -65,46 +64,66 @@ fn files_text(
     let mut out = Vec::new(alloc);
     append_file(&mut out, fragment, bytes_of(seen.visible(fragment)))?;
     for placed in dropins {
-        append_entry(&mut out, placed)?;
+        append_entry(&mut out, seen, placed)?;
     }
     out.extend_from_slice(b"end\n")?;
     Ok(out)
 }
 
-// The files of the unit of this main name, whose fragment is at this path.
+// The files of the unit of this main name, whose fragment is at this place.
 fn files_of_unit(
     alloc: Global,
     store: &Store,
+    host: Option<&HostName>,
     unit: &UnitName,
-    fragment: &Path,
+    fragment: &Place,
 ) -> Result<Vec<u8>, AllocError>
-    requires main { main (fleet_of store.now) unit.now ≡ unit.now }
-    requires file { IsFileAt (fleet_of store.now) fragment.now }
-    ensures files { IfOk result (λ text. IsCat (fleet_of store.now) unit.now fragment.now text.items) }
+    requires main { main (view_of store.now (option_copied host)) unit.now ≡ unit.now }
+    requires file { IsFileAt (view_of store.now (option_copied host)) fragment.now }
+    ensures files { IfOk result (λ text. IsCat (view_of store.now (option_copied host.entry)) unit.now fragment.now text.items) }
 {
-    let names = names_of(alloc, store, unit)?;
+    let names = names_of(alloc, store, host, unit)?;
     let folders = UnitFolders::of(alloc, &names)?;
-    let seen = store.fleet();
+    let seen = store.seen_by(host);
     let dropins = folders.drop_ins(alloc, &seen)?;
     files_text(alloc, &seen, fragment, &dropins)
 }
 
-/// Tells the files of the unit that a word names: its fragment, and then its drop-ins. Refused are a word that is no
-/// unit name, and a unit that isn't found, is masked or is bad, which is told by its main name.
+/// Tells the files of the unit that a word names, as the host sees them that another word asks for: its fragment, and then
+/// its drop-ins. Refused are, in this order, a word that names no host, a word that is no unit name, and a unit that isn't
+/// found, is masked or is bad, which is told by its main name.
 ///
 /// It loads this unit alone; linear in what is told, beside the search for the unit's names.
-pub fn tell_files(alloc: Global, store: &Store, unit: &[u8]) -> Result<Vec<u8>, Fault>
-    ensures told { IsSaid (λ text. text.items) result (TellsFiles unit.now store.now) }
+pub fn tell_files(
+    alloc: Global,
+    store: &Store,
+    host: Option<Word<'_>>,
+    unit: &[u8],
+) -> Result<Vec<u8>, Fault>
+    ensures told { IsSaid (λ text. text.items) result (TellsFiles host.entry unit.now store.now) }
+{
+    let host = read_host(alloc, host)?;
+    tell_files_for(alloc, store, host.as_ref(), unit)
+}
+
+// Tells the files of a unit as a host sees them, or as they are seen without one.
+fn tell_files_for(
+    alloc: Global,
+    store: &Store,
+    host: Option<&HostName>,
+    unit: &[u8],
+) -> Result<Vec<u8>, Fault>
+    ensures told { IsSaid (λ text. text.items) result (TellsFilesOf unit.now (view_of store.now (option_copied host.entry))) }
 {
     let name = match UnitName::parse(alloc, unit) {
         Ok(name) => name,
         Err(fault) => return Err(Fault::from(fault)),
     };
-    let Resolution { main, choice } = resolve(alloc, store, &name)?;
+    let Resolution { main, choice } = resolve(alloc, store, host, &name)?;
     match choice {
         Choice::NotFound => Err(Fault::Refused(LineRefusal::NotFound(main))),
         Choice::Masked => Err(Fault::Refused(LineRefusal::Masked(main))),
-        Choice::Fragment(path) => Ok(files_of_unit(alloc, store, &main, &path)?),
+        Choice::Fragment(place) => Ok(files_of_unit(alloc, store, host, &main, &place)?),
         Choice::Alias(_) => unreachable!(),
         Choice::Bad(_) => Err(Fault::Refused(LineRefusal::Bad(main))),
     }

@@ -4,20 +4,30 @@ ghost use Rattle.unit_name.specs.Names.{name_of};
 ghost use Rattle.script_answers.specs.Requests.{IsNameFault, names_in, request_of};
 
 use plain_values::Items;
+use replica_store::HostName;
 use script_commands::{Fault, Words};
 use start_plan::Request;
 use std::alloc::Global;
 use unit_name::UnitName;
 
-/// The request to start the unit that a word names while those that other words name run, or the first thing wrong with the
+/// The request of a host to start the unit that a word names while those that other words name run, or the first thing wrong with the
 /// first word that is no unit name. Want of memory may come in place of any answer.
-pub(crate) fn read_request(alloc: Global, unit: &[u8], running: Words<'_>) -> Result<Request, Fault>
-    ensures read { MatchResult result (λ request. request_of unit.now running.entry ≡ Ok request)
-        (IsNameFault (request_of unit.now running.entry)) }
+pub(crate) fn read_request(
+    alloc: Global,
+    host: Option<HostName>,
+    unit: &[u8],
+    running: Words<'_>,
+) -> Result<Request, Fault>
+    ensures read { MatchResult result (λ request. request_of host.entry unit.now running.entry ≡ Ok request)
+        (IsNameFault (request_of host.entry unit.now running.entry)) }
 {
     let target = read_name(alloc, unit)?;
     let running = read_names(alloc, running)?;
-    Ok(Request { target, running })
+    Ok(Request {
+        host,
+        target,
+        running,
+    })
 }
 
 /// The unit name that a word is, or the first thing wrong with it.

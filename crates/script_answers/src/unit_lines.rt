@@ -6,7 +6,7 @@ ghost use Rattle.script_answers.specs.UnitLines.{cause_text, dropin_line, head_t
 use crate::names::append_names;
 use fleet_answers::LinkedUnit;
 use fragment_choice::Cause;
-use load_path::Path;
+use load_places::Place;
 use setting_rules::{DependencyList, Row};
 use std::alloc::{AllocError, Global};
 use std::fmt::Write;
@@ -30,9 +30,9 @@ fn append_status(out: &mut Vec<u8>, status: &Status) -> Result<(), AllocError>
     ensures appended { OnOk result (out.new.items ≡ out.old.items ++ status_text status.now) }
 {
     match status {
-        Status::Loaded(path) => {
+        Status::Loaded(place) => {
             out.extend_from_slice(b"loaded ")?;
-            path.append_to(out)
+            place.append_to(out)
         }
         Status::NotFound => out.extend_from_slice(b"not-found"),
         Status::Masked => out.extend_from_slice(b"masked"),
@@ -63,8 +63,8 @@ fn append_lines<L: UnitLine>(out: &mut Vec<u8>, all: &[L]) -> Result<(), AllocEr
     Ok(())
 }
 
-// The path of a drop-in.
-impl UnitLine for Path {
+// The place of a drop-in.
+impl UnitLine for Place {
     ghost line = { dropin_line };
 
     fn append_line(&self, out: &mut Vec<u8>) -> Result<(), AllocError> {
@@ -124,11 +124,11 @@ fn append_note(out: &mut Vec<u8>, scratch: &mut String, note: &UnitNote) -> Resu
 {
     out.extend_from_slice(b"note ")?;
     match note {
-        UnitNote::File(path, note) => {
+        UnitNote::File(place, note) => {
             let line = note.line;
             out.extend_from_slice(note.kind.code().as_bytes())?;
             out.push(b' ')?;
-            path.append_to(out)?;
+            place.append_to(out)?;
             scratch.clear();
             write!(scratch, ":{line}\n")?;
             out.extend_from_slice(scratch.as_bytes())

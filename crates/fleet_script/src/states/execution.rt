@@ -59,14 +59,21 @@ impl Shell {
             Command::Send { piece, node } => self.send(alloc, piece.as_slice(), node.as_slice()),
             Command::Sweep => self.sweep(alloc),
             Command::Files { node } => self.files(alloc, node.as_slice()),
-            Command::Cat { node, unit } => self.cat(alloc, node.as_slice(), unit.as_slice()),
-            Command::Show { node, unit } => self.show(rt, alloc, node.as_slice(), unit.as_slice()),
-            Command::List { node, unit } => self.list(rt, alloc, node.as_slice(), unit.as_slice()),
+            Command::Cat { node, host, unit } => {
+                self.cat(alloc, node.as_slice(), host, unit.as_slice())
+            }
+            Command::Show { node, host, unit } => {
+                self.show(rt, alloc, node.as_slice(), host, unit.as_slice())
+            }
+            Command::List { node, host, unit } => {
+                self.list(rt, alloc, node.as_slice(), host, unit.as_slice())
+            }
             Command::Plan {
                 node,
+                host,
                 unit,
                 running,
-            } => self.plan(rt, alloc, node.as_slice(), unit.as_slice(), running),
+            } => self.plan(rt, alloc, node.as_slice(), host, unit.as_slice(), running),
             Command::Workers { count } => self.workers(alloc, count),
             Command::Same { left, right } => self.same(alloc, left.as_slice(), right.as_slice()),
             Command::Crowd { node, seats, edits } => {

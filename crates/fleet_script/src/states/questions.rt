@@ -4,7 +4,7 @@ ghost use Rattle.fleet_script.specs.Holds.{Executes, HasRoom, kept_in};
 
 use crate::states::{Shell, Told};
 use script_answers::{list_files, tell_crowd, tell_files, tell_list, tell_plan, tell_unit};
-use script_commands::{EditCount, Words};
+use script_commands::{EditCount, Word, Words};
 use std::alloc::Global;
 use std::sync::Wait;
 use std::thread::Threads;
@@ -17,12 +17,18 @@ impl Shell {
         Ok(list_files(alloc, replica.store())?)
     }
 
-    // Tells a unit's files: its fragment, and then its drop-ins.
-    pub(super) fn cat(&self, alloc: Global, node: &[u8], unit: &[u8]) -> Told
-        ensures done { Executes self.now self.now (Cat node.now unit.now) result }
+    // Tells a unit's files, as a host sees them or as they are seen without one: its fragment, and then its drop-ins.
+    pub(super) fn cat(
+        &self,
+        alloc: Global,
+        node: &[u8],
+        host: Option<Word<'_>>,
+        unit: &[u8],
+    ) -> Told
+        ensures done { Executes self.now self.now (Cat node.now host.entry unit.now) result }
     {
         let replica = self.replica(alloc, node)?;
-        tell_files(alloc, replica.store(), unit)
+        tell_files(alloc, replica.store(), host, unit)
     }
 
     // Tells a unit, as all that must be loaded of a node comes to it.
@@ -31,12 +37,13 @@ impl Shell {
         rt: &R,
         alloc: Global,
         node: &[u8],
+        host: Option<Word<'_>>,
         unit: &[u8],
     ) -> Told
-        ensures done { Executes self.now self.now (Show node.now unit.now) result }
+        ensures done { Executes self.now self.now (Show node.now host.entry unit.now) result }
     {
         let replica = self.replica(alloc, node)?;
-        tell_unit(rt, alloc, replica.store(), unit, &self.workers)
+        tell_unit(rt, alloc, replica.store(), host, unit, &self.workers)
     }
 
     // Lists what a unit pulls, as all that must be loaded of a node comes to it.
@@ -45,12 +52,13 @@ impl Shell {
         rt: &R,
         alloc: Global,
         node: &[u8],
+        host: Option<Word<'_>>,
         unit: &[u8],
     ) -> Told
-        ensures done { Executes self.now self.now (List node.now unit.now) result }
+        ensures done { Executes self.now self.now (List node.now host.entry unit.now) result }
     {
         let replica = self.replica(alloc, node)?;
-        tell_list(rt, alloc, replica.store(), unit, &self.workers)
+        tell_list(rt, alloc, replica.store(), host, unit, &self.workers)
     }
 
     // Tells what starts and what stops where a unit is to start while others run.
@@ -59,13 +67,14 @@ impl Shell {
         rt: &R,
         alloc: Global,
         node: &[u8],
+        host: Option<Word<'_>>,
         unit: &[u8],
         running: Words<'_>,
     ) -> Told
-        ensures done { Executes self.now self.now (Plan node.now unit.now running.entry) result }
+        ensures done { Executes self.now self.now (Plan node.now host.entry unit.now running.entry) result }
     {
         let replica = self.replica(alloc, node)?;
-        tell_plan(rt, alloc, replica.store(), unit, running, &self.workers)
+        tell_plan(rt, alloc, replica.store(), host, unit, running, &self.workers)
     }
 
     pub(super) fn same(&self, alloc: Global, left: &[u8], right: &[u8]) -> Told

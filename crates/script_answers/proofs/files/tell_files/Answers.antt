@@ -1,17 +1,13 @@
-use Rattle.std.proofs.Common.{sym, ap, ◌∙◌}
-use Rattle.path_maps.specs.Views.{fleet_of}
-use Rattle.fragment_choice.specs.declared.resolutions.Resolution.{Resolution}
-use Rattle.fragment_choice.specs.Resolutions.{main}
-use Rattle.fragment_choice.specs.ResolutionLaws.{mains_are_their_own}
-use Rattle.fragment_choice.specs.FragmentLaws.{fragments_are_files}
+use Rattle.std.proofs.Common.{subst}
+use Rattle.load_places.specs.Levels.{Looker}
+use Rattle.path_maps.specs.Views.{view_of}
+use Rattle.script_answers.specs.Files.{TellsFilesOf}
+use Rattle.script_answers.proofs.Told.{IsTold, for_host}
 use Rattle.script_answers.proofs.files.tell_files.Goals as goal
 
--- the main name that was found is its own main, and its fragment is a file
-pub files_of_unit-requires-clause-main : goal.files_of_unit-requires-clause-main
-files_of_unit-requires-clause-main c =
-    let s = fleet_of c.args.store.now in
-    let e = ap (λ (r : Resolution). r.main) c.in_ok-main.ensures.resolution in
-    ap (main s) e ∙ (mains_are_their_own s c.in-Ok.name).0 ∙ sym e
-
-pub files_of_unit-requires-clause-file : goal.files_of_unit-requires-clause-file
-files_of_unit-requires-clause-file c = fragments_are_files (fleet_of c.args.store.now) c.in-Ok.name c.in-Fragment.path (sym (ap (λ (r : Resolution). r.choice) c.in_ok-main.ensures.resolution) ∙ c.in-Fragment.is)
+pub returns : goal.returns
+returns c =
+    let store = c.args.store.now in
+    let unit = c.args.unit.now in
+    let told = subst (λ (h : Looker). IsTold c.tell_files_for.result (TellsFilesOf unit (view_of store h))) c.as_ref.ensures.value c.tell_files_for.ensures.told in
+    record { told = for_host c.args.host (λ host s. TellsFilesOf unit (view_of s host)) store c.in_ok-host.host c.in_ok-host.ensures.read c.tell_files_for.result told }

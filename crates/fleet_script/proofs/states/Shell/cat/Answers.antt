@@ -4,4 +4,4 @@ use Rattle.fleet_script.proofs.Goes.{reads}
 use Rattle.fleet_script.proofs.states.Shell.cat.Goals as goal
 
 pub returns : goal.returns
-returns c = record { done = reads (kept_in c.args.self.now) c.tell_files.result c.args.node.now c.in_ok-replica.replica.now c.store.result.now (TellsFiles c.args.unit.now) c.in_ok-replica.ensures.found c.store.ensures.store c.tell_files.ensures.told }
+returns c = record { done = reads (kept_in c.args.self.now) c.tell_files.result c.args.node.now c.in_ok-replica.replica.now c.store.result.now (TellsFiles c.args.host c.args.unit.now) c.in_ok-replica.ensures.found c.store.ensures.store c.tell_files.ensures.told }
