@@ -1,5 +1,5 @@
-//! Paths of the unit load path, in a directory and perhaps a folder (systemd.unit(5), "Unit File Load Path"): read from
-//! their texts or refused by name, and in order.
+//! Paths of the unit load path, in a directory and perhaps a folder (systemd.unit(5), "Unit File Load Path"). They are
+//! read from their texts or refused by name, and stand in order.
 //!
 //! Promise: refusals are named.
 #![tactic(auto)]

@@ -1,5 +1,5 @@
-//! Places: a path of the load path, for the whole fleet or for one host. An edit's content stands at a place. A place's
-//! level is what has precedence: of all that stands for a name, the first level that says something counts.
+//! Places: a path of the load path, for the whole fleet or for one host, at which an edit's content stands. A place's
+//! level has precedence: of all that stands for a name, the first level that says something counts.
 //!
 //! Promise: places are their texts; units are exact.
 #![tactic(auto)]

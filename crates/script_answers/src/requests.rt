@@ -18,8 +18,8 @@ pub(crate) fn read_request(
     unit: &[u8],
     running: Words<'_>,
 ) -> Result<Request, Fault>
-    ensures read { MatchResult result (λ request. request_of host.entry unit.now running.entry ≡ Ok request)
-        (IsNameFault (request_of host.entry unit.now running.entry)) }
+    ensures read { MatchResult result (λ request. request_of host unit.now running.entry ≡ Ok request)
+        (IsNameFault (request_of host unit.now running.entry)) }
 {
     let target = read_name(alloc, unit)?;
     let running = read_names(alloc, running)?;

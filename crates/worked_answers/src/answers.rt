@@ -4,10 +4,13 @@ use crate::edits::{Asked, asked_of};
 use crate::graphs::graph;
 use crate::tellings::{append_load, append_looked_up, append_unit};
 use parallel_load::{LoadFault, Loaded, load_fleet, load_here, load_one};
+use replica_store::HostName;
 use std::thread::Threads;
 use std::time::Clock;
 use unit_name::UnitName;
-use worked_lines::{Answer, CountingGate, LineFault, Meeting, Words, match_word};
+use worked_lines::{
+    Answer, CountingGate, LineFault, Meeting, Words, asked_of as call_of, match_word,
+};
 use worker_rounds::{Gate, OpenGate};
 
 // Writes a load with what it has at names, or why there is none.
@@ -52,10 +55,11 @@ fn load_by_each<R: Threads + Sync, G: Gate + Sync>(
     workers: &[usize],
     gate: &G,
 ) -> Result<(), LineFault> {
-    let here = load_here(out.alloc, &asked.store, &asked.names);
+    let host = asked.host.as_ref();
+    let here = load_here(out.alloc, &asked.store, host, &asked.names);
     append_here(out, &here, looked)?;
     for count in workers {
-        let fleet = load_fleet(rt, out.alloc, &asked.store, &asked.names, *count, gate);
+        let fleet = load_fleet(rt, out.alloc, &asked.store, host, &asked.names, *count, gate);
         out.line(format!(in out.alloc; "{count} workers: ")?.as_bytes())?;
         append_compared(out, &here, &fleet)?;
     }
@@ -63,18 +67,28 @@ fn load_by_each<R: Threads + Sync, G: Gate + Sync>(
 }
 
 // Loads by one thread and by each number of workers.
-fn load<R: Threads + Sync>(rt: &R, words: &mut Words, out: &mut Answer) -> Result<(), LineFault> {
+fn load<R: Threads + Sync>(
+    rt: &R,
+    words: &mut Words,
+    host: Option<HostName>,
+    out: &mut Answer,
+) -> Result<(), LineFault> {
     let workers = words.numbers()?;
-    let asked = asked_of(words)?;
+    let asked = asked_of(words, host)?;
     let looked = words.names()?;
     load_by_each(rt, out, &asked, &looked, &workers, &OpenGate)
 }
 
 // Loads as `load` does, at a gate that turns each piece away so often; and how often it was asked for each.
-fn gate<R: Threads + Sync>(rt: &R, words: &mut Words, out: &mut Answer) -> Result<(), LineFault> {
+fn gate<R: Threads + Sync>(
+    rt: &R,
+    words: &mut Words,
+    host: Option<HostName>,
+    out: &mut Answer,
+) -> Result<(), LineFault> {
     let gate = CountingGate::new(words.alloc, words.index()?)?;
     let workers = words.numbers()?;
-    let asked = asked_of(words)?;
+    let asked = asked_of(words, host)?;
     load_by_each(rt, out, &asked, &[], &workers, &gate)?;
     out.line(b"the gate was asked for")?;
     gate.append_to(out)
@@ -84,11 +98,13 @@ fn gate<R: Threads + Sync>(rt: &R, words: &mut Words, out: &mut Answer) -> Resul
 fn meet<R: Threads + Clock + Sync>(
     rt: &R,
     words: &mut Words,
+    host: Option<HostName>,
     out: &mut Answer,
 ) -> Result<(), LineFault> {
-    let asked = asked_of(words)?;
+    let asked = asked_of(words, host)?;
+    let host = asked.host.as_ref();
     let gate = Meeting::new(rt);
-    let fleet = load_fleet(rt, words.alloc, &asked.store, &asked.names, 2, &gate);
+    let fleet = load_fleet(rt, words.alloc, &asked.store, host, &asked.names, 2, &gate);
     append_here(out, &fleet, &[])?;
     out.line(if gate.were_together() {
         b"both pieces worked at the same time"
@@ -98,10 +114,14 @@ fn meet<R: Threads + Clock + Sync>(
 }
 
 // Loads the units of names, each alone.
-fn one(words: &mut Words, out: &mut Answer) -> Result<(), LineFault> {
-    let asked = asked_of(words)?;
+fn one(
+    words: &mut Words,
+    host: Option<HostName>,
+    out: &mut Answer,
+) -> Result<(), LineFault> {
+    let asked = asked_of(words, host)?;
     for name in &asked.names {
-        let unit = load_one(words.alloc, &asked.store, name)?;
+        let unit = load_one(words.alloc, &asked.store, asked.host.as_ref(), name)?;
         out.line(name.bytes())?;
         out.write(b": ")?;
         append_unit(out, &unit)?;
@@ -115,13 +135,14 @@ pub fn answer<R: Threads + Clock + Sync>(
     words: &mut Words,
     out: &mut Answer,
 ) -> Result<(), LineFault> {
-    match_word!(words.word()?;
-        b"graph" => graph(words, out),
-        b"load" => load(rt, words, out),
-        b"gate" => gate(rt, words, out),
-        b"meet" => meet(rt, words, out),
-        b"one" => one(words, out),
-        b"ask" => ask(rt, words, out),
-        b"world" => world(rt, words, out),
+    let (call, host) = call_of(words.alloc, words.word()?)?;
+    match_word!(call;
+        b"graph" => graph(words, host, out),
+        b"load" => load(rt, words, host, out),
+        b"gate" => gate(rt, words, host, out),
+        b"meet" => meet(rt, words, host, out),
+        b"one" => one(words, host, out),
+        b"ask" => ask(rt, words, host, out),
+        b"world" => world(rt, words, host, out),
     )
 }

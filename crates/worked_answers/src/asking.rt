@@ -8,7 +8,7 @@ use fleet_answers::{
     answer_question,
 };
 use plain_values::Items;
-use replica_store::Edit;
+use replica_store::{Edit, HostName};
 use setting_rules::DependencyList;
 use start_plan::{Plan, Request};
 use std::alloc::Global;
@@ -17,22 +17,25 @@ use worked_lines::{Answer, LineFault, Words, is};
 use worker_rounds::OpenGate;
 
 // The question that a list of words writes: `unit NAME`, `pulled NAME`, or `plan TARGET RUNNING..`.
-fn question_of(words: &mut Words) -> Result<Question, LineFault> {
+fn question_of(words: &mut Words, host: Option<HostName>) -> Result<Question, LineFault> {
     let kind = words.word()?;
     let mut names = words.names()?;
     if names.is_empty() {
         return Err(LineFault::Words);
     }
-    let target = names.remove(0);
+    let name = names.remove(0);
     if is(kind, b"plan") {
-        let running = Items::from_vec(names);
-        Ok(Question::Plan(Request { target, running }))
+        Ok(Question::Plan(Request {
+            host,
+            target: name,
+            running: Items::from_vec(names),
+        }))
     } else if !names.is_empty() {
         Err(LineFault::Words)
     } else if is(kind, b"unit") {
-        Ok(Question::Unit(target))
+        Ok(Question::Unit { host, name })
     } else if is(kind, b"pulled") {
-        Ok(Question::Pulled(target))
+        Ok(Question::Pulled { host, name })
     } else {
         Err(LineFault::Words)
     }
@@ -108,8 +111,8 @@ struct Asking {
 }
 
 // A question and numbers of workers, with which a line ends.
-fn asking_of(words: &mut Words) -> Result<Asking, LineFault> {
-    let question = question_of(words)?;
+fn asking_of(words: &mut Words, host: Option<HostName>) -> Result<Asking, LineFault> {
+    let question = question_of(words, host)?;
     let counts = words.numbers()?;
     Ok(Asking { question, counts })
 }
@@ -154,10 +157,11 @@ fn append_all<R: Threads + Sync>(
 pub fn ask<R: Threads + Sync>(
     rt: &R,
     words: &mut Words,
+    host: Option<HostName>,
     out: &mut Answer,
 ) -> Result<(), LineFault> {
-    let asked = asked_of(words)?;
-    let asking = asking_of(words)?;
+    let asked = asked_of(words, None)?;
+    let asking = asking_of(words, host)?;
     append_all(rt, out, &asked, &asking)
 }
 
@@ -257,9 +261,10 @@ fn append_moments<R: Threads + Sync>(
 pub fn world<R: Threads + Sync>(
     rt: &R,
     words: &mut Words,
+    host: Option<HostName>,
     out: &mut Answer,
 ) -> Result<(), LineFault> {
     let edits = words.edits()?;
-    let asking = asking_of(words)?;
+    let asking = asking_of(words, host)?;
     append_moments(rt, out, &edits, &asking)
 }

@@ -5,6 +5,7 @@ use crate::edits::asked_of;
 use crate::tellings::append_status;
 use inverse_deps::edges;
 use parallel_load::{LoadFault, Loaded, load_here};
+use replica_store::HostName;
 use setting_rules::DepKind;
 use std::alloc::Global;
 use unit_graph::Graph;
@@ -97,6 +98,10 @@ fn append_graph(
 ) -> Result<(), LineFault> {
     let edges = edges(out.alloc, load)?;
     let graph = Graph::build(load, &edges);
+    if let Some(host) = graph.host() {
+        out.line(b"for ")?;
+        out.write(host.bytes())?;
+    }
     out.line(b"members")?;
     out.names(&graph.members()?)?;
     for name in names {
@@ -106,11 +111,15 @@ fn append_graph(
 }
 
 /// Makes the graph of a load, and looks at it from each of several names.
-pub fn graph(words: &mut Words, out: &mut Answer) -> Result<(), LineFault> {
-    let asked = asked_of(words)?;
+pub fn graph(
+    words: &mut Words,
+    host: Option<HostName>,
+    out: &mut Answer,
+) -> Result<(), LineFault> {
+    let asked = asked_of(words, host)?;
     let kinds = each_of(words.alloc, &words.list()?, kind_of)?;
     let names = words.names()?;
-    match load_here(words.alloc, &asked.store, &asked.names) {
+    match load_here(words.alloc, &asked.store, asked.host.as_ref(), &asked.names) {
         Ok(load) => append_graph(out, &load, &kinds, &names),
         Err(LoadFault::Memory) => Err(LineFault::Memory),
         Err(fault) => out.print(&fault),

@@ -1,6 +1,6 @@
 //! How loads and units are written.
-use load_path::Path;
 use parallel_load::{Loaded, NameLoad, Status, Unit};
+use replica_store::Place;
 use unit_name::UnitName;
 use worked_lines::{Answer, LineFault};
 
@@ -30,8 +30,12 @@ fn append_units(out: &mut Answer, units: &[&Unit]) -> Result<(), LineFault> {
     Ok(())
 }
 
-/// Writes what was asked for, all names with what they stand for, and the units.
+/// Writes for which host the load is, if for one, what was asked for, all names with what they stand for, and the units.
 pub fn append_load(out: &mut Answer, load: &Loaded) -> Result<(), LineFault> {
+    if let Some(host) = load.host() {
+        out.line(b"for ")?;
+        out.write(host.bytes())?;
+    }
     out.line(b"asked")?;
     out.names(load.extra())?;
     out.line(b"names")?;
@@ -40,11 +44,11 @@ pub fn append_load(out: &mut Answer, load: &Loaded) -> Result<(), LineFault> {
     append_units(out, &load.units()?)
 }
 
-// Writes paths, each behind a space.
-fn append_paths(out: &mut Answer, paths: &[Path]) -> Result<(), LineFault> {
-    for path in paths {
+// Writes places, each behind a space.
+fn append_places(out: &mut Answer, places: &[Place]) -> Result<(), LineFault> {
+    for place in places {
         out.write(b" ")?;
-        path.append_to(&mut out.bytes)?;
+        place.append_to(&mut out.bytes)?;
     }
     Ok(())
 }
@@ -52,9 +56,9 @@ fn append_paths(out: &mut Answer, paths: &[Path]) -> Result<(), LineFault> {
 /// Writes what stands for a unit.
 pub fn append_status(out: &mut Answer, status: &Status) -> Result<(), LineFault> {
     match status {
-        Status::Loaded(path) => {
+        Status::Loaded(place) => {
             out.write(b"loaded from ")?;
-            Ok(path.append_to(&mut out.bytes)?)
+            Ok(place.append_to(&mut out.bytes)?)
         }
         Status::NotFound => out.write(b"not found"),
         Status::Masked => out.write(b"masked"),
@@ -73,7 +77,7 @@ pub fn append_unit(out: &mut Answer, unit: &Unit) -> Result<(), LineFault> {
     if !unit.dropins.as_slice().is_empty() {
         out.write(b", drop-ins")?;
     }
-    append_paths(out, unit.dropins.as_slice())
+    append_places(out, unit.dropins.as_slice())
 }
 
 /// Writes the main name of a name of a load, and the unit whose main name it is.
