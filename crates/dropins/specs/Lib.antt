@@ -1,7 +1,9 @@
 pub mod CutLaws
+pub mod FleetDropIns
 pub mod FolderJoinLaws
 pub mod FolderLaws
 pub mod FolderLists
+pub mod HostLaws
 pub mod LentLaws
 pub mod Listings
 pub mod OrderLaws

@@ -47,8 +47,7 @@ drop_in_paths_are_files s fs p d = file_there p (is_conf p.name) (seen_at s p) d
 
 pub drop_ins_are_files : DropInsAreFiles
 drop_ins_are_files s ns place (p, is, d) =
-    let file = drop_in_paths_are_files s (folders ns) p d in
-    (
+    let file = drop_in_paths_are_files s (folders ns) p d in (
       ap (λ (q : PlaceParts). is_conf (file_name q)) (sym is) ∙ file.0,
       (file.1.0, file.1.1, ap (content_at s) (sym is) ∙ content_seen s p (File (file.1.0 ∷ file.1.1)) file.1.2),
     )

@@ -3,6 +3,7 @@ ghost use Rattle.dropins.specs.PrecedenceLaws.{LevelsGoFirst, SomethingIsTaken, 
 ghost use Rattle.dropins.specs.CutLaws.{CutsAreDashedFronts, LongerCutsComeFirst};
 ghost use Rattle.dropins.specs.FolderLaws.{OneFolder, FoldersAreNames, FoldersStandOnce};
 ghost use Rattle.dropins.specs.FolderJoinLaws.{FoldersOfEach, FoldersJoin};
+ghost use Rattle.dropins.specs.HostLaws.{DropInsAreTheFleets, HostsWithoutPlacesHaveTheseDropIns, HostsWithoutPlacesHaveTheseLinks, LinksAreTheFleets};
 ghost use Rattle.dropins.specs.LentLaws.{LentAreDropIns};
 ghost use Rattle.dropins.specs.OrderLaws.{OneOrder, DropInsAreFiles};
 ghost use Rattle.dropins.specs.OverLaws.{NamesOrElseTypes, SomethingIsTakenOver, OverOnce, FoldersDecideOver, RemovalsGiveBackOver};
@@ -72,4 +73,13 @@ pub fn folder_laws()
     ensures once { FoldersStandOnce }
     ensures cuts { CutsAreDashedFronts }
     ensures longer { LongerCutsComeFirst }
+{}
+
+/// A host at whose places nothing is visible has the drop-ins and links that there are without a host. These are of the
+/// fleet's alone, taken by the ranks of its directories.
+pub fn host_laws()
+    ensures drop_ins { HostsWithoutPlacesHaveTheseDropIns }
+    ensures links { HostsWithoutPlacesHaveTheseLinks }
+    ensures fleets { DropInsAreTheFleets }
+    ensures fleets_links { LinksAreTheFleets }
 {}

@@ -17,6 +17,8 @@ mod orders;
 mod precedence;
 
 pub use folder_lists::{UnitFolders, folders};
-pub use laws::{folder_laws, order_laws, over_laws, precedence_laws, type_folder_laws, type_laws};
+pub use laws::{
+    folder_laws, host_laws, order_laws, over_laws, precedence_laws, type_folder_laws, type_laws,
+};
 pub use link_names::{Folder, links};
 pub use orders::{order, places_of};

@@ -1,7 +1,6 @@
 -- What leads a name to another: what its own links say, or what those of its template say of that.
 use Rattle.std.proofs.Common.{◌≡◌, ℕ, Bool, true, false, cond, Option, Some, None, List, [], ◌∷◌, refl, ap, sym, ◌∙◌, unwrap_or, ◌⊎◌, inl, inr}
 use Rattle.std.specs.Option.{option_and_then, option_or}
-use Rattle.load_path.specs.Paths.{PathParts}
 use Rattle.edit_sums.specs.declared.contents.Content.{Content}
 use Rattle.edit_sums.specs.declared.contents.Content.TheVariants.{Gone, Link, File}
 use Rattle.path_maps.specs.Views.{View, seen_at}

@@ -11,3 +11,5 @@ pub mod LinkCaseLaws
 pub mod LikenessLaws
 pub mod UnitNameLaws
 pub mod FragmentLaws
+pub mod FleetChoices
+pub mod HostLaws

@@ -7,6 +7,7 @@ ghost use Rattle.fragment_choice.specs.LinkCaseLaws.{KindsMakeBad, ShapesMakeBad
 ghost use Rattle.fragment_choice.specs.LikenessLaws.{AliasesAreAlike, ChainsAreAlike, MainsAreAlike};
 ghost use Rattle.fragment_choice.specs.ResolutionLaws.{ChoicesDecide, FollowingFindsTheEnd, MainsAreTheirOwn, NoAliasStands};
 ghost use Rattle.fragment_choice.specs.FragmentLaws.{FragmentsAreFiles, FragmentsHaveNoFolder};
+ghost use Rattle.fragment_choice.specs.HostLaws.{ChoicesAreTheFleets, HostsWithoutPlacesChooseAlike, HostsWithoutPlacesResolveAlike};
 ghost use Rattle.fragment_choice.specs.UnitNameLaws.{MainsDecide, NamesHaveTheMain, NamesDontMeet, OneListOfNames};
 
 /// The least level that says anything chooses, whatever greater levels hold; a mask hides these, and
@@ -70,4 +71,13 @@ pub fn unit_laws()
     ensures apart { NamesDontMeet }
     ensures one { OneListOfNames }
     ensures same { MainsDecide }
+{}
+
+/// A host at whose places nothing is visible has the choices that are made without a host, and for each name the same
+/// stands. These choices are the fleet's alone, by the ranks of its directories. An edit at a place of another host
+/// changes nothing, since a host looks at its own places and at the fleet's.
+pub fn host_laws()
+    ensures choices { HostsWithoutPlacesChooseAlike }
+    ensures resolutions { HostsWithoutPlacesResolveAlike }
+    ensures fleets { ChoicesAreTheFleets }
 {}

@@ -15,9 +15,9 @@ use Rattle.load_places.specs.declared.places.Scope.{Scope}
 use Rattle.load_places.specs.declared.places.Scope.TheVariants.{Fleet, Host}
 use Rattle.edit_sums.specs.declared.contents.Content.{Content}
 use Rattle.edit_sums.specs.Entries.{Entry}
-use Rattle.edit_sums.specs.Sums.{EntryMap, shown}
+use Rattle.edit_sums.specs.Sums.{EntryMap, shown, visible_at}
 use Rattle.path_maps.specs.Folders.{path_at}
-use Rattle.path_maps.specs.Scopes.{PathMap, scope_of, within}
+use Rattle.path_maps.specs.Scopes.{PathMap, scope_of, shown_at, within}
 use Rattle.path_maps.specs.ScopeLaws.{get-scope_of}
 use Rattle.path_maps.specs.Sights.{path_behind}
 use Rattle.path_maps.specs.ViewLaws.{get-seen}
@@ -38,6 +38,10 @@ OthersArentLookedAt = (s t : EntryMap) (host : Looker) (place : PlaceParts) → 
 -- a host without places of its own sees what is seen without one
 abbrev pub HostsWithoutPlacesSeeTheFleets : Type 0
 HostsWithoutPlacesSeeTheFleets = (s : EntryMap) (host : List ℕ) → ((path : PathParts) → finmap.get s (within (Host host) path) ≡ None) → seen (view_of s (Some host)) ≡ seen (view_of s None)
+
+-- nothing is visible at a place of this scope
+abbrev pub ShowsNothing : EntryMap → Scope → Type 0
+ShowsNothing s scope = (path : PathParts) → visible_at s (within scope path) ≡ None
 
 -- ---- numbers
 
@@ -170,3 +174,36 @@ hosts_without_places_see_the_fleets s host none =
     by : (p : PathParts) (b : Bool) → option_and_then (λ (held : PathMap). finmap.get held (path_behind p)) (cond b (Some (scope_of s (Host host))) (Some (scope_of s Fleet))) ≡ option_and_then (λ (held : PathMap). finmap.get held (path_behind p)) (cond b None (Some (scope_of s Fleet)))
     by p true = get-scope_of (Host host) s (path_behind p) ∙ none (path_behind p)
     by p false = refl
+
+-- ---- what is visible without a host
+
+-- at a level of the fleet's it is what is visible at the path behind it, and at a host's it is nothing
+pub fleets_sights : (s : EntryMap) (p : PathParts) → seen_at (view_of s None) p ≡ cond (p.rank % 2 == 0) None (shown_at (scope_of s Fleet) (path_behind p))
+fleets_sights s p = ap (option_and_then shown) (get-seen p (view_of s None)) ∙ by (p.rank % 2 == 0)
+  where
+    by : (b : Bool) → option_and_then shown (option_and_then (λ (held : PathMap). finmap.get held (path_behind p)) (cond b None (Some (scope_of s Fleet)))) ≡ cond b None (shown_at (scope_of s Fleet) (path_behind p))
+    by true = refl
+    by false = refl
+
+-- what is visible of the fleet at a path is visible at its level
+pub fleets_shown : (s : EntryMap) (p : PathParts) → seen_at (view_of s None) (path_at (p.rank + p.rank + 1) p.folder p.name) ≡ shown_at (scope_of s Fleet) p
+fleets_shown s p = ap (option_and_then shown) (fleets_seen (view_of s None) p.rank p.folder p.name)
+
+-- a host at whose places nothing is visible sees what is visible without one
+pub same_sights : (s : EntryMap) (host : List ℕ) → ShowsNothing s (Host host) → (p : PathParts) → seen_at (view_of s (Some host)) p ≡ seen_at (view_of s None) p
+same_sights s host none p = ap (option_and_then shown) (get-seen p (view_of s (Some host))) ∙ by (p.rank % 2 == 0) ∙ sym (fleets_sights s p)
+  where
+    by : (b : Bool) → option_and_then shown (option_and_then (λ (held : PathMap). finmap.get held (path_behind p)) (cond b (Some (scope_of s (Host host))) (Some (scope_of s Fleet)))) ≡ cond b None (shown_at (scope_of s Fleet) (path_behind p))
+    by true = ap (option_and_then shown) (get-scope_of (Host host) s (path_behind p)) ∙ none (path_behind p)
+    by false = refl
+
+-- what is visible without a host is the fleet's, and so is its place in each view
+pub fleets_level : (s : EntryMap) (p : PathParts) (c : Content) → seen_at (view_of s None) p ≡ Some c → (p.rank % 2 == 0) ≡ false
+fleets_level s p c is = by (p.rank % 2 == 0) (sym (fleets_sights s p) ∙ is)
+  where
+    by : (b : Bool) → cond b None (shown_at (scope_of s Fleet) (path_behind p)) ≡ Some c → b ≡ false
+    by true e = cc (e)
+    by false e = refl
+
+pub fleets_place : (v : View) (p : PathParts) → (p.rank % 2 == 0) ≡ false → seen_place v p ≡ within Fleet (path_behind p)
+fleets_place v p odd = (λ i. record { scope = cond (odd i) (own_scope v.own) Fleet; path = path_behind p })

@@ -174,7 +174,7 @@ module _ (level : ℕ) (folder : List ℕ) where
     one_more e es of true t rest =
         let half : (p.rank / 2 == e.0.rank) ≡ true = eq-eqb (p.rank / 2) e.0.rank (ap (λ r. r / 2) (eqb-true p.rank level t) ∙ sym of) in
         let met : eq_by_cmp path_cmp p (path_at level e.0.folder e.0.name) ≡ eq_by_cmp path_cmp (path_behind p) e.0 =
-            path_test p (path_at level e.0.folder e.0.name) ∙ ap (λ b. b && is_eq (rest_cmp p e.0)) (t ∙ sym half) ∙ sym (path_test (path_behind p) e.0) in
+        path_test p (path_at level e.0.folder e.0.name) ∙ ap (λ b. b && is_eq (rest_cmp p e.0)) (t ∙ sym half) ∙ sym (path_test (path_behind p) e.0) in
         let found : find path_cmp p (map (at_level level) es) ≡ find path_cmp (path_behind p) es = rest ∙ ap (λ b. cond b (find path_cmp (path_behind p) es) None) t in
         (λ i. cond (met i) (Some e.1) (found i)) ∙ ap (λ b. cond b (find path_cmp (path_behind p) (e ∷ es)) None) (sym t)
     one_more e es of false t rest =

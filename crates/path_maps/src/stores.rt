@@ -14,11 +14,11 @@ ghost use Rattle.path_maps.specs.Views.{own_of, view_of};
 
 use crate::changes::count_changes;
 use crate::counts::{Counts, count_entries};
+use crate::held::Held;
+use crate::look_ups::host_at;
 use crate::places::Entries;
 use crate::places_beside::Beside;
 use crate::seen::{Own, Seen};
-use crate::held::Held;
-use crate::look_ups::host_at;
 use edit_sums::{Content, Edit, Entry, FlatEdit};
 use join_law::{
     AddAt, AddValue, Addition, Change, ChangeAt, Join, JoinMap, Overwrite, Rest, Version, Versioned,

@@ -16,5 +16,5 @@ of-held-requires c = record {
 pub returns : goal.returns
 returns c =
     let held = c.of-held.ensures.seen ∙ ap (λ (o : Option RankMap). flat (or_empty o)) c.host_at.ensures.ranks
-        ∙ scope_seen c.self.inside.scopes c.self.invariant.scopes c.args.self.now c.self.view_is (Host c.args.host.now) in
+    ∙ scope_seen c.self.inside.scopes c.self.invariant.scopes c.args.self.now c.self.view_is (Host c.args.host.now) in
     record { own = ap (λ (m : PathMap). let own : Own = record { host = c.args.host.now; held = m } in own) held }
