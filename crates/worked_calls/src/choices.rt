@@ -1,26 +1,33 @@
-//! Calls on what stands for a unit: the store in words, `+`, and the unit's name, or the names of several.
+//! Calls on what stands for a unit, for a host or without one: the store in words, `+`, and the unit's name, or the names
+//! of several.
 use crate::edits::append_names;
 use fragment_choice::{AliasIndex, Choice, Resolution, choose, names_of, resolve};
-use replica_store::Store;
+use replica_store::{HostName, Store};
 use unit_name::UnitName;
-use worked_lines::{Answer, LineFault, Words, match_word};
+use worked_lines::{Answer, LineFault, Words, asked_of, match_word};
 
 /// Writes what a call on the choice of a unit answers.
 pub fn answer(words: &mut Words, out: &mut Answer) -> Result<(), LineFault> {
-    let call = words.word()?;
+    let (call, host) = asked_of(words.alloc, words.word()?)?;
     let store = words.store()?;
     match_word!(call;
-        b"index" => append_indexed(out, &store, &words.spelled_names()?),
-        _ => told(call, &store, &words.name()?, out),
+        b"index" => append_indexed(out, &store, host.as_ref(), &words.spelled_names()?),
+        _ => told(call, &store, host.as_ref(), &words.name()?, out),
     )
 }
 
 // What a call answers of one name in a store.
-fn told(call: &[u8], store: &Store, name: &UnitName, out: &mut Answer) -> Result<(), LineFault> {
+fn told(
+    call: &[u8],
+    store: &Store,
+    host: Option<&HostName>,
+    name: &UnitName,
+    out: &mut Answer,
+) -> Result<(), LineFault> {
     match_word!(call;
-        b"choose" => append_choice(out, &choose(out.alloc, store, name)?),
-        b"resolve" => append_resolution(out, &resolve(out.alloc, store, name)?),
-        b"names" => append_names_of(out, store, name),
+        b"choose" => append_choice(out, &choose(out.alloc, store, host, name)?),
+        b"resolve" => append_resolution(out, &resolve(out.alloc, store, host, name)?),
+        b"names" => append_names_of(out, store, host, name),
     )
 }
 
@@ -29,7 +36,7 @@ fn append_choice(out: &mut Answer, choice: &Choice) -> Result<(), LineFault> {
     match choice {
         Choice::NotFound => out.write(b"not found"),
         Choice::Masked => out.write(b"masked"),
-        Choice::Fragment(path) => out.write_path(path),
+        Choice::Fragment(place) => out.write_place(place),
         Choice::Alias(alias) => out.write(alias.bytes()),
         Choice::Bad(cause) => out.print(cause),
     }
@@ -43,17 +50,27 @@ fn append_resolution(out: &mut Answer, end: &Resolution) -> Result<(), LineFault
 }
 
 // Writes the names of the unit, if this is its main name.
-fn append_names_of(out: &mut Answer, store: &Store, name: &UnitName) -> Result<(), LineFault> {
-    if resolve(out.alloc, store, name)?.main.bytes() == name.bytes() {
-        append_names(out, &names_of(out.alloc, store, name)?)
+fn append_names_of(
+    out: &mut Answer,
+    store: &Store,
+    host: Option<&HostName>,
+    name: &UnitName,
+) -> Result<(), LineFault> {
+    if resolve(out.alloc, store, host, name)?.main.bytes() == name.bytes() {
+        append_names(out, &names_of(out.alloc, store, host, name)?)
     } else {
         out.write(b"no main name")
     }
 }
 
 // Writes the names of those units of a list that stand there by their main name, by one index.
-fn append_indexed(out: &mut Answer, store: &Store, units: &[UnitName]) -> Result<(), LineFault> {
-    let index = AliasIndex::of(out.alloc, store)?;
+fn append_indexed(
+    out: &mut Answer,
+    store: &Store,
+    host: Option<&HostName>,
+    units: &[UnitName],
+) -> Result<(), LineFault> {
+    let index = AliasIndex::of(out.alloc, store, host)?;
     for unit in units {
         if index.resolve(out.alloc, unit)?.main.bytes() == unit.bytes() {
             out.part(b" +")?;

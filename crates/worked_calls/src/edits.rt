@@ -1,7 +1,7 @@
 //! How edits and stores are written: an edit as `COUNTER.WRITER:PLACE` for a removal, with `=TEXT` behind it for a file and
 //! with `>TARGET` for a link.
 use replica_store::{
-    Content, Edit, Entries, Path, Place, Placed, SeenEntries, SeenEntry, Store, Version,
+    Content, Edit, Entries, Place, Placed, Seen, SeenEntries, SeenEntry, Store, Version,
 };
 use unit_name::UnitName;
 use worked_lines::{Answer, LineFault};
@@ -60,25 +60,26 @@ pub fn append_entries(out: &mut Answer, mut entries: Entries<'_>) -> Result<(), 
     Ok(())
 }
 
-/// Writes an entry of a scope with its path, behind a space if something stands there.
-pub fn append_seen(out: &mut Answer, seen: &SeenEntry) -> Result<(), LineFault> {
-    let entry = seen.entry();
+/// Writes an entry that is seen with its place, behind a space if something stands there.
+pub fn append_seen(out: &mut Answer, seen: &Seen, placed: &SeenEntry) -> Result<(), LineFault> {
+    let entry = placed.entry();
     out.part(b" ")?;
-    append_version(out, entry.version)?;
-    out.write(b":")?;
-    out.write_path(&seen.path()?)?;
-    append_content(out, &entry.content)
+    append_at(out, entry.version, &seen.place(placed)?, &entry.content)
 }
 
-/// Writes entries of a scope, each behind a space if something stands there; `nothing` where there are none.
-pub fn append_all_seen(out: &mut Answer, mut entries: SeenEntries<'_>) -> Result<(), LineFault> {
+/// Writes entries that are seen, each behind a space if something stands there; `nothing` where there are none.
+pub fn append_all_seen(
+    out: &mut Answer,
+    seen: &Seen,
+    mut entries: SeenEntries<'_>,
+) -> Result<(), LineFault> {
     let Some(first) = entries.next_entry() else {
         out.part(b" ")?;
         return out.write(b"nothing");
     };
-    append_seen(out, &first)?;
-    while let Some(seen) = entries.next_entry() {
-        append_seen(out, &seen)?;
+    append_seen(out, seen, &first)?;
+    while let Some(placed) = entries.next_entry() {
+        append_seen(out, seen, &placed)?;
     }
     Ok(())
 }
@@ -86,15 +87,6 @@ pub fn append_all_seen(out: &mut Answer, mut entries: SeenEntries<'_>) -> Result
 /// Writes all that a store holds, in place order.
 pub fn append_store(out: &mut Answer, store: &Store) -> Result<(), LineFault> {
     append_entries(out, store.entries())
-}
-
-/// Writes paths, parted by spaces.
-pub fn append_paths(out: &mut Answer, paths: &[Path]) -> Result<(), LineFault> {
-    for path in paths {
-        out.part(b" ")?;
-        out.write_path(path)?;
-    }
-    out.or(b"none")
 }
 
 /// Writes places, parted by spaces.

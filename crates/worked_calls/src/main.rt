@@ -3,9 +3,10 @@
 //!
 //! Promise: memory is refused only where it is.
 //!
-//! A line is a subject, a call and its words, parted by spaces. Lines that are empty or begin with `#` are repeated
-//! as they are. A call that is refused memory is made again or answered by `memory`. `stdin` has the calls, and
-//! `stdout` what each must answer; the gate compares the two.
+//! A line is a subject, a call and its words, parted by spaces. A call on what is seen of a store has `@HOST` behind its
+//! word where a host makes it. Lines that are empty or begin with `#` are repeated as they are. A call that is refused
+//! memory is made again or answered by `memory`. `stdin` has the calls, and `stdout` what each must answer; the gate
+//! compares the two.
 #![tactic(auto)]
 
 mod again;

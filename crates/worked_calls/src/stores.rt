@@ -1,9 +1,11 @@
-//! Calls on stores.
+//! Calls on stores. Those on what is seen may be made for a host.
+//!
+//! A level is written as the rank of the fleet's directory, or as `own:` and the rank of the host's own.
 use crate::edits::{
     append_all_seen, append_content, append_places, append_seen, append_store, append_version,
 };
-use replica_store::{Content, Entry, SeenEntry, Store};
-use worked_lines::{Answer, LineFault, Words, byte_of, edit_of, match_word};
+use replica_store::{Content, Entry, HostName, Seen, SeenEntry, Store};
+use worked_lines::{Answer, LineFault, Words, asked_of, byte_of, cut_at, edit_of, match_word};
 
 /// Writes what a call on stores answers.
 pub fn answer(words: &mut Words, out: &mut Answer) -> Result<(), LineFault> {
@@ -13,11 +15,12 @@ pub fn answer(words: &mut Words, out: &mut Answer) -> Result<(), LineFault> {
         b"flat" => append_store(out, &Store::from_flat(words.alloc, &words.flat_edits()?)?),
         b"merge" => merged(words, out),
         b"absorb" => absorbed(words, out),
-        b"get" | b"visible" | b"seen" => at_place(call, words, out),
-        b"entries_in" => in_folder(words, out),
+        b"get" | b"visible" => at_place(call, words, out),
         b"folder" => of_folder(words, out),
-        b"entry_at" => at_parts(words, out),
-        _ => told(call, &words.store()?, words, out),
+        b"of" | b"copy" | b"same" | b"high" | b"len" | b"list" => {
+            told(call, &words.store()?, words, out)
+        },
+        _ => of_seen(call, words, out),
     )
 }
 
@@ -88,23 +91,52 @@ fn append_entry(out: &mut Answer, entry: Option<&Entry>) -> Result<(), LineFault
     append_content(out, &entry.content)
 }
 
-// What a store holds at a place, what is visible there, or what the fleet sees at its path.
+// What a store holds at a place, or what is visible there.
 fn at_place(call: &[u8], words: &mut Words, out: &mut Answer) -> Result<(), LineFault> {
     let place = words.place()?;
     let store = words.store()?;
     match_word!(call;
         b"visible" => append_visible(out, store.visible(&place)),
-        b"seen" => append_visible(out, store.fleet().visible(&place.path)),
         _ => append_entry(out, store.get(&place)),
     )
 }
 
-// The entries that the fleet sees in a folder.
-fn in_folder(words: &mut Words, out: &mut Answer) -> Result<(), LineFault> {
-    let rank = byte_of(words.word()?)?;
+// What a call answers of what a host sees of a store, or of what is seen without one.
+fn of_seen(word: &[u8], words: &mut Words, out: &mut Answer) -> Result<(), LineFault> {
+    let (call, host) = asked_of(words.alloc, word)?;
+    match_word!(call;
+        b"seen" => seen_at(host.as_ref(), words, out),
+        b"entries_in" => in_folder(host.as_ref(), words, out),
+        b"entry_at" => at_parts(host.as_ref(), words, out),
+    )
+}
+
+// What is seen at a place.
+fn seen_at(host: Option<&HostName>, words: &mut Words, out: &mut Answer) -> Result<(), LineFault> {
+    let place = words.place()?;
+    let store = words.store()?;
+    append_visible(out, store.seen_by(host).visible(&place))
+}
+
+// The level that a word writes.
+fn level_of(word: &[u8]) -> Result<u8, LineFault> {
+    match cut_at(word, b':') {
+        Some((_own, rank)) => Ok(byte_of(rank)?.saturating_mul(2)),
+        None => Ok(byte_of(word)?.saturating_mul(2).saturating_add(1)),
+    }
+}
+
+// The entries that are seen in a folder of a level.
+fn in_folder(
+    host: Option<&HostName>,
+    words: &mut Words,
+    out: &mut Answer,
+) -> Result<(), LineFault> {
+    let level = level_of(words.word()?)?;
     let folder = words.text()?;
     let store = words.store()?;
-    append_all_seen(out, store.fleet().entries_in(rank, &folder))
+    let seen = store.seen_by(host);
+    append_all_seen(out, &seen, seen.entries_in(level, &folder))
 }
 
 // The places of a folder of a scope.
@@ -115,20 +147,21 @@ fn of_folder(words: &mut Words, out: &mut Answer) -> Result<(), LineFault> {
     append_places(out, &words.store()?.folder(&scope, rank, &folder)?)
 }
 
-// What is held at the path of these parts.
-fn at_parts(words: &mut Words, out: &mut Answer) -> Result<(), LineFault> {
-    let rank = byte_of(words.word()?)?;
+// What is seen at the path of these parts.
+fn at_parts(host: Option<&HostName>, words: &mut Words, out: &mut Answer) -> Result<(), LineFault> {
+    let level = level_of(words.word()?)?;
     let folder = words.text()?;
     let name = words.text()?;
     let store = words.store()?;
-    append_held(out, store.fleet().entry_at(rank, &folder, &name))
+    let seen = store.seen_by(host);
+    append_held(out, &seen, seen.entry_at(level, &folder, &name))
 }
 
 // Writes an entry behind the name of its path, or that there is none.
-fn append_held(out: &mut Answer, held: Option<SeenEntry>) -> Result<(), LineFault> {
-    let Some(seen) = held else {
+fn append_held(out: &mut Answer, seen: &Seen, held: Option<SeenEntry>) -> Result<(), LineFault> {
+    let Some(placed) = held else {
         return out.write(b"nothing");
     };
-    out.write(seen.name().as_slice())?;
-    append_seen(out, &seen)
+    out.write(placed.name().as_slice())?;
+    append_seen(out, seen, &placed)
 }

@@ -18,6 +18,7 @@ pub use faults::LineFault;
 pub use gates::{CountingGate, Meeting};
 pub use lines::{answer_lines, work_input};
 pub use spelled::{
-    byte_of, cut_at, each_of, index_of, is, number_of, parts_of, place_of, text_of, writer_of,
+    asked_of, byte_of, cut_at, each_of, index_of, is, number_of, parts_of, place_of, text_of,
+    writer_of,
 };
 pub use words::Words;

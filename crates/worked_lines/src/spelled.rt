@@ -120,6 +120,14 @@ pub fn link_of(alloc: Global, word: &[u8]) -> Result<Content, LineFault> {
     Ok(Content::link(text_of(alloc, word)?)?)
 }
 
+/// The call that a word writes, and the host that makes it: what stands behind the word's first `@`, where it has one.
+pub fn asked_of(alloc: Global, word: &[u8]) -> Result<(&[u8], Option<HostName>), LineFault> {
+    match cut_at(word, b'@') {
+        Some((call, host)) => Ok((call, Some(HostName::parse(alloc, host)?))),
+        None => Ok((word, None)),
+    }
+}
+
 /// The parts of a word before and behind the first byte of a kind.
 pub fn cut_at(word: &[u8], byte: u8) -> Option<(&[u8], &[u8])> {
     let place = word.iter().position(|b| *b == byte)?;
