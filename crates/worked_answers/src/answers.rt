@@ -59,7 +59,15 @@ fn load_by_each<R: Threads + Sync, G: Gate + Sync>(
     let here = load_here(out.alloc, &asked.store, host, &asked.names);
     append_here(out, &here, looked)?;
     for count in workers {
-        let fleet = load_fleet(rt, out.alloc, &asked.store, host, &asked.names, *count, gate);
+        let fleet = load_fleet(
+            rt,
+            out.alloc,
+            &asked.store,
+            host,
+            &asked.names,
+            *count,
+            gate,
+        );
         out.line(format!(in out.alloc; "{count} workers: ")?.as_bytes())?;
         append_compared(out, &here, &fleet)?;
     }
@@ -114,11 +122,7 @@ fn meet<R: Threads + Clock + Sync>(
 }
 
 // Loads the units of names, each alone.
-fn one(
-    words: &mut Words,
-    host: Option<HostName>,
-    out: &mut Answer,
-) -> Result<(), LineFault> {
+fn one(words: &mut Words, host: Option<HostName>, out: &mut Answer) -> Result<(), LineFault> {
     let asked = asked_of(words, host)?;
     for name in &asked.names {
         let unit = load_one(words.alloc, &asked.store, asked.host.as_ref(), name)?;

@@ -111,11 +111,7 @@ fn append_graph(
 }
 
 /// Makes the graph of a load, and looks at it from each of several names.
-pub fn graph(
-    words: &mut Words,
-    host: Option<HostName>,
-    out: &mut Answer,
-) -> Result<(), LineFault> {
+pub fn graph(words: &mut Words, host: Option<HostName>, out: &mut Answer) -> Result<(), LineFault> {
     let asked = asked_of(words, host)?;
     let kinds = each_of(words.alloc, &words.list()?, kind_of)?;
     let names = words.names()?;

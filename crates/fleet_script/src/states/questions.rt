@@ -74,7 +74,15 @@ impl Shell {
         ensures done { Executes self.now self.now (Plan node.now host.entry unit.now running.entry) result }
     {
         let replica = self.replica(alloc, node)?;
-        tell_plan(rt, alloc, replica.store(), host, unit, running, &self.workers)
+        tell_plan(
+            rt,
+            alloc,
+            replica.store(),
+            host,
+            unit,
+            running,
+            &self.workers,
+        )
     }
 
     pub(super) fn same(&self, alloc: Global, left: &[u8], right: &[u8]) -> Told
