@@ -1,11 +1,12 @@
 -- The numbers of main names, and the dependencies that they give.
-use Rattle.std.proofs.Common.{◌≡◌, ◌<◌, ℕ, zero, suc, Bool, true, false, if◌then◌else◌, Option, Some, None, List, [], ◌∷◌, ◌++◌, length, get_or, map, IsTrue, refl, ap, sym, ◌∙◌, subst, inl, inr, arith}
+use Rattle.std.proofs.Common.{◌≡◌, ◌<◌, ℕ, zero, suc, Bool, true, false, if◌then◌else◌, Option, Some, None, Result, Ok, Err, List, [], ◌∷◌, ◌++◌, length, get_or, map, IsTrue, refl, ap, sym, ◌∙◌, subst, inl, inr, arith}
 use Rattle.std.specs.Cmp.Lexicographic.{nat_list_cmp_total}
 use Rattle.std.specs.FinMap.{slice_cmp-IsAntisymmetric, nat_cmp-IsAntisymmetric}
 use Rattle.std.specs.FinMap.Entries.{find, is_sorted}
 use Rattle.std.specs.List.{All, Contains}
 use Rattle.std.specs.Map.{keys_of}
 use Rattle.std.specs.Option.{option_and_then}
+use Rattle.std.specs.Result.{IfOk}
 use Rattle.std.proofs.lemmas.List.Elements.{All-nil, All-cons}
 use Rattle.std.proofs.lemmas.Option.{none-some, same_Some}
 use Rattle.list_laws.specs.Members.{IsAmong, among_from_contains, contains_from_among, none_there}
@@ -26,10 +27,12 @@ use Rattle.parallel_load.specs.declared.mains.Settled.{Settled}
 use Rattle.parallel_load.specs.Alone.{names_in_lists}
 use Rattle.parallel_load.specs.Indexes.{IsIndex, key_at}
 use Rattle.parallel_load.specs.KeyLaws.{key_at_place, key_found, keys_length, sorted_by_keys}
-use Rattle.parallel_load.specs.Loads.{unit_part}
-use Rattle.parallel_load.specs.Numbers.{AreDependenciesOf, AreDependencyRows, HasNumber, IsDependencyOf, IsUnitAmong, lists_in, name_of}
+use Rattle.parallel_load.specs.LoadHeld.{alias_in}
+use Rattle.parallel_load.specs.Loads.{LoadMap, lists_in, unit_part}
+use Rattle.parallel_load.specs.Numbering.{AreNumbered, IsKept, IsMainNumber, main_name}
+use Rattle.parallel_load.specs.Numbers.{AreDependenciesOf, AreDependencyRows, HasNumber, IsDependencyOf, IsUnitAmong, name_of}
 use Rattle.parallel_load.specs.PairLaws.{among_find, find_among}
-use Rattle.parallel_load.specs.Settled.{AreNumbered, AreSettled, IsMainNumber, IsWhole, dependency_of, list_numbers, list_settled, load_numbers, load_settled, main_name, name_loads, name_numbers, other_number, other_numbers, settled_name, unit_settled, unless_unit}
+use Rattle.parallel_load.specs.Settled.{AreSettled, IsWhole, dependency_of, list_numbers, list_settled, load_numbers, load_settled, name_lists, name_loads, name_numbers, other_number, other_numbers, settled_name, unit_settled, unless_unit}
 
 -- ---- names with the numbers of their main names
 
@@ -262,47 +265,93 @@ module _ (found : List (Name × NameLoad)) (sorted : IsTrue (is_sorted name_cmp 
         subst P (sym (load_place ms found i p below)) (subst Q (sym (numbers_place ms found i p below)) (dependencies_of at.0 at.1 (place_among found i p below))));
   }
 
+-- ---- the numbers stay those of main names
+
+main_stays : (n : Name) (ms : List (Name × ℕ)) (one : NameLoad) → main_name (n, load_settled ms one) ≡ main_name (n, one)
+main_stays n ms (OfUnit u) = refl
+main_stays n ms (OfAlias m) = refl
+
+module _ (ms : List (Name × ℕ)) (found : List (Name × NameLoad)) where
+  number_stays : (p : Name × NameLoad) (number : ℕ) → IsMainNumber found p number → IsMainNumber (name_loads (map (settled_name ms) found)) (p.0, load_settled ms p.1) number
+  number_stays p number h =
+      let P : ℕ → Type 0 = λ n. number < n in
+      let Q : Name → List Name → Type 0 = λ n ks. IsAmong n ks in
+      let main = main_stays p.0 ms p.1 in
+      record {
+        below = subst P (sym (loads_length ms found)) h.below;
+        named = λ a. ap (λ (ks : List Name). get_or ks number []) (settled_keys ms found)
+            ∙ h.named (subst (λ (n : Name). Q n (keys_of found)) main (subst (Q (main_name (p.0, load_settled ms p.1))) (settled_keys ms found) a)) ∙ sym main;
+      }
+
+  numbers_stay : (ps : List (Name × NameLoad)) (ks : List (Name × ℕ)) → AreNumbered found ps ks → AreNumbered (name_loads (map (settled_name ms) found)) (name_loads (map (settled_name ms) ps)) ks
+  numbers_stay [] [] h = tt
+  numbers_stay [] (k ∷ ks) h = absurd h
+  numbers_stay (p ∷ ps) [] h = absurd h
+  numbers_stay (p ∷ ps) (k ∷ ks) h = (h.0, number_stays p k.1 h.1, numbers_stay ps ks h.2)
+
+lists_length : (all : List Settled) → length (name_lists all) ≡ length (name_loads all)
+lists_length [] = refl
+lists_length (one ∷ all) = ap suc (lists_length all)
+
 -- what is made of what was found is ready to be a load
-pub record IsReady (found : List (Name × NameLoad)) (all : List Settled) : Type 0 where
-  pub sorted : IsTrue (is_sorted name_cmp (name_loads all))
-  pub rows : AreDependencyRows (name_loads all) (name_numbers all)
-  pub settled : AreSettled found (name_loads all)
+pub record IsReady (found : List (Name × NameLoad)) (ms : List (Name × ℕ)) (all : List Settled) : Type 0 where
+  pub kept : IsKept (name_loads all) (name_lists all) (name_numbers all) ms
+  pub settled : AreSettled found (name_loads all) (name_lists all)
 
 pub is_ready : (found pairs : List (Name × NameLoad)) (ms : List (Name × ℕ)) (all : List Settled) → IsTrue (is_sorted name_cmp found) → IsWhole found → AreNumbered found found ms
-    → pairs ≡ found → all ≡ map (settled_name ms) pairs → IsReady found all
+    → pairs ≡ found → all ≡ map (settled_name ms) pairs → IsReady found ms all
 is_ready found pairs ms all sorted whole numbered e f =
-    let P : List Settled → Type 0 = λ xs. IsReady found xs in
+    let P : List Settled → Type 0 = λ xs. IsReady found ms xs in
     subst P (sym (f ∙ ap (map (settled_name ms)) e)) (record {
-      sorted = names_sorted found sorted whole ms numbered;
-      rows = rows_are found sorted whole ms numbered;
-      settled = record { mains = ms; numbered = numbered; names_are = refl };
+      kept = record {
+        sorted = names_sorted found sorted whole ms numbered;
+        each = lists_length (map (settled_name ms) found);
+        rows = rows_are found sorted whole ms numbered;
+        numbered = numbers_stay ms found found ms numbered;
+      };
+      settled = record { mains = ms; numbered = numbered; names_are = refl; named_are = refl };
     })
+
+-- and the load is made of it
+pub settled_load : {F : Type 0} (found : List (Name × NameLoad)) (all : List Settled) → AreSettled found (name_loads all) (name_lists all) → (r : Result LoadMap F)
+    → IfOk r (λ load. load.names ≡ name_loads all) → IfOk r (λ load. load.named ≡ name_lists all) → IfOk r (λ load. AreSettled found load.names load.named)
+settled_load found all h (Ok load) e f =
+    let P : List (Name × NameLoad) → Type 0 = λ names. AreSettled found names load.named in
+    let Q : List (List DependencyList) → Type 0 = λ named. AreSettled found (name_loads all) named in
+    subst P (sym e) (subst Q (sym f) h)
+settled_load found all h (Err x) e f = tt
 
 -- ---- how the numbers are found
 
 pub none_numbered : (found : List (Name × NameLoad)) (ms : List (Name × ℕ)) → ms ≡ [] → AreNumbered found [] ms
 none_numbered found ms e = let P : List (Name × ℕ) → Type 0 = λ l. AreNumbered found [] l in subst P (sym e) tt
 
+-- the main name of a name is its own, unless it is an alias
+own_main : (n : Name) (load : NameLoad) → None ≡ alias_in load → n ≡ main_name (n, load)
+own_main n (OfUnit u) e = refl
+own_main n (OfAlias m) e = absurd (none-some _ e)
+
+alias_main_name : (n m : Name) (load : NameLoad) → Some m ≡ alias_in load → m ≡ main_name (n, load)
+alias_main_name n m (OfUnit u) e = absurd (none-some _ (sym e))
+alias_main_name n m (OfAlias k) e = same_Some _ _ e
+
 -- a unit has its own number
-pub unit_main : (found : List (Name × NameLoad)) (number : ℕ) (load : NameLoad) (u : LoadedUnit) → number < length found → load ≡ OfUnit u → IsMainNumber found (name_of found number, load) number
-unit_main found number load u l e = record {
-  below = l;
-  named = λ _. ap (λ (one : NameLoad). main_name (name_of found number, one)) (sym e);
-}
+pub unit_main : (found : List (Name × NameLoad)) (number : ℕ) (load : NameLoad) → number < length found → None ≡ alias_in load → IsMainNumber found (name_of found number, load) number
+unit_main found number load l e = record { below = l; named = λ _. own_main (name_of found number) load e }
 
 -- an alias that of its main name
-pub alias_main : (found : List (Name × NameLoad)) (n : Name) (load : NameLoad) (m : Name) (at : ℕ) → load ≡ OfAlias m → IsAt name_cmp m found at → IsMainNumber found (n, load) at
+pub alias_main : (found : List (Name × NameLoad)) (n : Name) (load : NameLoad) (m : Name) (at : ℕ) → Some m ≡ alias_in load → IsAt name_cmp m found at → IsMainNumber found (n, load) at
 alias_main found n load m at e a = record {
   below = at_within name_cmp m found at a;
-  named = λ _. key_found name_cmp (slice_cmp-IsAntisymmetric nat_cmp-IsAntisymmetric) m found at [] a ∙ ap (λ (one : NameLoad). main_name (n, one)) (sym e);
+  named = λ _. key_found name_cmp (slice_cmp-IsAntisymmetric nat_cmp-IsAntisymmetric) m found at [] a ∙ alias_main_name n m load e;
 }
 
 -- or any, where that wasn't found
-pub no_main : (found : List (Name × NameLoad)) → IsTrue (is_sorted name_cmp found) → (number : ℕ) (n : Name) (load : NameLoad) (m : Name) (at : ℕ) → number < length found → load ≡ OfAlias m → IsGap name_cmp m found at
+pub no_main : (found : List (Name × NameLoad)) → IsTrue (is_sorted name_cmp found) → (number : ℕ) (n : Name) (load : NameLoad) (m : Name) (at : ℕ) → number < length found → Some m ≡ alias_in load → IsGap name_cmp m found at
     → IsMainNumber found (n, load) number
 no_main found sorted number n load m at l e g = record {
   below = l;
-  named = λ h. absurd (none (let P : Name → Type 0 = λ x. IsAmong x (keys_of found) in subst P (ap (λ (one : NameLoad). main_name (n, one)) e) h));
+  named = λ h. absurd (none (let P : Name → Type 0 = λ x. IsAmong x (keys_of found) in subst P (sym (alias_main_name n m load e)) h));
 }
   where
     none : IsAmong m (keys_of found) → ⊥

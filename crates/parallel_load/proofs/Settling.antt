@@ -8,7 +8,7 @@ use Rattle.std.specs.Map.{keys_of}
 use Rattle.std.specs.Option.{option_and_then}
 use Rattle.std.specs.Result.{IfErr, IsErrAnd}
 use Rattle.std.proofs.lemmas.List.{length-map}
-use Rattle.std.proofs.lemmas.List.Elements.{All-nil, All-cons}
+use Rattle.std.proofs.lemmas.List.Elements.{All-nil, All-cons, All-head, All-tail}
 use Rattle.list_laws.specs.Members.{IsAmong}
 use Rattle.path_maps.specs.Views.{View, looker_of}
 use Rattle.unit_name.specs.Names.{Name, name_cmp}
@@ -37,8 +37,9 @@ use Rattle.parallel_load.specs.declared.loaded.NameLoad.TheVariants.{Unit as OfU
 use Rattle.parallel_load.specs.Alone.{IsLoadAlone, named_in, names_in_lists}
 use Rattle.parallel_load.specs.Found.{IsFound}
 use Rattle.parallel_load.specs.Indexes.{key_at}
-use Rattle.parallel_load.specs.Loads.{IsLoad, IsNameLoad, LoadMap, by_mains, list_by_mains}
-use Rattle.parallel_load.specs.Settled.{AreNumbered, AreSettled, IsWhole, list_settled, load_settled, main_name, name_loads, other_mains, other_numbers, settled_name, unit_settled, unless_unit}
+use Rattle.parallel_load.specs.Loads.{AreNamedAlone, IsLoad, IsNameLoad, IsNamedAlone, LoadMap, by_mains, list_by_mains, lists_in}
+use Rattle.parallel_load.specs.Numbering.{AreNumbered, main_name}
+use Rattle.parallel_load.specs.Settled.{AreSettled, IsWhole, list_settled, load_settled, name_lists, name_loads, other_mains, other_numbers, settled_name, unit_settled, unless_unit}
 use Rattle.parallel_load.specs.Universe.{AreUniverse, IsSource, IsTooLarge, LeadsTo}
 use Rattle.parallel_load.specs.UniverseLaws.{all_among, sorted_from}
 use Rattle.parallel_load.proofs.Closing.{step_leads, too_large, universe_is}
@@ -132,6 +133,26 @@ module _ (s : View) (found : List (Name × NameLoad)) (loaded : AreLoaded (IsLoa
     pub settled_loaded : AreLoaded (IsNameLoad s) (name_loads (map (settled_name ms) found))
     settled_loaded = settled_all found (λ p a. a)
 
+-- ---- what names name alone
+
+named_one : (s : View) (ms : List (Name × ℕ)) (n : Name) (one : NameLoad) → IsLoadAlone s n one → IsNamedAlone s n (load_settled ms one) (lists_in one)
+named_one s ms n (OfUnit u) h = record { alone = h; lists_are = refl }
+named_one s ms n (OfAlias m) h = record { alone = h; lists_are = refl }
+
+named_all : (s : View) (ms : List (Name × ℕ)) (found : List (Name × NameLoad)) → AreLoaded (IsLoadAlone s) found
+    → AreNamedAlone s (name_loads (map (settled_name ms) found)) (name_lists (map (settled_name ms) found))
+named_all s ms [] h = tt
+named_all s ms (p ∷ found) h =
+    let P : Name × NameLoad → Type 0 = λ q. IsLoadAlone s q.0 q.1 in
+    (named_one s ms p.0 p.1 (All-head P p found h), named_all s ms found (All-tail P p found h))
+
+-- what two are of their equals
+named_is : (s : View) (ps qs : List (Name × NameLoad)) (xs ys : List (List DependencyList)) → ps ≡ qs → xs ≡ ys → AreNamedAlone s ps xs → AreNamedAlone s qs ys
+named_is s ps qs xs ys e f h =
+    let P : List (List DependencyList) → Type 0 = λ zs. AreNamedAlone s qs zs in
+    let Q : List (Name × NameLoad) → Type 0 = λ rs. AreNamedAlone s rs xs in
+    subst P f (subst Q e h)
+
 -- ---- the load
 
 module _ (s : View) (extra : List Name) (found : List (Name × NameLoad)) (f : IsFound s extra found) where
@@ -150,7 +171,7 @@ module _ (s : View) (extra : List Name) (found : List (Name × NameLoad)) (f : I
   whole_found = whole_from s found f.loaded next
 
   -- and is the load, with main names put in
-  pub load_is : (load : LoadMap) → load.host ≡ looker_of s → load.extra ≡ extra → AreSettled found load.names → IsLoad s extra load
+  pub load_is : (load : LoadMap) → load.host ≡ looker_of s → load.extra ≡ extra → AreSettled found load.names load.named → IsLoad s extra load
   load_is load host asked settled = record {
     host_is = host;
     extra_is = asked;
@@ -158,6 +179,7 @@ module _ (s : View) (extra : List Name) (found : List (Name × NameLoad)) (f : I
         (sym (ap (λ (ps : List (Name × NameLoad)). keys_of ps) settled.names_are ∙ settled_keys settled.mains found)) f.universe;
     loaded = subst (AreLoaded (IsNameLoad s)) (sym settled.names_are)
         (settled_loaded s found f.loaded (sorted_from found f.universe.rising) whole_found settled.mains settled.numbered);
+    named = named_is s _ load.names _ load.named (sym settled.names_are) (sym settled.named_are) (named_all s settled.mains found f.loaded);
   }
 
   -- which isn't too large

@@ -1,14 +1,19 @@
--- What is loaded for a name before main names are put in: words for private clauses, and for the laws of loads.
+-- What is loaded for a name before main names are put in.
 -- Source: this project's own.
-use Rattle.std.specs.Prelude.{List, [], ◌∷◌}
+use Rattle.std.specs.Prelude.{◌≡◌, ◌≢◌, List, [], ◌∷◌}
 use Rattle.std.specs.List.{flat_map}
 use Rattle.path_maps.specs.Views.{View}
 use Rattle.unit_name.specs.Names.{Name}
 use Rattle.setting_rules.specs.declared.dependency_lists.DependencyList.{DependencyList}
+use Rattle.fragment_choice.specs.Resolutions.{main}
 use Rattle.unit_loads.specs.Units.{IsUnit}
 use Rattle.parallel_load.specs.declared.loaded.NameLoad.{NameLoad}
 use Rattle.parallel_load.specs.declared.loaded.NameLoad.TheVariants.{Unit as OfUnit, Alias as OfAlias}
-use Rattle.parallel_load.specs.Loads.{IsAliasOf}
+
+-- the name is an alias of this main name
+pub record IsAliasOf (s : View) (name of : Name) : Type 0 where
+  pub main_is : main s name ≡ of
+  pub other : of ≢ name
 
 -- a unit as it is loaded alone, or what a name is an alias of
 abbrev pub IsLoadAlone : View → Name → NameLoad → Type 0

@@ -3,8 +3,11 @@ pub mod AloneLaws
 pub mod Found
 pub mod Indexes
 pub mod KeyLaws
+pub mod ListsHeld
+pub mod LoadHeld
 pub mod LoadLaws
 pub mod Loads
+pub mod Numbering
 pub mod Numbers
 pub mod PairLaws
 pub mod Refusals

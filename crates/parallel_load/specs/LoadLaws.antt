@@ -1,17 +1,19 @@
 -- Laws of loads: a store has one.
-use Rattle.std.specs.Prelude.{◌≡◌, List}
+use Rattle.std.specs.Prelude.{◌≡◌, List, [], ◌∷◌}
 use Rattle.std.specs.Map.{keys_of}
 use Rattle.std.specs.Cmp.Lexicographic.{nat_list_cmp_total}
-use Rattle.std.proofs.Common.{ap, sym, ◌∙◌}
+use Rattle.std.proofs.Common.{refl, ap, subst, sym, ◌∙◌}
 use Rattle.path_maps.specs.Views.{View}
 use Rattle.unit_name.specs.Names.{Name, name_cmp}
 use Rattle.fragment_choice.specs.Resolutions.{main}
 use Rattle.name_closure.specs.ClosureLaws.{one_closure}
 use Rattle.name_closure.specs.LoadingLaws.{one_load_of_nodes}
+use Rattle.setting_rules.specs.declared.dependency_lists.DependencyList.{DependencyList}
 use Rattle.unit_loads.specs.UnitLaws.{one_unit}
 use Rattle.parallel_load.specs.declared.loaded.NameLoad.{NameLoad}
 use Rattle.parallel_load.specs.declared.loaded.NameLoad.TheVariants.{Unit as OfUnit, Alias as OfAlias}
-use Rattle.parallel_load.specs.Loads.{IsLoad, IsNameLoad, LoadMap, by_mains}
+use Rattle.parallel_load.specs.AloneLaws.{one_of_name}
+use Rattle.parallel_load.specs.Loads.{AreNamedAlone, IsLoad, IsNameLoad, IsNamedAlone, LoadMap, by_mains, lists_in, with_lists}
 use Rattle.parallel_load.specs.Universe.{IsSource, LeadsTo}
 
 -- A store and names that are asked for have one load.
@@ -26,10 +28,24 @@ one_name_load s name (OfUnit u) (OfAlias m) p q = absurd (q.other (sym q.main_is
 one_name_load s name (OfAlias m) (OfUnit v) p q = absurd (p.other (sym p.main_is ∙ q.is_unit.main_is))
 one_name_load s name (OfAlias m) (OfAlias k) p q = ap OfAlias (sym p.main_is ∙ q.main_is)
 
+-- and names one list a kind
+one_list : (s : View) (name : Name) (one : NameLoad) (a b : List DependencyList) → IsNamedAlone s name one a → IsNamedAlone s name one b → a ≡ b
+one_list s name one a b p q = p.lists_are ∙ ap lists_in (one_of_name s name (with_lists one a) (with_lists one b) p.alone q.alone) ∙ sym q.lists_are
+
+one_named : (s : View) (names : List (Name × NameLoad)) (a b : List (List DependencyList)) → AreNamedAlone s names a → AreNamedAlone s names b → a ≡ b
+one_named s [] [] [] p q = refl
+one_named s [] (x ∷ a) b p q = absurd p
+one_named s [] [] (y ∷ b) p q = absurd q
+one_named s (n ∷ names) [] b p q = absurd p
+one_named s (n ∷ names) (x ∷ a) [] p q = absurd q
+one_named s (n ∷ names) (x ∷ a) (y ∷ b) p q =
+    ap (λ (l : List DependencyList). l ∷ a) (one_list s n.0 n.1 x y p.0 q.0) ∙ ap (λ (ls : List (List DependencyList)). y ∷ ls) (one_named s names a b p.1 q.1)
+
 pub one_load : OneLoad
 one_load s extra a b p q =
     let nodes = one_closure (IsSource s extra) (LeadsTo s) name_cmp nat_list_cmp_total (keys_of a.names) (keys_of b.names) p.universe q.universe in
     let names = one_load_of_nodes (IsNameLoad s) (one_name_load s) a.names b.names nodes p.loaded q.loaded in
     let host = p.host_is ∙ sym q.host_is in
     let asked = p.extra_is ∙ sym q.extra_is in
-    (λ i. record { host = host i; extra = asked i; names = names i })
+    let named = one_named s a.names a.named b.named p.named (subst (λ (ps : List (Name × NameLoad)). AreNamedAlone s ps b.named) (sym names) q.named) in
+    (λ i. record { host = host i; extra = asked i; names = names i; named = named i })

@@ -1,6 +1,6 @@
 -- What a load of a store is: for each name of the universe its unit, or the main name of which it is an alias.
 -- Source: systemd.unit(5), "Description"; that dependencies are told by main names is this project's own.
-use Rattle.std.specs.Prelude.{◌≡◌, ◌≢◌, not, Option, Some, None, List, map, filter, refl}
+use Rattle.std.specs.Prelude.{◌≡◌, ◌≢◌, not, Option, Some, None, List, [], ◌∷◌, map, filter, refl}
 use Rattle.std.specs.Coded.{Coded, code_by, coded×, coded_list, coded_option, coded_ℕ}
 use Rattle.std.specs.List.{filter_map}
 use Rattle.std.specs.FinMap.{find}
@@ -10,6 +10,7 @@ use Rattle.load_places.specs.Levels.{Looker}
 use Rattle.path_maps.specs.Views.{View, looker_of}
 use Rattle.unit_name.specs.Names.{Name, name_cmp}
 use Rattle.setting_rules.specs.declared.dependency_lists.DependencyList.{DependencyList}
+use Rattle.setting_rules.specs.contracts.dependency_lists.DependencyList as list
 use Rattle.setting_rules.specs.Dependencies.{in_byte_order}
 use Rattle.fragment_choice.specs.Choices.{is_same}
 use Rattle.fragment_choice.specs.Resolutions.{main}
@@ -19,6 +20,7 @@ use Rattle.unit_loads.specs.Units.{IsUnit}
 use Rattle.parallel_load.specs.contracts.loaded.NameLoad as one
 use Rattle.parallel_load.specs.declared.loaded.NameLoad.{NameLoad}
 use Rattle.parallel_load.specs.declared.loaded.NameLoad.TheVariants.{Unit as OfUnit, Alias as OfAlias}
+use Rattle.parallel_load.specs.Alone.{IsAliasOf, IsLoadAlone}
 use Rattle.parallel_load.specs.Universe.{AreUniverse}
 
 -- ---- dependencies by main names
@@ -42,31 +44,54 @@ pub record IsLoadedUnit (s : View) (name : Name) (unit : LoadedUnit) : Type 0 wh
   pub is_unit : IsUnit s name alone
   pub by_mains_is : unit ≡ by_mains (main s) alone
 
--- the name is an alias of this main name
-pub record IsAliasOf (s : View) (name of : Name) : Type 0 where
-  pub main_is : main s name ≡ of
-  pub other : of ≢ name
-
 -- This is what a name stands for.
 abbrev pub IsNameLoad : View → Name → NameLoad → Type 0
 IsNameLoad s name (OfUnit unit) = IsLoadedUnit s name unit
 IsNameLoad s name (OfAlias of) = IsAliasOf s name of
 
+-- ---- what is named
+
+-- the lists of dependencies of what a name stands for: an alias has none
+abbrev pub lists_in : NameLoad → List DependencyList
+lists_in (OfUnit unit) = unit.deps
+lists_in (OfAlias of) = []
+
+-- the same with these lists
+abbrev pub with_lists : NameLoad → List DependencyList → NameLoad
+with_lists (OfUnit unit) lists = OfUnit (record unit { deps = lists })
+with_lists (OfAlias of) lists = OfAlias of
+
+-- These are the lists of what the name stands for as it is loaded alone.
+pub record IsNamedAlone (s : View) (name : Name) (one : NameLoad) (lists : List DependencyList) : Type 0 where
+  pub alone : IsLoadAlone s name (with_lists one lists)
+  pub lists_are : lists ≡ lists_in (with_lists one lists)
+
+-- the same of each name
+abbrev pub AreNamedAlone : View → List (Name × NameLoad) → List (List DependencyList) → Type 0
+AreNamedAlone s [] [] = Unit {0}
+AreNamedAlone s [] (l ∷ ls) = ⊥
+AreNamedAlone s (p ∷ ps) [] = ⊥
+AreNamedAlone s (p ∷ ps) (l ∷ ls) = IsNamedAlone s p.0 p.1 l × AreNamedAlone s ps ls
+
 -- ---- the load
 
--- what is loaded: for which host, if for one, the names that were asked for, and all names in byte order, each with what it stands for
+-- What is loaded: for which host, if for one, the names that were asked for, all names in byte order, each with what it stands for, and for each name the
+-- lists of what that names itself, before main names are put in.
 pub record LoadMap : Type 0 where
   pub host : Looker
   pub extra : List Name
   pub names : List (Name × NameLoad)
+  pub named : List (List DependencyList)
 
 abbrev pub coded_name_load : Coded NameLoad
 coded_name_load = (one.the_row).coded
 
 abbrev pub coded_load : Coded LoadMap
 coded_load =
-    code_by (Looker × (List Name × List (Name × NameLoad))) (coded× (coded_option (coded_list coded_ℕ)) (coded× (coded_list (coded_list coded_ℕ)) (coded_list (coded× (coded_list coded_ℕ) (one.the_row).coded))))
-    (λ l. (l.host, (l.extra, l.names))) (λ p. record { host = p.0; extra = p.1.0; names = p.1.1 }) (λ _. refl)
+    code_by (Looker × (List Name × (List (Name × NameLoad) × List (List DependencyList))))
+    (coded× (coded_option (coded_list coded_ℕ))
+    (coded× (coded_list (coded_list coded_ℕ)) (coded× (coded_list (coded× (coded_list coded_ℕ) (one.the_row).coded)) (coded_list (coded_list (list.the_row).coded)))))
+    (λ l. (l.host, (l.extra, (l.names, l.named)))) (λ p. record { host = p.0; extra = p.1.0; names = p.1.1.0; named = p.1.1.1 }) (λ _. refl)
 
 -- This is the load of what is looked at of a store, with the names that are asked for.
 pub record IsLoad (s : View) (extra : List Name) (load : LoadMap) : Type 0 where
@@ -74,6 +99,7 @@ pub record IsLoad (s : View) (extra : List Name) (load : LoadMap) : Type 0 where
   pub extra_is : load.extra ≡ extra
   pub universe : AreUniverse s extra (keys_of load.names)
   pub loaded : AreLoaded (IsNameLoad s) load.names
+  pub named : AreNamedAlone s load.names load.named
 
 -- ---- what is read from it
 

@@ -14,7 +14,7 @@ use Rattle.unit_loads.specs.NamedUnits.{IsListed}
 use Rattle.parallel_load.specs.declared.loaded.Dependency.{Dependency}
 use Rattle.parallel_load.specs.declared.loaded.NameLoad.{NameLoad}
 use Rattle.parallel_load.specs.declared.loaded.NameLoad.TheVariants.{Unit as OfUnit, Alias as OfAlias}
-use Rattle.parallel_load.specs.Loads.{unit_part}
+use Rattle.parallel_load.specs.Loads.{lists_in, unit_part}
 
 -- the name that has this number
 abbrev pub name_of : List (Name × NameLoad) → ℕ → Name
@@ -23,11 +23,6 @@ name_of names number = slice_index_or (keys_of names) number []
 -- the name is the main name of a unit among these
 abbrev pub IsUnitAmong : List (Name × NameLoad) → Name → Type 0
 IsUnitAmong names name = (unit : LoadedUnit) × (option_and_then unit_part (find name_cmp name names) ≡ Some unit)
-
--- the lists of dependencies of what a name stands for: an alias has none
-abbrev pub lists_in : NameLoad → List DependencyList
-lists_in (OfUnit unit) = unit.deps
-lists_in (OfAlias of) = []
 
 -- this is a dependency that the lists have, by the number of a unit
 pub record IsDependencyOf (names : List (Name × NameLoad)) (lists : List DependencyList) (one : Dependency) : Type 0 where
@@ -52,7 +47,3 @@ pub record AreDependencyRows (names : List (Name × NameLoad)) (table : List (Li
   pub one_each : length table ≡ length names
   pub rows : (i : ℕ) (p : Name × NameLoad) → i < length names → AreDependenciesOf names (lists_in (slice_index_or names i p).1) (slice_index_or table i [])
 
--- what a load keeps: its names in byte order, and their dependencies by numbers
-pub record IsKept (names : List (Name × NameLoad)) (table : List (List Dependency)) : Type 0 where
-  pub sorted : IsTrue (is_sorted name_cmp names)
-  pub rows : AreDependencyRows names table

@@ -18,7 +18,8 @@ use Rattle.parallel_load.specs.declared.loaded.NameLoad.TheVariants.{Unit as OfU
 use Rattle.parallel_load.specs.declared.mains.Settled.{Settled}
 use Rattle.parallel_load.specs.Alone.{named_in}
 use Rattle.parallel_load.specs.Indexes.{key_at}
-use Rattle.parallel_load.specs.Numbers.{name_of}
+use Rattle.parallel_load.specs.Loads.{lists_in}
+use Rattle.parallel_load.specs.Numbering.{AreNumbered}
 
 -- ---- dependencies by the numbers of main names
 
@@ -64,36 +65,21 @@ abbrev pub load_numbers : List (Name × ℕ) → NameLoad → List Dependency
 load_numbers mains (OfUnit unit) = flat_map (list_numbers mains unit.name) unit.deps
 load_numbers mains (OfAlias of) = []
 
--- a name with both
+-- a name with both, and with the lists that it had
 abbrev pub settled_name : List (Name × ℕ) → Name × NameLoad → Settled
-settled_name mains p = record { name = p.0; load = load_settled mains p.1; deps = load_numbers mains p.1 }
+settled_name mains p = record { name = p.0; load = load_settled mains p.1; lists = lists_in p.1; deps = load_numbers mains p.1 }
 
 -- names with what they stand for
 abbrev pub name_loads : List Settled → List (Name × NameLoad)
 name_loads all = map (λ one. (one.name, one.load)) all
 
+-- the lists of what they name
+abbrev pub name_lists : List Settled → List (List DependencyList)
+name_lists all = map (λ one. one.lists) all
+
 -- their dependencies by numbers
 abbrev pub name_numbers : List Settled → List (List Dependency)
 name_numbers all = map (λ one. one.deps) all
-
--- ---- the numbers of main names
-
--- the main name of a name that was found
-abbrev pub main_name : Name × NameLoad → Name
-main_name (name, OfUnit unit) = name
-main_name (name, OfAlias of) = of
-
--- this is the number of a name's main name, if that was found
-pub record IsMainNumber (found : List (Name × NameLoad)) (p : Name × NameLoad) (number : ℕ) : Type 0 where
-  pub below : number < length found
-  pub named : IsAmong (main_name p) (keys_of found) → name_of found number ≡ main_name p
-
--- these are names that were found, each with the number of its main name
-abbrev pub AreNumbered : List (Name × NameLoad) → List (Name × NameLoad) → List (Name × ℕ) → Type 0
-AreNumbered found [] [] = Unit {0}
-AreNumbered found [] (m ∷ ms) = ⊥
-AreNumbered found (p ∷ ps) [] = ⊥
-AreNumbered found (p ∷ ps) (m ∷ ms) = (m.0 ≡ p.0) × IsMainNumber found p m.1 × AreNumbered found ps ms
 
 -- ---- the load
 
@@ -102,8 +88,9 @@ pub record IsWhole (found : List (Name × NameLoad)) : Type 0 where
   pub named : (p : Name × NameLoad) (name : Name) → IsAmong p found → IsAmong name (named_in p.1) → (one : NameLoad) × IsAmong {X = Name × NameLoad} (name, one) found
   pub mains : (name of : Name) → IsAmong {X = Name × NameLoad} (name, OfAlias of) found → (unit : LoadedUnit) × IsAmong {X = Name × NameLoad} (of, OfUnit unit) found
 
--- these are the names that were found with what they stand for, dependencies by main names
-pub record AreSettled (found names : List (Name × NameLoad)) : Type 0 where
+-- these are the names that were found with what they stand for, dependencies by main names, and the lists that they had
+pub record AreSettled (found names : List (Name × NameLoad)) (named : List (List DependencyList)) : Type 0 where
   pub mains : List (Name × ℕ)
   pub numbered : AreNumbered found found mains
   pub names_are : names ≡ name_loads (map (settled_name mains) found)
+  pub named_are : named ≡ name_lists (map (settled_name mains) found)

@@ -5,14 +5,14 @@ ghost use Rattle.std.specs.FinMap.{is_sorted};
 ghost use Rattle.std.specs.Option.{option_copied};
 ghost use Rattle.std.specs.List.Sorted.{IsStrictlySortedBy};
 ghost use Rattle.unit_name.specs.Names.{name_cmp};
-ghost use Rattle.parallel_load.specs.Numbers.{AreDependencyRows};
-ghost use Rattle.parallel_load.specs.Settled.{AreNumbered, AreSettled, IsWhole, name_loads, name_numbers, settled_name};
+ghost use Rattle.parallel_load.specs.Numbering.{AreNumbered, IsKept};
+ghost use Rattle.parallel_load.specs.Settled.{AreSettled, IsWhole, name_lists, name_loads, name_numbers, settled_name};
 
-use crate::kept::Kept;
-use crate::loaded::{Dependency, Loaded, NameLoad};
+use crate::kept::{Kept, NamedLists};
+use crate::loaded::{Dependency, KeptRows, Loaded, NameLoad};
 use crate::loader::add_names;
 use crate::mains::{Mains, Settled};
-use plain_values::Items;
+use plain_values::{Items, Shared};
 use replica_store::HostName;
 use std::alloc::{AllocError, Global};
 use std::collections::BTreeMap;
@@ -31,11 +31,12 @@ pub(crate) fn settled(
     requires whole { IsWhole found.entries }
     ensures host { IfOk result (λ load. load.host ≡ option_copied host.entry) }
     ensures extra { IfOk result (λ load. load.extra ≡ extra.now) }
-    ensures names { IfOk result (λ load. AreSettled found.entries load.names) }
+    ensures names { IfOk result (λ load. AreSettled found.entries load.names load.named) }
 {
     let Found { pairs, mains } = found_of(alloc, found)?;
+    let fresh = fresh_among(&pairs);
     let names = mains.settle_all(alloc, pairs)?;
-    load_of(alloc, host, extra, names)
+    load_of(alloc, host, extra, names, mains, fresh)
 }
 
 /// The same, where so many workers put the main names in, each for a share of the names. It may wait for threads.
@@ -52,11 +53,12 @@ pub(crate) fn settled_by_workers<R: Threads + Sync>(
     requires whole { IsWhole found.entries }
     ensures host { IfOk result (λ load. load.host ≡ option_copied host.entry) }
     ensures extra { IfOk result (λ load. load.extra ≡ extra.now) }
-    ensures names { IfOk result (λ load. AreSettled found.entries load.names) }
+    ensures names { IfOk result (λ load. AreSettled found.entries load.names load.named) }
 {
     let Found { pairs, mains } = found_of(alloc, found)?;
+    let fresh = fresh_among(&pairs);
     let names = settle_by_workers(rt, alloc, &mains, pairs, workers)?;
-    load_of(alloc, host, extra, names)
+    load_of(alloc, host, extra, names, mains, fresh)
 }
 
 // What was found, in order, and the numbers of main names.
@@ -91,6 +93,17 @@ fn pairs_of(
     Ok(pairs)
 }
 
+// How many of these are units that were read.
+fn fresh_among(pairs: &[(UnitName, Kept)]) -> u64 {
+    let mut fresh: u64 = 0;
+    for (_, kept) in pairs {
+        if kept.is_fresh() {
+            fresh = fresh.saturating_add(1);
+        }
+    }
+    fresh
+}
+
 // Names with what they stand for, dependencies by main names and by numbers, each share of them by a worker of its own.
 fn settle_by_workers<R: Threads + Sync>(
     rt: &R,
@@ -111,24 +124,29 @@ fn settle_by_workers<R: Threads + Sync>(
     work_by_shares(rt, alloc, pairs, workers, &settle)
 }
 
-// The load of these names, which are in byte order.
+// The load of these names, which are in byte order, with the numbers of their main names.
 fn load_of(
     alloc: Global,
     host: Option<&HostName>,
     extra: &[UnitName],
     settled: Vec<Settled>,
+    mains: Mains,
+    fresh: u64,
 ) -> Result<Loaded, AllocError>
-    requires sorted { IsTrue (is_sorted name_cmp (name_loads settled.items)) }
-    requires rows { AreDependencyRows (name_loads settled.items) (name_numbers settled.items) }
+    requires kept { IsKept (name_loads settled.items) (name_lists settled.items) (name_numbers settled.items) mains }
     ensures host { IfOk result (λ load. load.host ≡ option_copied host.entry) }
     ensures extra { IfOk result (λ load. load.extra ≡ extra.now) }
     ensures names { IfOk result (λ load. load.names ≡ name_loads settled.items) }
+    ensures named { IfOk result (λ load. load.named ≡ name_lists settled.items) }
 {
     let host = copy_of(host)?;
     let mut asked = Vec::new(alloc);
     add_names(&mut asked, extra)?;
-    let Parts { names, deps } = parts_of(alloc, settled)?;
-    Ok(Loaded::new(host, Items::from_vec(asked), names, deps))
+    let Parts { names, named, deps } = parts_of(alloc, settled)?;
+    let mains = Shared::new(alloc, mains)?;
+    let kept = KeptRows { named, deps, mains };
+    let extra = Items::from_vec(asked);
+    Ok(Loaded::new(host, extra, names, kept, fresh))
 }
 
 // The name of a host, if there is one. It shares its bytes.
@@ -141,23 +159,27 @@ fn copy_of(host: Option<&HostName>) -> Result<Option<HostName>, AllocError>
     }
 }
 
-// Names with what they stand for, and beside them their dependencies by numbers.
+// Names with what they stand for, and beside them what they name, and their dependencies by numbers.
 #[derive(Drop)]
 struct Parts {
     names: Vec<(UnitName, NameLoad)>,
-    deps: Vec<Items<Dependency>>,
+    named: Vec<NamedLists>,
+    deps: Vec<Shared<Items<Dependency>>>,
 }
 
 // The parts of names.
 fn parts_of(alloc: Global, settled: Vec<Settled>) -> Result<Parts, AllocError>
     ensures names { IfOk result (λ parts. parts.names.items ≡ name_loads settled.items) }
+    ensures named { IfOk result (λ parts. parts.named.items ≡ name_lists settled.items) }
     ensures deps { IfOk result (λ parts. parts.deps.items ≡ name_numbers settled.items) }
 {
     let mut names = Vec::with_capacity(alloc, settled.len())?;
+    let mut named = Vec::with_capacity(alloc, settled.len())?;
     let mut deps = Vec::with_capacity(alloc, settled.len())?;
     for one in settled {
         names.push((one.name, one.load))?;
+        named.push(one.lists)?;
         deps.push(one.deps)?;
     }
-    Ok(Parts { names, deps })
+    Ok(Parts { names, named, deps })
 }

@@ -1,12 +1,15 @@
 //! A load: what all names stand for.
-ghost use Rattle.std.specs.Prelude.{◌≡◌, IfOk, IsTrue, map};
+ghost use Rattle.std.specs.Prelude.{◌≡◌, IfOk, map};
 ghost use Rattle.std.specs.FinMap.{is_sorted};
 ghost use Rattle.std.specs.Option.{option_copied};
 ghost use Rattle.unit_name.specs.Names.{name_cmp};
 ghost use Rattle.parallel_load.specs.Loads.{load_at, main_in, unit_in, units_in};
 ghost use Rattle.parallel_load.specs.Numbers.{AreDependencyRows};
+ghost use Rattle.parallel_load.specs.Numbering.{IsKept};
 
-use plain_values::Items;
+use crate::kept::NamedLists;
+use crate::mains::Mains;
+use plain_values::{Items, Shared};
 use replica_store::HostName;
 use setting_rules::DepKind;
 use sorted_pairs::seek;
@@ -18,8 +21,8 @@ use unit_name::UnitName;
 /// What a name of a load stands for.
 #[derive(Debug, PartialEq, Eq, Drop)]
 pub enum NameLoad {
-    /// A unit, whose main name it is.
-    Unit(Unit),
+    /// A unit, whose main name it is. Loads share it.
+    Unit(Shared<Unit>),
     /// The unit of this main name, of which it is an alias.
     Alias(UnitName),
 }
@@ -40,41 +43,58 @@ pub struct Loaded {
     host: Option<HostName>,
     extra: Items<UnitName>,
     names: Vec<(UnitName, NameLoad)>,
-    // For each name the dependencies of what it stands for.
-    deps: Vec<Items<Dependency>>,
+    kept: KeptRows,
+    fresh: u64,
+}
+
+/// What a load keeps beside its names, so that another can be made from it.
+#[derive(Debug, Drop)]
+pub(crate) struct KeptRows {
+    /// For each name what it names itself, before main names are put in.
+    pub named: Vec<NamedLists>,
+    /// For each name the dependencies of what it stands for.
+    pub deps: Vec<Shared<Items<Dependency>>>,
+    /// The number of each name's main name.
+    pub mains: Shared<Mains>,
 }
 
 impl Model for Loaded {
     ghost use Rattle.parallel_load.specs.Loads.{LoadMap, coded_load};
-    ghost use Rattle.parallel_load.specs.Numbers.{IsKept};
 
     ghost Value = { LoadMap };
 
     ghost coded = { coded_load };
 
-    ghost view = { λ l. record { host = l.host; extra = l.extra; names = l.names.items } };
+    ghost view = { λ l. record { host = l.host; extra = l.extra; names = l.names.items; named = l.kept.named.items } };
 
-    ghost invariant = { λ l. IsKept l.names.items l.deps.items };
+    ghost invariant = { λ l. IsKept l.names.items l.kept.named.items l.kept.deps.items l.kept.mains };
 }
 
 impl Loaded {
-    // The load of these names, which are in byte order, each with its dependencies by numbers.
+    // The load of these names, which are in byte order, for which so many units were read.
     pub(crate) fn new(
         host: Option<HostName>,
         extra: Items<UnitName>,
         names: Vec<(UnitName, NameLoad)>,
-        deps: Vec<Items<Dependency>>,
+        kept: KeptRows,
+        fresh: u64,
     ) -> Loaded
-        requires sorted { IsTrue (is_sorted name_cmp names.items) }
-        requires rows { AreDependencyRows names.items deps.items }
-        ensures load { result ≡ record { host = host; extra = extra; names = names.items } }
+        requires kept { IsKept names.items kept.named.items kept.deps.items kept.mains }
+        ensures load { result ≡ record { host = host; extra = extra; names = names.items; named = kept.named.items } }
     {
         Loaded {
             host,
             extra,
             names,
-            deps,
+            kept,
+            fresh,
         }
+    }
+
+    /// How many units were read for it: all, where it is a load; those that were read again, where it refreshes another.
+    /// It takes no memory.
+    pub fn fresh(&self) -> u64 {
+        self.fresh
     }
 
     /// The allocator that the load takes its memory from.
@@ -106,18 +126,18 @@ impl Loaded {
 
     /// For each name, in the same order, the dependencies of what it stands for, by numbers: none for an alias. It takes no
     /// memory.
-    pub fn dependencies(&self) -> &[Items<Dependency>]
+    pub fn dependencies(&self) -> &[Shared<Items<Dependency>>]
         ensures rows { AreDependencyRows self.now.names result.now }
     {
-        self.deps.as_slice()
+        self.kept.deps.as_slice()
     }
 
     /// The unit of a main name. None for an alias, and for a name that isn't in the universe. O(log n), without memory.
     pub fn unit(&self, name: &UnitName) -> Option<&Unit>
         ensures unit { option_copied result ≡ unit_in self.now name.now }
     {
-        match self.at(name)? {
-            NameLoad::Unit(unit) => Some(unit),
+        match self.stands_for(name)? {
+            NameLoad::Unit(unit) => Some(unit.get()),
             NameLoad::Alias(_) => None,
         }
     }
@@ -126,8 +146,8 @@ impl Loaded {
     pub fn main(&self, name: &UnitName) -> Option<&UnitName>
         ensures main { option_copied result ≡ main_in self.now name.now }
     {
-        match self.at(name)? {
-            NameLoad::Unit(unit) => Some(&unit.name),
+        match self.stands_for(name)? {
+            NameLoad::Unit(unit) => Some(&unit.get().name),
             NameLoad::Alias(main) => Some(main),
         }
     }
@@ -139,36 +159,14 @@ impl Loaded {
         let mut units = Vec::new(self.allocator());
         for (_, load) in &self.names {
             if let NameLoad::Unit(unit) = load {
-                units.push(unit)?;
+                units.push(unit.get())?;
             }
         }
         Ok(units)
     }
 
-    /// The unit of a main name, moved out of the load, of which nothing else is kept. None for an alias, and for a name that
-    /// isn't in the universe. It takes no memory.
-    pub fn into_unit(self, name: &UnitName) -> Option<Unit>
-        ensures unit { result ≡ unit_in self name.now }
-    {
-        match self.into_load(name) {
-            Some(NameLoad::Unit(unit)) => Some(unit),
-            Some(NameLoad::Alias(_)) | None => None,
-        }
-    }
-
-    // What a name stands for, moved out of the load.
-    fn into_load(self, name: &UnitName) -> Option<NameLoad>
-        ensures load { result ≡ load_at self name.now }
-    {
-        let Loaded { mut names, .. } = self;
-        match seek(&names, name) {
-            Ok(at) => Some(names.swap_remove(at).1),
-            Err(_) => None,
-        }
-    }
-
-    // What a name stands for.
-    fn at(&self, name: &UnitName) -> Option<&NameLoad>
+    /// What a name stands for. None for one that isn't in the universe. O(log n), without memory.
+    pub fn stands_for(&self, name: &UnitName) -> Option<&NameLoad>
         ensures load { option_copied result ≡ load_at self.now name.now }
     {
         match seek(&self.names, name) {

@@ -5,7 +5,6 @@ ghost use Rattle.path_maps.specs.Views.{view_of};
 ghost use Rattle.parallel_load.specs.Alone.{names_in_lists};
 
 use crate::kept::Kept;
-use crate::loaded::NameLoad;
 use fragment_choice::AliasIndex;
 use name_closure::Loads;
 use replica_store::{HostName, Store};
@@ -49,18 +48,17 @@ impl<'a> Loads<UnitName> for UnitLoader<'a> {
     fn load(&self, alloc: Global, node: &UnitName) -> Result<Kept, AllocError> {
         let resolved = self.index.resolve(alloc, node)?;
         if resolved.main == *node {
-            let unit = load_resolved(alloc, &self.index, resolved)?;
-            Kept::new(alloc, NameLoad::Unit(unit))
+            Kept::fresh(alloc, load_resolved(alloc, &self.index, resolved)?)
         } else {
-            Kept::new(alloc, NameLoad::Alias(resolved.main))
+            Ok(Kept::alias(resolved.main))
         }
     }
 
     fn names(&self, alloc: Global, one: &Kept) -> Result<Vec<UnitName>, AllocError> {
         let mut names = Vec::new(alloc);
-        match one.load() {
-            NameLoad::Unit(unit) => add_lists(&mut names, unit.deps.as_slice())?,
-            NameLoad::Alias(main) => names.push(main.try_clone()?)?,
+        add_lists(&mut names, one.lists())?;
+        if let Some(main) = one.main() {
+            names.push(main.try_clone()?)?;
         }
         Ok(names)
     }

@@ -1,16 +1,19 @@
 //! Dependencies by main names and by their numbers.
-ghost use Rattle.std.specs.Prelude.{◌≡◌, ◌<◌, ◌++◌, ℕ, IfOk, IfSome, IsTrue, OnOk, length, map};
+ghost use Rattle.std.specs.Prelude.{◌≡◌, ◌<◌, ◌++◌, IfOk, IfSome, IsTrue, OnOk, length, map};
 ghost use Rattle.std.specs.FinMap.{is_sorted};
 ghost use Rattle.std.specs.List.{flat_map};
 ghost use Rattle.unit_name.specs.Names.{name_cmp};
 ghost use Rattle.parallel_load.specs.Indexes.{key_at};
 ghost use Rattle.parallel_load.specs.Numbers.{name_of};
-ghost use Rattle.parallel_load.specs.Settled.{AreNumbered, IsMainNumber, dependency_of, list_numbers, list_settled, other_mains, other_number, other_numbers, settled_name};
+ghost use Rattle.parallel_load.specs.Loads.{with_lists};
+ghost use Rattle.parallel_load.specs.Numbering.{AreNumbered, IsMainNumber};
+ghost use Rattle.parallel_load.specs.Settled.{list_numbers, list_settled, other_number, settled_name};
+ghost use Rattle.parallel_load.specs.declared.loaded.NameLoad.TheVariants.{Unit as OfUnit};
 
-use crate::kept::Kept;
+use crate::kept::{Kept, LoadHeld, NamedLists};
 use crate::loaded::{Dependency, NameLoad};
-use plain_values::Items;
-use setting_rules::{DepKind, DependencyList, in_byte_order};
+use plain_values::{Items, Shared, TryClone};
+use setting_rules::{DependencyList, in_byte_order};
 use sorted_pairs::seek;
 use std::alloc::{AllocError, Global};
 use std::marker::Model;
@@ -19,7 +22,7 @@ use unit_loads::Unit;
 use unit_name::UnitName;
 
 /// The names of a load in byte order, each with the number of its main name: that name's place among them.
-#[derive(Drop)]
+#[derive(Debug, Drop)]
 pub(crate) struct Mains {
     names: Vec<(UnitName, usize)>,
 }
@@ -36,12 +39,13 @@ impl Model for Mains {
     ghost invariant = { λ m. IsIndex m.names.items };
 }
 
-/// A name with what it stands for, its dependencies by main names, and the same by numbers.
+/// A name with what it stands for, its dependencies by main names, the lists that it had before, and the same by numbers.
 #[derive(Drop)]
 pub(crate) struct Settled {
     pub name: UnitName,
     pub load: NameLoad,
-    pub deps: Items<Dependency>,
+    pub lists: NamedLists,
+    pub deps: Shared<Items<Dependency>>,
 }
 
 impl Mains {
@@ -90,124 +94,122 @@ impl Mains {
     {
         let mut all = Vec::with_capacity(alloc, names.len())?;
         for (name, kept) in names {
-            all.push(self.settle(alloc, name, kept.into_load())?)?;
+            all.push(self.settle(alloc, name, kept)?)?;
         }
         Ok(all)
     }
 
     // A name with what it stands for, dependencies by main names and by numbers.
-    fn settle(&self, alloc: Global, name: UnitName, load: NameLoad) -> Result<Settled, AllocError>
-        ensures one { IfOk result (λ one. one ≡ settled_name self.now (name, load)) }
+    pub fn settle(&self, alloc: Global, name: UnitName, kept: Kept) -> Result<Settled, AllocError>
+        ensures one { IfOk result (λ one. one ≡ settled_name self.now (name, kept)) }
     {
-        match load {
-            NameLoad::Unit(unit) => self.settle_unit(alloc, name, unit),
-            NameLoad::Alias(main) => Ok(Settled {
+        let Kept { held } = kept;
+        match held {
+            LoadHeld::Fresh(unit) => self.settle_unit(alloc, name, Box::into_inner(unit)),
+            LoadHeld::Alias(main) => Ok(Settled {
                 name,
                 load: NameLoad::Alias(main),
-                deps: Items::new(alloc),
+                lists: NamedLists::nowhere(),
+                deps: Shared::new(alloc, Items::new(alloc))?,
             }),
+            LoadHeld::Unit(unit, lists) => self.settle_again(alloc, name, unit, lists),
         }
     }
 
-    // The same for a unit.
+    // The same for a unit that was read.
     fn settle_unit(&self, alloc: Global, name: UnitName, unit: Unit) -> Result<Settled, AllocError>
-        ensures one { IfOk result (λ one. one ≡ settled_name self.now (name, NameLoad.Unit unit)) }
+        ensures one { IfOk result (λ one. one ≡ settled_name self.now (name, OfUnit unit)) }
     {
         let mut unit = unit;
-        let deps = self.settle_lists(alloc, &unit.name, &mut unit.deps)?;
-        Ok(Settled {
-            name,
-            load: NameLoad::Unit(unit),
-            deps,
-        })
+        let mut deps = Items::new(alloc);
+        let settled = self.settle_lists(alloc, &unit.name, unit.deps.as_slice(), &mut deps)?;
+        let deps = Shared::new(alloc, deps)?;
+        if unit.deps == settled {
+            let unit = Shared::new(alloc, unit)?;
+            let lists = NamedLists::of_unit(unit.try_clone()?);
+            let load = NameLoad::Unit(unit);
+            return Ok(Settled { name, load, lists, deps });
+        }
+        let lists = NamedLists::alone(alloc, mem::replace(&mut unit.deps, settled))?;
+        let load = NameLoad::Unit(Shared::new(alloc, unit)?);
+        Ok(Settled { name, load, lists, deps })
     }
 
-    // Puts main names into the lists of a unit's dependencies, and gives them by numbers.
+    // The same for a unit of another load, with what it named there. It is shared where it stays as it is.
+    fn settle_again(
+        &self,
+        alloc: Global,
+        name: UnitName,
+        unit: Shared<Unit>,
+        lists: NamedLists,
+    ) -> Result<Settled, AllocError>
+        ensures one { IfOk result (λ one. one ≡ settled_name self.now (name, with_lists (OfUnit unit) lists)) }
+    {
+        let mut deps = Items::new(alloc);
+        let settled = self.settle_lists(alloc, &unit.get().name, lists.as_slice(), &mut deps)?;
+        let deps = Shared::new(alloc, deps)?;
+        let load = NameLoad::Unit(with_dependencies(alloc, unit, settled)?);
+        Ok(Settled { name, load, lists, deps })
+    }
+
+    // Lists of a unit's dependencies by main names, which are added by numbers.
     fn settle_lists(
         &self,
         alloc: Global,
         unit: &UnitName,
-        lists: &mut Items<DependencyList>,
-    ) -> Result<Items<Dependency>, AllocError>
-        ensures lists { OnOk result (lists.new ≡ map (list_settled self.now unit.now) lists.old) }
-        ensures deps { IfOk result (λ deps. deps ≡ flat_map (list_numbers self.now unit.now) lists.old) }
+        lists: &[DependencyList],
+        deps: &mut Items<Dependency>,
+    ) -> Result<Items<DependencyList>, AllocError>
+        ensures lists { IfOk result (λ settled. settled ≡ map (list_settled self.now unit.now) lists.now) }
+        ensures deps { OnOk result (deps.new ≡ deps.old ++ flat_map (list_numbers self.now unit.now) lists.now) }
     {
-        let found = mem::replace(lists, Items::new(alloc)).into_vec();
-        let mut settled = Vec::with_capacity(alloc, found.len())?;
-        let mut deps = Items::new(alloc);
-        for list in found {
-            settled.push(self.settle_list(alloc, unit, list, &mut deps)?)?;
+        let mut settled = Vec::with_capacity(alloc, lists.len())?;
+        for list in lists {
+            settled.push(self.settle_list(alloc, unit, list, deps)?)?;
         }
-        *lists = Items::from_vec(settled);
-        Ok(deps)
+        Ok(Items::from_vec(settled))
     }
 
-    // A list of a unit's dependencies by main names, which are added by numbers. A copy is made only where an alias or the
-    // unit is among them.
+    // A list of a unit's dependencies by main names, which are added by numbers.
     fn settle_list(
         &self,
         alloc: Global,
         unit: &UnitName,
-        list: DependencyList,
+        list: &DependencyList,
         deps: &mut Items<Dependency>,
     ) -> Result<DependencyList, AllocError>
-        ensures list { IfOk result (λ settled. settled ≡ list_settled self.now unit.now list) }
-        ensures deps { OnOk result (deps.new ≡ deps.old ++ list_numbers self.now unit.now list) }
+        ensures list { IfOk result (λ settled. settled ≡ list_settled self.now unit.now list.now) }
+        ensures deps { OnOk result (deps.new ≡ deps.old ++ list_numbers self.now unit.now list.now) }
     {
-        let DependencyList { kind, names } = list;
-        let names = names.into_vec();
-        let mains = if self.add_numbers(unit, kind, &names, deps)? {
-            names
-        } else {
-            self.mains_of(alloc, unit, &names)?
-        };
+        let kind = list.kind;
+        let mut mains = Vec::new(alloc);
+        for name in list.names.as_slice() {
+            if let Some(number) = self.other(unit, name) {
+                mains.push(self.name(number).try_clone()?)?;
+                deps.push(Dependency { kind, number })?;
+            }
+        }
         Ok(DependencyList {
             kind,
             names: in_byte_order(mains),
         })
     }
+}
 
-    // Adds the numbers of the main names of names, but for the unit's. Gives whether these are the names themselves.
-    fn add_numbers(
-        &self,
-        unit: &UnitName,
-        kind: DepKind,
-        names: &[UnitName],
-        deps: &mut Items<Dependency>,
-    ) -> Result<bool, AllocError>
-        ensures deps { OnOk result (deps.new ≡ deps.old ++ map (dependency_of kind) (other_numbers self.now unit.now names.now)) }
-        ensures same { IfOk result (λ same. IsTrue same → other_mains self.now unit.now names.now ≡ names.now) }
-    {
-        let mut same = true;
-        for name in names {
-            match self.other(unit, name) {
-                Some(number) => {
-                    same = same && *self.name(number) == *name;
-                    deps.push(Dependency { kind, number })?;
-                }
-                None => same = false,
-            }
-        }
-        Ok(same)
+// A unit with these dependencies: itself, where it has them already.
+fn with_dependencies(
+    alloc: Global,
+    unit: Shared<Unit>,
+    deps: Items<DependencyList>,
+) -> Result<Shared<Unit>, AllocError>
+    ensures unit { IfOk result (λ made. made ≡ record unit { deps = deps }) }
+{
+    if unit.get().deps == deps {
+        return Ok(unit);
     }
-
-    // The main names of names, but for the unit's.
-    fn mains_of(
-        &self,
-        alloc: Global,
-        unit: &UnitName,
-        names: &[UnitName],
-    ) -> Result<Vec<UnitName>, AllocError>
-        ensures mains { IfOk result (λ mains. mains.items ≡ other_mains self.now unit.now names.now) }
-    {
-        let mut mains = Vec::new(alloc);
-        for name in names {
-            if let Some(number) = self.other(unit, name) {
-                mains.push(self.name(number).try_clone()?)?;
-            }
-        }
-        Ok(mains)
-    }
+    let mut copy = unit.get().try_clone()?;
+    copy.deps = deps;
+    Shared::new(alloc, copy)
 }
 
 // Names in byte order, each with the number of its main name.
@@ -220,21 +222,21 @@ fn main_numbers(
 {
     let mut numbers = Vec::with_capacity(alloc, names.len())?;
     for (number, (name, kept)) in names.iter().enumerate() {
-        let main = main_number(names, number, kept.load());
+        let main = main_number(names, number, kept);
         numbers.push((name.try_clone()?, main))?;
     }
     Ok(numbers)
 }
 
 // The number of the main name of the name that has a number, by what that stands for.
-fn main_number(names: &[(UnitName, Kept)], number: usize, load: &NameLoad) -> usize
+fn main_number(names: &[(UnitName, Kept)], number: usize, kept: &Kept) -> usize
     requires sorted { IsTrue (is_sorted name_cmp names.now) }
     requires number { number < length names.now }
-    ensures main { IsMainNumber names.now (name_of names.now number, load.now) result }
+    ensures main { IsMainNumber names.now (name_of names.now number, kept.now) result }
 {
-    match load {
-        NameLoad::Unit(_) => number,
-        NameLoad::Alias(main) => match seek(names, main) {
+    match kept.main() {
+        None => number,
+        Some(main) => match seek(names, main) {
             Ok(at) => at,
             Err(_) => number,
         },

@@ -9,7 +9,7 @@ use crate::kinds::DepKind;
 use crate::notes::{SettingNote, SettingNoteKind};
 use crate::word_names::named_by;
 use crate::words::words;
-use plain_values::{Bytes, Items};
+use plain_values::{Bytes, Items, TryClone};
 use std::alloc::{AllocError, Global};
 use unit_name::UnitName;
 
@@ -23,6 +23,16 @@ pub struct DependencyList {
     pub kind: DepKind,
     /// The units' names in byte order, each once.
     pub names: Items<UnitName>,
+}
+
+/// An equal list, whose names share their bytes.
+impl TryClone for DependencyList {
+    fn try_clone(&self) -> Result<DependencyList, AllocError> {
+        Ok(DependencyList {
+            kind: self.kind,
+            names: self.names.try_clone()?,
+        })
+    }
 }
 
 /// The units that a unit's settings name.

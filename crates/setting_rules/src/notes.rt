@@ -3,7 +3,8 @@ ghost use Rattle.std.specs.Prelude.{◌≡◌};
 ghost use Rattle.setting_rules.specs.Notes.{code_of};
 
 use crate::keys::SettingKey;
-use plain_values::Bytes;
+use plain_values::{Bytes, TryClone};
+use std::alloc::AllocError;
 use std::fmt;
 
 /// Why a value, or a word of one, counts for nothing.
@@ -55,6 +56,17 @@ pub struct SettingNote {
     pub key: Bytes,
     /// What is wrong with it.
     pub kind: SettingNoteKind,
+}
+
+/// An equal note, whose texts share their bytes.
+impl TryClone for SettingNote {
+    fn try_clone(&self) -> Result<SettingNote, AllocError> {
+        Ok(SettingNote {
+            section: self.section.try_clone()?,
+            key: self.key.try_clone()?,
+            kind: self.kind,
+        })
+    }
 }
 
 impl SettingNote {

@@ -5,7 +5,7 @@ ghost use Rattle.setting_rules.specs.Rows.{is_dependency, rows_at, escape_notes_
 use crate::expansions::expanded;
 use crate::keys::SettingKey;
 use crate::notes::{SettingNote, SettingNoteKind};
-use plain_values::{Bytes, Items};
+use plain_values::{Bytes, Items, TryClone};
 use std::alloc::{AllocError, Global};
 use unit_name::UnitName;
 
@@ -18,6 +18,17 @@ pub struct Row {
     pub key: Bytes,
     /// The value.
     pub value: Bytes,
+}
+
+/// An equal row, whose texts share their bytes.
+impl TryClone for Row {
+    fn try_clone(&self) -> Result<Row, AllocError> {
+        Ok(Row {
+            section: self.section.try_clone()?,
+            key: self.key.try_clone()?,
+            value: self.value.try_clone()?,
+        })
+    }
 }
 
 /// The values of a unit's keys.

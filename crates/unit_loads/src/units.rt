@@ -1,10 +1,11 @@
 //! What a unit is, once it is loaded.
 
 use fragment_choice::Cause;
-use plain_values::Items;
+use plain_values::{Items, TryClone};
 use replica_store::Place;
 use section_reader::Note;
 use setting_rules::{DependencyList, Row, SettingNote};
+use std::alloc::AllocError;
 use unit_name::UnitName;
 
 /// What stands for a unit (systemd.unit(5), "Unit File Load Path").
@@ -20,6 +21,17 @@ pub enum Status {
     Bad(Cause),
 }
 
+impl TryClone for Status {
+    fn try_clone(&self) -> Result<Status, AllocError> {
+        Ok(match self {
+            Status::Loaded(place) => Status::Loaded(place.try_clone()?),
+            Status::NotFound => Status::NotFound,
+            Status::Masked => Status::Masked,
+            Status::Bad(cause) => Status::Bad(*cause),
+        })
+    }
+}
+
 /// What is wrong in a unit's files, or with what they set.
 #[derive(Debug, PartialEq, Eq, Drop)]
 pub enum UnitNote {
@@ -27,6 +39,15 @@ pub enum UnitNote {
     File(Place, Note),
     /// With a value, a word of one, or a link's name.
     Setting(SettingNote),
+}
+
+impl TryClone for UnitNote {
+    fn try_clone(&self) -> Result<UnitNote, AllocError> {
+        Ok(match self {
+            UnitNote::File(place, note) => UnitNote::File(place.try_clone()?, *note),
+            UnitNote::Setting(note) => UnitNote::Setting(note.try_clone()?),
+        })
+    }
 }
 
 /// A unit of a store. One that isn't loaded has no drop-ins, values or notes, and names no other.
@@ -48,4 +69,20 @@ pub struct Unit {
     pub notes: Items<UnitNote>,
     /// Whether it refuses that a person starts it.
     pub manual: bool,
+}
+
+/// An equal unit, whose texts share their bytes. Linear in its lists.
+impl TryClone for Unit {
+    fn try_clone(&self) -> Result<Unit, AllocError> {
+        Ok(Unit {
+            name: self.name.try_clone()?,
+            names: self.names.try_clone()?,
+            status: self.status.try_clone()?,
+            dropins: self.dropins.try_clone()?,
+            values: self.values.try_clone()?,
+            deps: self.deps.try_clone()?,
+            notes: self.notes.try_clone()?,
+            manual: self.manual,
+        })
+    }
 }

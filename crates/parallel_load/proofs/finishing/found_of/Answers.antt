@@ -2,7 +2,7 @@ use Rattle.std.proofs.Common.{◌∙◌, List, IsTrue, subst, sym}
 use Rattle.std.specs.FinMap.{is_sorted}
 use Rattle.unit_name.specs.Names.{Name, name_cmp}
 use Rattle.parallel_load.specs.declared.loaded.NameLoad.{NameLoad}
-use Rattle.parallel_load.specs.Settled.{AreNumbered}
+use Rattle.parallel_load.specs.Numbering.{AreNumbered}
 use Rattle.parallel_load.specs.UniverseLaws.{sorted_from}
 use Rattle.parallel_load.proofs.finishing.found_of.Goals as goal
 

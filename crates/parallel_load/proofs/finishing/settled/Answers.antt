@@ -1,19 +1,17 @@
 use Rattle.std.proofs.Common.{◌≡◌, List, subst, sym}
-use Rattle.std.proofs.lemmas.Result.{IfOk-weaker}
+use Rattle.std.proofs.lemmas.Result.{IfOk-both, IfOk-weaker}
 use Rattle.unit_name.specs.Names.{Name}
 use Rattle.parallel_load.specs.declared.loaded.NameLoad.{NameLoad}
-use Rattle.parallel_load.specs.Settled.{AreSettled, name_loads}
 use Rattle.parallel_load.specs.UniverseLaws.{sorted_from}
-use Rattle.parallel_load.proofs.Numbering.{is_ready}
+use Rattle.parallel_load.proofs.Numbering.{is_ready, settled_load}
 use Rattle.parallel_load.proofs.finishing.settled.Goals as goal
 
 pub load_of-requires : goal.load_of-requires
 load_of-requires c =
     let ready = is_ready c.args.found.entries _ _ c.in_ok-names.names.items (sorted_from c.args.found.entries c.requires.rising) c.requires.whole c.in_ok-pairs.ensures.mains c.in_ok-pairs.ensures.pairs c.in_ok-names.ensures.names in
-    record { sorted = ready.sorted; rows = ready.rows }
+    record { kept = ready.kept }
 
 pub returns-clause-names : goal.returns-clause-names
 returns-clause-names c =
     let ready = is_ready c.args.found.entries _ _ c.in_ok-names.names.items (sorted_from c.args.found.entries c.requires.rising) c.requires.whole c.in_ok-pairs.ensures.mains c.in_ok-pairs.ensures.pairs c.in_ok-names.ensures.names in
-    IfOk-weaker c.load_of.result (λ load. load.names ≡ name_loads c.in_ok-names.names.items) (λ load. AreSettled c.args.found.entries load.names)
-    (λ load e. subst (λ (names : List (Name × NameLoad)). AreSettled c.args.found.entries names) (sym e) ready.settled) c.load_of.ensures.names
+    settled_load c.args.found.entries c.in_ok-names.names.items ready.settled c.load_of.result c.load_of.ensures.names c.load_of.ensures.named

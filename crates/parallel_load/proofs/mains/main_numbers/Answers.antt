@@ -4,7 +4,7 @@ use Rattle.unit_name.specs.Names.{Name}
 use Rattle.parallel_load.specs.declared.loaded.NameLoad.{NameLoad}
 use Rattle.parallel_load.specs.KeyLaws.{key_at_place}
 use Rattle.parallel_load.specs.Numbers.{name_of}
-use Rattle.parallel_load.specs.Settled.{AreNumbered, IsMainNumber}
+use Rattle.parallel_load.specs.Numbering.{AreNumbered, IsMainNumber}
 use Rattle.parallel_load.proofs.Numbering.{none_numbered, numbered_more}
 use Rattle.parallel_load.proofs.mains.main_numbers.Goals as goal
 
@@ -16,11 +16,10 @@ loop-number-preserved c =
     let names : List (Name × NameLoad) = c.args.names.now in
     let i = c.loop-number.number in
     let x : Name × NameLoad = c.index-names-number.result in
-    let load : NameLoad = c.load.result.now in
+    let load : NameLoad = x.1 in
     let main = c.main_number-main.result in
     let key : name_of names i ≡ x.0 = sym (key_at_place names i x [] c.loop-number-test.true) ∙ ap (λ (p : Name × NameLoad). p.0) (sym c.index-names-number.is) in
     let first : (let p : Name × NameLoad = (name_of names i, load) in p) ≡ (x.0, load) = ap (λ (n : Name). let p : Name × NameLoad = (n, load) in p) key in
-    let second : (let p : Name × NameLoad = (x.0, load) in p) ≡ x = ap (λ (one : NameLoad). let p : Name × NameLoad = (x.0, one) in p) c.load.ensures.load in
     let M : Name × NameLoad → Type 0 = λ p. IsMainNumber names p main in
     let m : Name × ℕ = (c.in_ok-try_clone.field-0, main) in
     let more : take (i + 1) names ≡ take i names ++ x ∷ [] =
@@ -28,7 +27,7 @@ loop-number-preserved c =
     let P : List (Name × NameLoad) → Type 0 = λ ps. AreNumbered names ps c.push.new.self.items in
     let Q : List (Name × ℕ) → Type 0 = λ ns. AreNumbered names (take i names ++ x ∷ []) ns in
     subst P (sym more) (subst Q (sym c.in_ok-push.ensures.items)
-    (numbered_more names (take i names) c.loop-number.numbers.items x m c.loop-number.invariant c.in_ok-try_clone.ensures.copy (subst M second (subst M first c.main_number-main.ensures.main))))
+    (numbered_more names (take i names) c.loop-number.numbers.items x m c.loop-number.invariant c.in_ok-try_clone.ensures.copy (subst M first c.main_number-main.ensures.main)))
 
 pub returns : goal.returns
 returns c =

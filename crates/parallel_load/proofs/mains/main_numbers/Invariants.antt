@@ -1,5 +1,5 @@
 use Rattle.std.proofs.Common.{take}
-use Rattle.parallel_load.specs.Settled.{AreNumbered}
+use Rattle.parallel_load.specs.Numbering.{AreNumbered}
 use Rattle.parallel_load.proofs.mains.main_numbers.Given as goal
 
 abbrev pub invariant-loop-number : goal.invariant-loop-number

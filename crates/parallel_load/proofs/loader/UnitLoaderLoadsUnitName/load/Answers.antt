@@ -7,8 +7,7 @@ use Rattle.fragment_choice.specs.Resolutions.{resolution}
 use Rattle.fragment_choice.specs.ResolutionLaws.{mains_are_their_own}
 use Rattle.unit_loads.specs.Units.{IsUnit}
 use Rattle.parallel_load.specs.declared.loaded.NameLoad.TheVariants.{Unit as OfUnit, Alias as OfAlias}
-use Rattle.parallel_load.specs.Alone.{IsLoadAlone}
-use Rattle.parallel_load.specs.Loads.{IsAliasOf}
+use Rattle.parallel_load.specs.Alone.{IsAliasOf, IsLoadAlone}
 use Rattle.parallel_load.proofs.loader.UnitLoaderLoadsUnitName.load.Goals as goal
 
 differ : false ≡ true → ⊥
@@ -27,8 +26,8 @@ returns-in_ok-unit c =
     let is = subst (λ (n : Name). IsUnit s n c.in_ok-unit.unit) same c.in_ok-unit.ensures.unit in
     record {
       loaded =
-          IfOk-weaker c.new.result (λ one. one ≡ OfUnit c.in_ok-unit.unit) (λ one. IsLoadAlone s c.args.node.now one)
-          (λ one e. subst (IsLoadAlone s c.args.node.now) (sym e) is) c.new.ensures.kept;
+          IfOk-weaker c.fresh.result (λ one. one ≡ OfUnit c.in_ok-unit.unit) (λ one. IsLoadAlone s c.args.node.now one)
+          (λ one e. subst (IsLoadAlone s c.args.node.now) (sym e) is) c.fresh.ensures.kept;
     }
 
 pub returns-else-eq : goal.returns-else-eq
@@ -40,7 +39,5 @@ returns-else-eq c =
       other = λ f. differ (sym c.if-eq.false ∙ c.eq.ensures ∙ (name_eq-Decides c.in_ok-resolved.resolved.main c.args.node.now).1 f);
     } in
     record {
-      loaded =
-          IfOk-weaker c.new-else-eq.result (λ one. one ≡ OfAlias c.in_ok-resolved.resolved.main) (λ one. IsLoadAlone s c.args.node.now one)
-          (λ one e. subst (IsLoadAlone s c.args.node.now) (sym e) is) c.new-else-eq.ensures.kept;
+      loaded = subst (IsLoadAlone s c.args.node.now) (sym c.alias.ensures.kept) is;
     }

@@ -4,18 +4,18 @@ use Rattle.sorted_pairs.specs.PlaceLaws.{find_at, find_gap}
 use Rattle.unit_name.specs.Names.{Name, name_cmp}
 use Rattle.parallel_load.specs.declared.loaded.NameLoad.{NameLoad}
 use Rattle.parallel_load.specs.Loads.{LoadMap, load_at}
-use Rattle.parallel_load.proofs.loaded.Loaded.into_load.Goals as goal
+use Rattle.parallel_load.proofs.loaded.Loaded.stands_for.Goals as goal
 
 pub returns-in-Ok : goal.returns-in-Ok
 returns-in-Ok c = record {
   load =
-      ap (λ (x : Name × NameLoad). Some x.1) c.swap_remove.ensures.value
-      ∙ sym (find_at name_cmp c.args.name.now _ c.in-Ok.at c.swap_remove.result (rw c.deref.ensures.value at c.in-Ok.ensures.found))
+      ap (λ (x : Name × NameLoad). Some x.1) c.index.ensures
+      ∙ sym (find_at name_cmp c.args.name.now _ c.in-Ok.at c.index.result.now (rw c.deref.ensures.value at c.in-Ok.ensures.found))
       ∙ ap (λ (l : LoadMap). load_at l c.args.name.now) c.self.view_is;
 }
 
-pub returns : goal.returns
-returns c = record {
+pub returns-in-Err : goal.returns-in-Err
+returns-in-Err c = record {
   load =
       sym (find_gap name_cmp c.args.name.now nat_list_cmp_total _ _ c.self.invariant.sorted (rw c.deref.ensures.value at c.in-Err.ensures.absent))
       ∙ ap (λ (l : LoadMap). load_at l c.args.name.now) c.self.view_is;
