@@ -14,7 +14,9 @@ returns-clause-rising c =
     let all : differing c.of.result ≡ changed_in c.args.self.now c.args.older.now =
     ap differing (c.of.ensures.shown ∙ (λ i. together (c.entries.ensures.entries i) (c.entries-2.ensures.entries i))) in
     IfOk-weaker c.differing.result (λ places. places.items ≡ differing c.of.result) (λ places. IsStrictlySortedBy place_cmp places.items)
-    (λ places e. subst (λ (ps : List PlaceParts). IsStrictlySortedBy place_cmp ps) (sym (e ∙ all)) (changed_rises c.args.self.now c.args.older.now)) c.differing.ensures.places
+    (λ places e. subst (λ (ps : List PlaceParts). IsStrictlySortedBy place_cmp ps) (sym (e ∙ all))
+    (changed_rises c.args.self.now c.args.older.now))
+    c.differing.ensures.places
 
 pub returns-clause-exact : goal.returns-clause-exact
 returns-clause-exact c =
@@ -22,7 +24,9 @@ returns-clause-exact c =
     ap differing (c.of.ensures.shown ∙ (λ i. together (c.entries.ensures.entries i) (c.entries-2.ensures.entries i))) in
     IfOk-weaker c.differing.result (λ places. places.items ≡ differing c.of.result)
     (λ places. (p : PlaceParts) → IsAmong p places.items ↔ (visible_at c.args.self.now p ≢ visible_at c.args.older.now p))
-    (λ places e p. subst (λ (ps : List PlaceParts). IsAmong p ps ↔ (visible_at c.args.self.now p ≢ visible_at c.args.older.now p)) (sym (e ∙ all)) (changed_exact c.args.self.now c.args.older.now p)) c.differing.ensures.places
+    (λ places e p. subst (λ (ps : List PlaceParts). IsAmong p ps ↔ (visible_at c.args.self.now p ≢ visible_at c.args.older.now p))
+    (sym (e ∙ all)) (changed_exact c.args.self.now c.args.older.now p))
+    c.differing.ensures.places
 
 pub returns-clause-without_memory : goal.returns-clause-without_memory
 returns-clause-without_memory c same =
