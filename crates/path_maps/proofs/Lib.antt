@@ -12,3 +12,4 @@ pub mod Merges
 pub mod Singles
 pub mod Removals
 pub mod Scopes
+pub mod Differing

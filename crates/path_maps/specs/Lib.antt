@@ -16,3 +16,5 @@ pub mod Views
 pub mod Sights
 pub mod ViewLaws
 pub mod SeenLaws
+pub mod Together
+pub mod DifferenceLaws

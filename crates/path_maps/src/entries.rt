@@ -87,6 +87,15 @@ impl<'a> PathEntry<'a> {
         path.rank().cmp(&self.rank).then(within)
     }
 
+    // Where its path stands: before that of another entry, at it, or behind it.
+    pub(crate) fn cmp_path(&self, other: &PathEntry<'_>) -> Ordering
+        ensures order { result ≡ path_cmp self.now.0 other.now.0 }
+    {
+        let within = order(self.folder.as_slice(), other.folder.as_slice());
+        let within = within.then(order(self.name.as_slice(), other.name.as_slice()));
+        self.rank.cmp(&other.rank).then(within)
+    }
+
     /// The entry. It takes no memory.
     pub fn entry(&self) -> &'a Entry
         ensures entry { result.now ≡ self.now.1 }

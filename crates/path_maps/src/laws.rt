@@ -1,4 +1,5 @@
-//! Laws on what is looked at, for all stores and hosts.
+//! Laws on what is looked at and on what differs, for all stores and hosts.
+ghost use Rattle.path_maps.specs.DifferenceLaws.{ChangedOrSame};
 ghost use Rattle.path_maps.specs.SeenLaws.{HostsWithoutPlacesSeeTheFleets, OthersArentLookedAt, PlacesAreSeen, WhatIsSeenHasAPlace};
 
 /// A place with a level is seen at it, and what is seen has a place. What stands at a place without a level, which is
@@ -8,4 +9,10 @@ pub fn seen_laws()
     ensures seen { WhatIsSeenHasAPlace }
     ensures others { OthersArentLookedAt }
     ensures without { HostsWithoutPlacesSeeTheFleets }
+{}
+
+/// Where some places are just those at which what is visible in two stores differs, every place is one of them or shows
+/// the same in both.
+pub fn difference_laws()
+    ensures changed { ChangedOrSame }
 {}

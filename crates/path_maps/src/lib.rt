@@ -17,8 +17,9 @@ mod places;
 mod places_beside;
 mod seen;
 mod stores;
+mod together;
 
-pub use laws::seen_laws;
+pub use laws::{difference_laws, seen_laws};
 pub use places::{Entries, Placed};
 pub use places_beside::Beside;
 pub use seen::{Seen, SeenEntries, SeenEntry};

@@ -85,6 +85,15 @@ impl<'a> Placed<'a> {
             .then(self.entry.order_of(&place.path))
     }
 
+    // Where its place stands: before that of another entry, at it, or behind it.
+    pub(crate) fn cmp_place(&self, other: &Placed<'_>) -> Ordering
+        ensures order { result ≡ place_cmp self.now.0 other.now.0 }
+    {
+        self.scope
+            .cmp(other.scope)
+            .then(self.entry.cmp_path(&other.entry))
+    }
+
     /// The entry. It takes no memory.
     pub fn entry(&self) -> &'a Entry
         ensures entry { result.now ≡ self.now.1 }

@@ -1,8 +1,11 @@
 //! Stores.
-ghost use Rattle.std.specs.Prelude.{◌≡◌, ◌≤◌, ◌↔◌, ◌+◌, None, IsTrue, IsSome, IsOk, IfOk, OnOk, OnErr, IfErr, filter, is_some, map};
+ghost use Rattle.std.specs.Prelude.{◌≡◌, ◌≢◌, ◌≤◌, ◌↔◌, ◌+◌, None, IsTrue, IsSome, IsOk, IfOk, OnOk, OnErr, IfErr, filter, is_some, map};
 ghost use Rattle.std.specs.Bool.{OnTrue, OnFalse};
 ghost use Rattle.std.specs.Option.{option_copied};
+ghost use Rattle.std.specs.List.Sorted.{IsStrictlySortedBy};
 ghost use Rattle.std.specs.FinMap as finmap;
+ghost use Rattle.list_laws.specs.Members.{IsAmong};
+ghost use Rattle.load_places.specs.Places.{PlaceParts, place_cmp};
 ghost use Rattle.edit_sums.specs.declared.contents.Content.TheVariants.{Gone};
 ghost use Rattle.edit_sums.specs.Flat.{at_fleet};
 ghost use Rattle.edit_sums.specs.Sums.{changed_places, high_of, join, sum_of, visible_at, with_edit, IsStoreBelow};
@@ -19,6 +22,7 @@ use crate::look_ups::host_at;
 use crate::places::Entries;
 use crate::places_beside::Beside;
 use crate::seen::{Own, Seen};
+use crate::together::Together;
 use edit_sums::{Content, Edit, Entry, FlatEdit};
 use join_law::{
     AddAt, AddValue, Addition, Change, ChangeAt, Join, JoinMap, Overwrite, Rest, Version, Versioned,
@@ -207,6 +211,20 @@ impl Store {
         ensures within { finmap.len self.now ≤ u64.MAX }
     {
         Beside::of_scopes(&self.scopes, &other.scopes)
+    }
+
+    /// The places at which something else is visible than in an older store, in place order: where a content was put, made
+    /// another or removed since. A content that only has another version is none, nor is a removal where nothing was visible.
+    ///
+    /// It reads both once: linear in the places that both hold, and in the bytes of contents that stand in both. It fails for
+    /// want of memory alone, where the list grows, and copies no bytes.
+    pub fn changed(&self, older: &Store) -> Result<Vec<Place>, AllocError>
+        ensures rising { IfOk result (λ places. IsStrictlySortedBy place_cmp places.items) }
+        ensures exact { IfOk result (λ places. (p : PlaceParts) →
+            IsAmong p places.items ↔ (visible_at self.now p ≢ visible_at older.now p)) }
+        ensures without_memory { ((p : PlaceParts) → visible_at self.now p ≡ visible_at older.now p) → IsOk result }
+    {
+        Together::of(self.entries(), older.entries()).differing(self.allocator())
     }
 
     /// Whether both hold the same. Linear, without memory.

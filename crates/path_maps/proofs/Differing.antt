@@ -1,0 +1,291 @@
+-- The list of two stores' places rises and has at each what both show; so the places where that differs are those of the stores.
+use Rattle.std.proofs.Common.{◌≡◌, Bool, true, false, cond, List, [], ◌∷◌, Option, Some}
+use Rattle.std.proofs.Common.{None, IsTrue, refl, sym, ap, subst, ◌∙◌, inl, inr, map}
+use Rattle.std.specs.Prelude.{◌≢◌, ◌↔◌, ◌&&◌, not, filter}
+use Rattle.std.specs.Option.{option_and_then}
+use Rattle.std.specs.Ordering.{eq_by_cmp, is_lt, match_ordering, ordering_reverse}
+use Rattle.std.specs.declared.cmp.Ordering.{Ordering}
+use Rattle.std.specs.declared.cmp.Ordering.TheVariants.{Less, Equal, Greater}
+use Rattle.std.specs.FinMap as finmap
+use Rattle.std.specs.FinMap.Entries.{find, is_sorted, below_all}
+use Rattle.std.specs.List.{AllByRecursion}
+use Rattle.std.specs.List.Sorted.{IsStrictlySortedBy}
+use Rattle.std.proofs.lemmas.Bool.{and_parts}
+use Rattle.list_laws.specs.Members.{IsAmong}
+use Rattle.list_laws.specs.Orderings.{is_less}
+use Rattle.list_laws.specs.Truths.{from_T}
+use Rattle.load_places.specs.Places.{PlaceParts, place_cmp}
+use Rattle.load_places.specs.PlaceLaws.{place_cmp_total, place_cmp-IsAntisymmetric}
+use Rattle.edit_sums.specs.declared.contents.Content.{Content}
+use Rattle.edit_sums.specs.Entries.{Entry}
+use Rattle.edit_sums.specs.GreatestLaws.{same_place, tied}
+use Rattle.edit_sums.specs.Sums.{EntryMap, shown, visible_at}
+use Rattle.path_maps.specs.SpreadLaws.{find_below}
+use Rattle.path_maps.specs.DifferenceLaws.{same_contents, same_contents-true, same_contents-itself}
+use Rattle.path_maps.specs.Together.{Contents, Shown, only_new, only_old, of_both, first_beside, together, differ, differing}
+use Rattle.path_maps.proofs.Rises.{found_entry}
+
+abbrev Placed : Type 0
+Placed = PlaceParts × Entry
+
+abbrev IsAbove : {X : Type 0} → PlaceParts → List (PlaceParts × X) → Type 0
+IsAbove k es = IsTrue (below_all place_cmp k es)
+
+abbrev AreSorted : {X : Type 0} → List (PlaceParts × X) → Type 0
+AreSorted es = IsTrue (is_sorted place_cmp es)
+
+both : (a b : Bool) → IsTrue a → IsTrue b → IsTrue (a && b)
+both true b p q = q
+both false b p q = cc (p)
+
+above_less : {X : Type 0} (k l : PlaceParts) (es : List (PlaceParts × X)) → place_cmp k l ≡ Less → IsAbove l es → IsAbove k es
+above_less k l [] less h = refl
+above_less k l (e ∷ es) less h =
+    let p = and_parts _ _ h in
+    both _ _ (ap is_lt (place_cmp_total.trans k l e.0 less (is_less _ p.0))) (above_less k l es less p.1)
+
+above_first : {X : Type 0} (k : PlaceParts) (e : PlaceParts × X) (es : List (PlaceParts × X))
+    → place_cmp k e.0 ≡ Less → IsAbove e.0 es → IsAbove k (e ∷ es)
+above_first k e es less h = both _ _ (ap is_lt less) (above_less k e.0 es less h)
+
+turned : (k l : PlaceParts) → place_cmp k l ≡ Greater → place_cmp l k ≡ Less
+turned k l h = place_cmp_total.antisymm l k ∙ ap ordering_reverse h
+
+-- ---- the list rises
+
+above_olds : (k : PlaceParts) (fs : List Placed) → IsAbove k fs → IsAbove k (map only_old fs)
+above_olds k [] h = refl
+above_olds k (f ∷ fs) h = let p = and_parts _ _ h in both _ _ p.0 (above_olds k fs p.1)
+
+above_beside : (k : PlaceParts) (e : Placed) (rest : List Placed → List Shown)
+    → ((fs : List Placed) → IsAbove k fs → IsAbove k (rest fs)) → IsTrue (is_lt (place_cmp k e.0))
+    → (fs : List Placed) → IsAbove k fs → IsAbove k (first_beside e rest fs)
+above_beside k e rest more less [] h = both _ _ less (more [] refl)
+above_beside k e rest more less (f ∷ fs) h = by (place_cmp e.0 f.0) (above_beside k e rest more less fs (and_parts _ _ h).1)
+  where
+    by : (r : Ordering) → IsAbove k (first_beside e rest fs)
+        → IsAbove k (match_ordering r (only_new e ∷ rest (f ∷ fs)) (of_both e f ∷ rest fs) (only_old f ∷ first_beside e rest fs))
+    by Less a = both _ _ less (more (f ∷ fs) h)
+    by Equal a = both _ _ less (more fs (and_parts _ _ h).1)
+    by Greater a = both _ _ (and_parts _ _ h).0 a
+
+above_together : (k : PlaceParts) (es fs : List Placed) → IsAbove k es → IsAbove k fs → IsAbove k (together es fs)
+above_together k [] fs a b = above_olds k fs b
+above_together k (e ∷ es) fs a b =
+    let p = and_parts _ _ a in
+    above_beside k e (together es) (λ gs c. above_together k es gs p.1 c) p.0 fs b
+
+sorted_olds : (fs : List Placed) → AreSorted fs → AreSorted (map only_old fs)
+sorted_olds [] s = refl
+sorted_olds (f ∷ fs) s = let p = and_parts _ _ s in both _ _ (above_olds f.0 fs p.0) (sorted_olds fs p.1)
+
+module _ (e : Placed) (es : List Placed) (above : IsAbove e.0 es) where
+  sorted_beside : ((fs : List Placed) → AreSorted fs → AreSorted (together es fs))
+      → (fs : List Placed) → AreSorted fs → AreSorted (together (e ∷ es) fs)
+  sorted_beside more [] s = both _ _ (above_together e.0 es [] above refl) (more [] refl)
+  sorted_beside more (f ∷ fs) s = by (place_cmp e.0 f.0) refl (sorted_beside more fs p.1)
+    where
+      p : IsAbove f.0 fs × AreSorted fs
+      p = and_parts _ _ s
+
+      by : (r : Ordering) → place_cmp e.0 f.0 ≡ r → AreSorted (together (e ∷ es) fs)
+          → AreSorted (match_ordering r (only_new e ∷ together es (f ∷ fs)) (of_both e f ∷ together es fs)
+          (only_old f ∷ together (e ∷ es) fs))
+      by Less o rest = both _ _ (above_together e.0 es (f ∷ fs) above (above_first e.0 f fs o p.0)) (more (f ∷ fs) s)
+      by Equal o rest =
+          let here = place_cmp-IsAntisymmetric e.0 f.0 o in
+          both _ _ (above_together e.0 es fs above (subst (λ k. IsAbove k fs) (sym here) p.0)) (more fs p.1)
+      by Greater o rest = both _ _ (above_together f.0 (e ∷ es) fs (above_first f.0 e es (turned e.0 f.0 o) above) p.0) rest
+
+sorted_together : (es fs : List Placed) → AreSorted es → AreSorted fs → AreSorted (together es fs)
+sorted_together [] fs s t = sorted_olds fs t
+sorted_together (e ∷ es) fs s t = let p = and_parts _ _ s in sorted_beside e es p.0 (λ gs u. sorted_together es gs p.1 u) fs t
+
+-- ---- at each place stands what both show
+
+abbrev or_none : Option Contents → Contents
+or_none None = (None, None)
+or_none (Some c) = c
+
+module _ (q : PlaceParts) where
+  abbrev contents_in : List Shown → Contents
+  contents_in ss = or_none (find place_cmp q ss)
+
+  abbrev visible_in : List Placed → Option Content
+  visible_in es = option_and_then shown (find place_cmp q es)
+
+  -- there the list has what each shows
+  abbrev ShowsBoth : List Placed → List Placed → Type 0
+  ShowsBoth es fs = contents_in (together es fs) ≡ (visible_in es, visible_in fs)
+
+  shown_olds : (fs : List Placed) → contents_in (map only_old fs) ≡ (None, visible_in fs)
+  shown_olds [] = refl
+  shown_olds (f ∷ fs) =
+      elim (eq_by_cmp place_cmp q f.0) as (λ b. or_none (cond b (Some (None, shown f.1)) (find place_cmp q (map only_old fs)))
+      ≡ (None, option_and_then shown (cond b (Some f.1) (find place_cmp q fs)))) [
+        | true ↦ refl
+        | false ↦ shown_olds fs
+      ]
+
+  -- nothing is visible among places behind the one
+  none_visible : (k : PlaceParts) (es : List Placed) → IsAbove k es → eq_by_cmp place_cmp q k ≡ true → None ≡ visible_in es
+  none_visible k es above t =
+      ap (option_and_then shown) (sym (find_below place_cmp q es (subst (λ l. IsAbove l es) (sym (tied q k t)) above)))
+
+  module _ (e : Placed) (es : List Placed) (above : IsAbove e.0 es) where
+    at_both : (f : Placed) (fs : List Placed) (b c : Bool) → b ≡ c → ShowsBoth es fs
+        → or_none (cond b (Some (shown e.1, shown f.1)) (find place_cmp q (together es fs)))
+        ≡ (option_and_then shown (cond b (Some e.1) (find place_cmp q es)), option_and_then shown (cond c (Some f.1) (find place_cmp q fs)))
+    at_both f fs true true h rest = refl
+    at_both f fs true false h rest = cc (h)
+    at_both f fs false true h rest = cc (h)
+    at_both f fs false false h rest = rest
+
+    at_new : (fs : List Placed) (b : Bool) → (b ≡ true → None ≡ visible_in fs) → ShowsBoth es fs
+        → or_none (cond b (Some (shown e.1, None)) (find place_cmp q (together es fs)))
+        ≡ (option_and_then shown (cond b (Some e.1) (find place_cmp q es)), visible_in fs)
+    at_new fs true none rest = ap (λ (y : Option Content). (shown e.1, y)) (none refl)
+    at_new fs false none rest = rest
+
+    at_old : (f : Placed) (fs : List Placed) (b : Bool) → (b ≡ true → None ≡ visible_in (e ∷ es)) → ShowsBoth (e ∷ es) fs
+        → or_none (cond b (Some (None, shown f.1)) (find place_cmp q (together (e ∷ es) fs)))
+        ≡ (visible_in (e ∷ es), option_and_then shown (cond b (Some f.1) (find place_cmp q fs)))
+    at_old f fs true none rest = ap (λ (y : Option Content). (y, shown f.1)) (none refl)
+    at_old f fs false none rest = rest
+
+    shown_beside : ((fs : List Placed) → AreSorted fs → ShowsBoth es fs) → (fs : List Placed) → AreSorted fs → ShowsBoth (e ∷ es) fs
+    shown_beside more [] s = at_new [] (eq_by_cmp place_cmp q e.0) (λ t. refl) (more [] refl)
+    shown_beside more (f ∷ fs) s = by (place_cmp e.0 f.0) refl (shown_beside more fs p.1)
+      where
+        p : IsAbove f.0 fs × AreSorted fs
+        p = and_parts _ _ s
+
+        by : (r : Ordering) → place_cmp e.0 f.0 ≡ r → ShowsBoth (e ∷ es) fs
+            → contents_in (match_ordering r (only_new e ∷ together es (f ∷ fs)) (of_both e f ∷ together es fs)
+            (only_old f ∷ together (e ∷ es) fs)) ≡ (visible_in (e ∷ es), visible_in (f ∷ fs))
+        by Less o rest =
+            at_new (f ∷ fs) (eq_by_cmp place_cmp q e.0) (λ t. none_visible e.0 (f ∷ fs) (above_first e.0 f fs o p.0) t) (more (f ∷ fs) s)
+        by Equal o rest = at_both f fs _ _ (ap (λ k. eq_by_cmp place_cmp q k) (place_cmp-IsAntisymmetric e.0 f.0 o)) (more fs p.1)
+        by Greater o rest =
+            at_old f fs (eq_by_cmp place_cmp q f.0) (λ t. none_visible f.0 (e ∷ es) (above_first f.0 e es (turned e.0 f.0 o) above) t) rest
+
+  shown_together : (es fs : List Placed) → AreSorted es → AreSorted fs → ShowsBoth es fs
+  shown_together [] fs s t = shown_olds fs
+  shown_together (e ∷ es) fs s t = let p = and_parts _ _ s in shown_beside e es p.0 (λ gs u. shown_together es gs p.1 u) fs t
+
+-- ---- where that differs
+
+abbrev unlike : Contents → Bool
+unlike c = not (same_contents c.0 c.1)
+
+-- with one more in front
+module _ (q : PlaceParts) (s : Shown) (ss : List Shown) where
+  abbrev places_with : Bool → List PlaceParts
+  places_with b = map (λ (r : Shown). r.0) (cond b (s ∷ filter differ ss) (filter differ ss))
+
+  abbrev contents_with : Bool → Contents
+  contents_with b = or_none (cond b (Some s.1) (find place_cmp q ss))
+
+  further : (b : Bool) → IsAmong q (differing ss) → IsAmong q (places_with b)
+  further true a = inr a
+  further false a = a
+
+  first_there : (b : Bool) → differ s ≡ b → b ≡ true → s.0 ≡ q → IsAmong q (places_with b)
+  first_there true h t e = inl e
+  first_there false h t e = cc (t)
+
+there : (q : PlaceParts) (ss : List Shown) → unlike (contents_in q ss) ≡ true → IsAmong q (differing ss)
+there q [] h = cc (h)
+there q (s ∷ ss) h = by (eq_by_cmp place_cmp q s.0) refl h (there q ss)
+  where
+    by : (b : Bool) → eq_by_cmp place_cmp q s.0 ≡ b → unlike (contents_with q s ss b) ≡ true
+        → (unlike (contents_in q ss) ≡ true → IsAmong q (differing ss)) → IsAmong q (places_with q s ss (differ s))
+    by true t h more = first_there q s ss (differ s) refl h (sym (tied q s.0 t))
+    by false t h more = further q s ss (differ s) (more h)
+
+back : (q : PlaceParts) (ss : List Shown) → AreSorted ss → IsAmong q (differing ss) → unlike (contents_in q ss) ≡ true
+back q [] s a = absurd a
+back q (s ∷ ss) sorted a = by (differ s) refl a (back q ss p.1)
+  where
+    p : IsAbove s.0 ss × AreSorted ss
+    p = and_parts _ _ sorted
+
+    behind : unlike (contents_in q ss) ≡ true → (b : Bool) → eq_by_cmp place_cmp q s.0 ≡ b → unlike (contents_with q s ss b) ≡ true
+    behind h true t =
+        let none = ap (λ o. unlike (or_none o)) (find_below place_cmp q ss (subst (λ k. IsAbove k ss) (sym (tied q s.0 t)) p.0)) in
+        let wrong : false ≡ true = sym none ∙ h in cc (wrong)
+    behind h false t = h
+
+    by : (b : Bool) → differ s ≡ b → IsAmong q (places_with q s ss b)
+        → (IsAmong q (differing ss) → unlike (contents_in q ss) ≡ true) → unlike (contents_with q s ss (eq_by_cmp place_cmp q s.0)) ≡ true
+    by true d (inl e) more = ap (λ b. unlike (contents_with q s ss b)) (ap (λ k. eq_by_cmp place_cmp k s.0) (sym e) ∙ same_place s.0) ∙ d
+    by true d (inr a) more = behind (more a) (eq_by_cmp place_cmp q s.0) refl
+    by false d a more = behind (more a) (eq_by_cmp place_cmp q s.0) refl
+
+above_differing : (k : PlaceParts) (ss : List Shown) → IsAbove k ss → AllByRecursion (λ l. place_cmp k l ≡ Less) (differing ss)
+above_differing k [] h = tt
+above_differing k (s ∷ ss) h =
+    let p = and_parts _ _ h in
+    let rest = above_differing k ss p.1 in
+    elim (differ s) as (λ b. AllByRecursion (λ l. place_cmp k l ≡ Less) (places_with k s ss b)) [
+      | true ↦ (is_less _ p.0, rest)
+      | false ↦ rest
+    ]
+
+rises : (ss : List Shown) → AreSorted ss → IsStrictlySortedBy place_cmp (differing ss)
+unfolding IsStrictlySortedBy
+rises [] h = tt
+rises (s ∷ ss) h =
+    let p = and_parts _ _ h in
+    let rest = rises ss p.1 in
+    elim (differ s) as (λ b. IsStrictlySortedBy place_cmp (places_with s.0 s ss b)) [
+      | true ↦ (above_differing s.0 ss p.0, rest)
+      | false ↦ rest
+    ]
+
+-- ---- of two stores
+
+module _ (new old : EntryMap) where
+  abbrev pub changed_in : List PlaceParts
+  changed_in = differing (together (finmap.entries new) (finmap.entries old))
+
+  new_sorted : AreSorted (finmap.entries new)
+  new_sorted = from_T _ (finmap.entries_sorted new)
+
+  old_sorted : AreSorted (finmap.entries old)
+  old_sorted = from_T _ (finmap.entries_sorted old)
+
+  all_sorted : AreSorted (together (finmap.entries new) (finmap.entries old))
+  all_sorted = sorted_together (finmap.entries new) (finmap.entries old) new_sorted old_sorted
+
+  pub changed_rises : IsStrictlySortedBy place_cmp changed_in
+  changed_rises = rises (together (finmap.entries new) (finmap.entries old)) all_sorted
+
+  contents_there : (q : PlaceParts)
+      → contents_in q (together (finmap.entries new) (finmap.entries old)) ≡ (visible_at new q, visible_at old q)
+  contents_there q =
+      shown_together q (finmap.entries new) (finmap.entries old) new_sorted old_sorted
+      ∙ (λ i. (option_and_then shown (sym (found_entry new q) i), option_and_then shown (sym (found_entry old q) i)))
+
+  pub changed_exact : (q : PlaceParts) → IsAmong q changed_in ↔ (visible_at new q ≢ visible_at old q)
+  changed_exact q = (forward, backward)
+    where
+      forward : IsAmong q changed_in → visible_at new q ≢ visible_at old q
+      forward a e =
+          let differs = sym (ap unlike (contents_there q)) ∙ back q (together (finmap.entries new) (finmap.entries old)) all_sorted a in
+          let same = ap (λ y. not (same_contents (visible_at new q) y)) (sym e) ∙ ap not (same_contents-itself (visible_at new q)) in
+          let wrong : false ≡ true = sym same ∙ differs in cc (wrong)
+
+      by : (b : Bool) → same_contents (visible_at new q) (visible_at old q) ≡ b → visible_at new q ≢ visible_at old q → IsAmong q changed_in
+      by true h n = absurd (n (same_contents-true _ _ h))
+      by false h n = there q (together (finmap.entries new) (finmap.entries old)) (ap unlike (contents_there q) ∙ ap not h)
+
+      backward : visible_at new q ≢ visible_at old q → IsAmong q changed_in
+      backward n = by _ refl n
+
+  pub nothing_changed : ((q : PlaceParts) → visible_at new q ≡ visible_at old q) → changed_in ≡ []
+  nothing_changed same = empty changed_in (λ q a. (changed_exact q).0 a (same q))
+    where
+      empty : (ps : List PlaceParts) → ((q : PlaceParts) → IsAmong q ps → ⊥) → ps ≡ []
+      empty [] none = refl
+      empty (p ∷ ps) none = absurd (none p (inl refl))
