@@ -16,6 +16,7 @@ mod link_names;
 mod orders;
 mod precedence;
 
+pub use dirs::{name_dirs, type_dirs};
 pub use folder_lists::{UnitFolders, folders};
 pub use laws::{
     folder_laws, host_laws, order_laws, over_laws, precedence_laws, type_folder_laws, type_laws,

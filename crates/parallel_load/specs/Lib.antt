@@ -1,5 +1,6 @@
 pub mod Alone
 pub mod AloneLaws
+pub mod Footprints
 pub mod Found
 pub mod Indexes
 pub mod KeyLaws
@@ -10,8 +11,10 @@ pub mod Loads
 pub mod Numbering
 pub mod Numbers
 pub mod PairLaws
+pub mod Refreshes
 pub mod Refusals
 pub mod Settled
 pub mod Sources
+pub mod Touched
 pub mod Universe
 pub mod UniverseLaws

@@ -180,3 +180,15 @@ impl Kept {
         matches!(&self.held, LoadHeld::Fresh(_))
     }
 }
+
+/// The same again. A unit that was read is copied; what is held of another load is shared.
+impl TryClone for Kept {
+    fn try_clone(&self) -> Result<Kept, AllocError> {
+        let held = match &self.held {
+            LoadHeld::Fresh(unit) => LoadHeld::Fresh(Box::new(*unit.allocator(), unit.try_clone()?)?),
+            LoadHeld::Alias(main) => LoadHeld::Alias(main.try_clone()?),
+            LoadHeld::Unit(unit, lists) => LoadHeld::Unit(unit.try_clone()?, lists.try_clone()?),
+        };
+        Ok(Kept { held })
+    }
+}

@@ -1,5 +1,5 @@
 //! A load: what all names stand for.
-ghost use Rattle.std.specs.Prelude.{◌≡◌, IfOk, map};
+ghost use Rattle.std.specs.Prelude.{◌≡◌, IfOk, IsTrue, length, map};
 ghost use Rattle.std.specs.FinMap.{is_sorted};
 ghost use Rattle.std.specs.Option.{option_copied};
 ghost use Rattle.unit_name.specs.Names.{name_cmp};
@@ -130,6 +130,14 @@ impl Loaded {
         ensures rows { AreDependencyRows self.now.names result.now }
     {
         self.kept.deps.as_slice()
+    }
+
+    /// For each name, in the same order, what it names itself, before main names are put in.
+    pub(crate) fn named(&self) -> &[NamedLists]
+        ensures named { result.now ≡ self.now.named }
+        ensures each { length result.now ≡ length self.now.names }
+    {
+        self.kept.named.as_slice()
     }
 
     /// The unit of a main name. None for an alias, and for a name that isn't in the universe. O(log n), without memory.

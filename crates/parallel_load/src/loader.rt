@@ -2,7 +2,7 @@
 ghost use Rattle.std.specs.Prelude.{◌≡◌, ◌++◌, ◌∷◌, [], IfOk, OnOk};
 ghost use Rattle.std.specs.Option.{option_copied};
 ghost use Rattle.path_maps.specs.Views.{view_of};
-ghost use Rattle.parallel_load.specs.Alone.{names_in_lists};
+ghost use Rattle.parallel_load.specs.Alone.{named_in, names_in_lists};
 
 use crate::kept::Kept;
 use fragment_choice::AliasIndex;
@@ -55,15 +55,22 @@ impl<'a> Loads<UnitName> for UnitLoader<'a> {
     }
 
     fn names(&self, alloc: Global, one: &Kept) -> Result<Vec<UnitName>, AllocError> {
-        let mut names = Vec::new(alloc);
-        add_lists(&mut names, one.lists())?;
-        if let Some(main) = one.main() {
-            names.push(main.try_clone()?)?;
-        }
-        Ok(names)
+        kept_names(alloc, one)
     }
 
     ghost one = { one_alone };
+}
+
+/// The names that must be loaded with what a name stands for. It fails for want of memory alone.
+pub(crate) fn kept_names(alloc: Global, one: &Kept) -> Result<Vec<UnitName>, AllocError>
+    ensures names { IfOk result (λ names. names.items ≡ named_in one.now) }
+{
+    let mut names = Vec::new(alloc);
+    add_lists(&mut names, one.lists())?;
+    if let Some(main) = one.main() {
+        names.push(main.try_clone()?)?;
+    }
+    Ok(names)
 }
 
 // Adds all names in lists of dependencies.

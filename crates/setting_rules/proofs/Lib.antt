@@ -4,7 +4,6 @@ mod MapLemmas
 mod Named
 mod RowLemmas
 mod SameKeys
-mod Sorted
 mod Starts
 mod Steps
 mod Texts

@@ -5,14 +5,15 @@ pub mod FamilyLaws
 pub mod JoinLaws
 pub mod KeyLaws
 pub mod Kinds
-pub mod Places
 pub mod Maps
 pub mod Notes
 pub mod OrderLaws
+pub mod Places
 pub mod ResetLaws
 pub mod Rows
 pub mod Rules
 pub mod Settings
+pub mod SortedLaws
 pub mod SwitchLaws
 pub mod Switches
 pub mod TemplateLaws

@@ -2,7 +2,7 @@ use Rattle.std.proofs.Common.{◌∙◌}
 use Rattle.std.specs.Ordering.{eq_by_cmp}
 use Rattle.std.proofs.lemmas.List.Filters.{dedup_is}
 use Rattle.unit_name.specs.Names.{name_cmp}
-use Rattle.setting_rules.proofs.Sorted.{sorted_is}
+use Rattle.setting_rules.specs.SortedLaws.{sorted_is}
 use Rattle.setting_rules.proofs.dependency_lists.in_byte_order.Goals as goal
 
 pub returns : goal.returns

@@ -1,0 +1,65 @@
+//! The first components of the paths at which what stands for a unit is decided.
+ghost use Rattle.std.specs.Prelude.{◌≡◌, ◌→◌, false, IfOk, IfSome, IsSome};
+ghost use Rattle.std.specs.List.{All};
+ghost use Rattle.std.specs.List.Sorted.{IsStrictlySortedBy};
+ghost use Rattle.unit_name.specs.Names.{name_cmp};
+ghost use Rattle.unit_loads.specs.Footprints.{footprint};
+ghost use Rattle.parallel_load.specs.Footprints.{IsFootprintIn, IsNone};
+ghost use Rattle.parallel_load.specs.Loads.{unit_in};
+
+use crate::loaded::Loaded;
+use dropins::{folders, name_dirs, type_dirs};
+use plain_values::Bytes;
+use std::alloc::{AllocError, Global};
+use unit_name::UnitName;
+
+/// The footprint of a unit of a load, in byte order: the first components of all paths that say something of it while what
+/// names lead to stays. They are its name and its template's, and the `.d`, `.wants` and `.requires` folders of its names,
+/// `.d` alone of their types (systemd.unit(5), "Description"). It fails for want of memory alone.
+pub fn footprint(loaded: &Loaded, name: &UnitName) -> Result<Vec<Bytes>, AllocError>
+    requires unit { IsSome (unit_in loaded.now name.now) }
+    ensures rising { IfOk result (λ parts. IsStrictlySortedBy name_cmp parts.items) }
+    ensures exact { IfOk result (λ parts. IsFootprintIn loaded.now name.now parts.items) }
+{
+    let alloc = loaded.allocator();
+    let Some(unit) = loaded.unit(name) else {
+        return Ok(Vec::new(alloc));
+    };
+    let mut parts = parts_of(alloc, name, unit.names.as_slice())?;
+    parts.sort_unstable();
+    parts.dedup();
+    Ok(parts)
+}
+
+/// The same of a unit of this name and these names, in the order in which they are made.
+pub(crate) fn parts_of(
+    alloc: Global,
+    name: &UnitName,
+    names: &[UnitName],
+) -> Result<Vec<Bytes>, AllocError>
+    ensures parts { IfOk result (λ parts. parts.items ≡ footprint name.now names.now) }
+{
+    let mut parts = Vec::new(alloc);
+    parts.push(Bytes::from_slice(alloc, name.bytes())?)?;
+    if let Some(template) = name.template_of()? {
+        parts.push(Bytes::from_slice(alloc, template.bytes())?)?;
+    }
+    let names = folders(alloc, names)?;
+    parts.append(&mut name_dirs(alloc, &names, b".d")?)?;
+    parts.append(&mut type_dirs(alloc, &names, b".d")?)?;
+    parts.append(&mut name_dirs(alloc, &names, b".wants")?)?;
+    parts.append(&mut name_dirs(alloc, &names, b".requires")?)?;
+    Ok(parts)
+}
+
+/// Whether one of these folders is one of a footprint.
+pub(crate) fn meets(parts: &[Bytes], folders: &[Bytes]) -> bool
+    ensures none { result ≡ false → All (IsNone parts.now) folders.now }
+{
+    for folder in folders {
+        if parts.contains(folder) {
+            return true;
+        }
+    }
+    false
+}
