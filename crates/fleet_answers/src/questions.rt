@@ -3,7 +3,7 @@ ghost use Rattle.std.specs.Prelude.{◌≡◌};
 ghost use Rattle.std.specs.Option.{option_copied};
 ghost use Rattle.fleet_answers.specs.Answers.{host_asked};
 
-use plain_values::Items;
+use plain_values::{Items, Shared};
 use replica_store::HostName;
 use setting_rules::DependencyList;
 use start_plan::{Plan, Refusal, Request};
@@ -44,8 +44,8 @@ impl Question {
 /// A unit with its edges.
 #[derive(Debug, Drop)]
 pub struct LinkedUnit {
-    /// The unit. Its dependencies are told by main names.
-    pub unit: Unit,
+    /// The unit, shared with what was loaded. Its dependencies are told by main names.
+    pub unit: Shared<Unit>,
     /// For each kind, in the order of the kinds, the units to which edges of it lead, in byte order: those that the unit
     /// names, and those that name it by the inverse.
     pub edges: Items<DependencyList>,

@@ -1,11 +1,11 @@
 //! What all that must be loaded of a store comes to.
-ghost use Rattle.std.specs.Prelude.{◌≡◌, ◌↔◌, ◌⊎◌, ◌<◌, Err, IfOk, IfErr, Some};
+ghost use Rattle.std.specs.Prelude.{◌≡◌, ◌↔◌, ◌⊎◌, ◌<◌, Err, IfOk, IfErr, IsSome, Some};
 ghost use Rattle.std.specs.Option.{option_copied};
 ghost use Rattle.path_maps.specs.Views.{view_of};
 ghost use Rattle.parallel_load.specs.Refusals.{OnTooMany, OnWorkers};
 ghost use Rattle.parallel_load.specs.Universe.{IsTooLarge};
 ghost use Rattle.parallel_load.specs.declared.faults.LoadFault.TheVariants.{Workers};
-ghost use Rattle.parallel_load.specs.Loads.{main_in};
+ghost use Rattle.parallel_load.specs.Loads.{main_in, unit_in};
 ghost use Rattle.unit_graph.specs.Graphs.{AreDepths, IsKnown};
 ghost use Rattle.start_plan.specs.Outcomes.{IsPlanned, IsRefusalOf};
 ghost use Rattle.start_plan.specs.Requests.{IsOfGraph};
@@ -13,8 +13,8 @@ ghost use Rattle.fleet_answers.specs.Answers.{AreKnown, IsLinkedUnit, IsPlanTold
 
 use crate::questions::{Answer, LinkedUnit, Question};
 use inverse_deps::{Edges, edges};
-use parallel_load::{Gate, LoadFault, Loaded, load_fleet, load_here};
-use plain_values::Items;
+use parallel_load::{Gate, LoadFault, Loaded, NameLoad, Unit, load_fleet, load_here};
+use plain_values::{Items, Shared, TryClone};
 use replica_store::{HostName, Store};
 use setting_rules::{DepKind, DependencyList};
 use start_plan::{Plan, Refusal, Request, plan};
@@ -108,10 +108,10 @@ impl Snapshot {
     }
 
     /// Answers a question for its host, all of whose names stand for units. It fails for want of memory alone.
-    pub fn answer(self, question: &Question) -> Result<Answer, AllocError>
-        requires host { self.load.host ≡ host_asked question.now }
-        requires known { AreKnown self.load (names_asked question.now) }
-        ensures told { IfOk result (IsTold self question.now) }
+    pub fn answer(&self, question: &Question) -> Result<Answer, AllocError>
+        requires host { self.now.load.host ≡ host_asked question.now }
+        requires known { AreKnown self.now.load (names_asked question.now) }
+        ensures told { IfOk result (IsTold self.now question.now) }
     {
         match question {
             Question::Unit { name, .. } => Ok(Answer::Unit(self.linked_unit(name)?)),
@@ -128,17 +128,14 @@ impl Snapshot {
     }
 
     // The unit for which a name stands, with its edges.
-    fn linked_unit(self, name: &UnitName) -> Result<LinkedUnit, AllocError>
-        requires known { IsKnown self.load name.now }
-        ensures unit { IfOk result (IsLinkedUnit self name.now) }
+    fn linked_unit(&self, name: &UnitName) -> Result<LinkedUnit, AllocError>
+        requires known { IsKnown self.now.load name.now }
+        ensures unit { IfOk result (IsLinkedUnit self.now name.now) }
     {
-        let Snapshot { loaded, edges } = self;
-        let main = main_of(&loaded, name).try_clone()?;
-        let edges = edge_lists(loaded.allocator(), &edges, &main)?;
-        match loaded.into_unit(&main) {
-            Some(unit) => Ok(LinkedUnit { unit, edges }),
-            None => unreachable!(),
-        }
+        let main = main_of(&self.loaded, name);
+        let edges = edge_lists(self.loaded.allocator(), &self.edges, main)?;
+        let unit = shared_unit(&self.loaded, main)?;
+        Ok(LinkedUnit { unit, edges })
     }
 
     // What the unit pulls for which a name stands.
@@ -181,6 +178,17 @@ fn main_of<'a>(loaded: &'a Loaded, name: &UnitName) -> &'a UnitName
     match loaded.main(name) {
         Some(main) => main,
         None => unreachable!(),
+    }
+}
+
+// The unit of a main name of a load, shared with it.
+fn shared_unit(loaded: &Loaded, main: &UnitName) -> Result<Shared<Unit>, AllocError>
+    requires unit { IsSome (unit_in loaded.now main.now) }
+    ensures unit { IfOk result (λ unit. unit_in loaded.now main.now ≡ Some unit) }
+{
+    match loaded.stands_for(main) {
+        Some(NameLoad::Unit(unit)) => unit.try_clone(),
+        Some(NameLoad::Alias(_)) | None => unreachable!(),
     }
 }
 

@@ -18,8 +18,8 @@ use Rattle.unit_loads.specs.NamedUnits.{IsListed}
 use Rattle.parallel_load.specs.declared.loaded.Dependency.{Dependency}
 use Rattle.parallel_load.specs.declared.loaded.NameLoad.{NameLoad}
 use Rattle.parallel_load.specs.declared.loaded.NameLoad.TheVariants.{Unit as OfUnit, Alias as OfAlias}
-use Rattle.parallel_load.specs.Loads.{LoadMap, unit_in, unit_part}
-use Rattle.parallel_load.specs.Numbers.{AreDependenciesOf, AreDependencyRows, lists_in}
+use Rattle.parallel_load.specs.Loads.{LoadMap, lists_in, unit_in, unit_part}
+use Rattle.parallel_load.specs.Numbers.{AreDependenciesOf, AreDependencyRows}
 use Rattle.inverse_deps.specs.Edges.{IsUnitIn, DependsOn, IsEdge}
 use Rattle.inverse_deps.specs.Numbers.{count_of, name_at}
 use Rattle.inverse_deps.specs.NamingLaws.{names_along, names_either, turned_named}

@@ -36,7 +36,7 @@ fn rows_by(alloc: Global, loaded: &Loaded, kind: DepKind) -> Result<Vec<Vec<usiz
 {
     let mut rows = Vec::with_capacity(alloc, loaded.names().len())?;
     for deps in loaded.dependencies() {
-        rows.push(numbers_by(alloc, deps.as_slice(), kind)?)?;
+        rows.push(numbers_by(alloc, deps.get().as_slice(), kind)?)?;
     }
     Ok(rows)
 }

@@ -10,17 +10,23 @@
 
 mod faults;
 mod finishing;
+mod footprints;
+mod held;
 mod kept;
 mod laws;
 mod loaded;
 mod loader;
 mod loads;
 mod mains;
+mod refreshing;
 mod sources;
+mod touched;
 
 pub use faults::LoadFault;
+pub use footprints::footprint;
 pub use laws::{load_laws, one_load};
 pub use loaded::{Dependency, Loaded, NameLoad};
 pub use loads::{MOST_NAMES, load_fleet, load_here};
+pub use refreshing::refresh;
 pub use unit_loads::{Status, Unit, UnitNote, load_one};
 pub use worker_rounds::{Gate, MOST_WORKERS, TURNS, is_crew};

@@ -149,7 +149,7 @@ fn append_note(out: &mut Vec<u8>, scratch: &mut String, note: &UnitNote) -> Resu
 pub(crate) fn unit_text(alloc: Global, linked: &LinkedUnit) -> Result<Vec<u8>, AllocError>
     ensures text { IfOk result (λ text. text.items ≡ unit_text linked.now) }
 {
-    let unit = &linked.unit;
+    let unit = linked.unit.get();
     let mut out = Vec::from_slice(alloc, b"unit ")?;
     append_head(&mut out, unit)?;
     append_lines(&mut out, unit.dropins.as_slice())?;

@@ -42,7 +42,7 @@ fn is_loaded(load: &NameLoad) -> bool
     ensures loaded { result ≡ is_loaded (unit_part load.now) }
 {
     match load {
-        NameLoad::Unit(unit) => has_fragment(&unit.status),
+        NameLoad::Unit(unit) => has_fragment(&unit.get().status),
         NameLoad::Alias(_) => false,
     }
 }
@@ -61,7 +61,7 @@ fn is_manual(load: &NameLoad) -> bool
     ensures manual { result ≡ is_manual (unit_part load.now) }
 {
     match load {
-        NameLoad::Unit(unit) => unit.manual,
+        NameLoad::Unit(unit) => unit.get().manual,
         NameLoad::Alias(_) => false,
     }
 }

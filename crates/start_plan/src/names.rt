@@ -63,7 +63,7 @@ fn fault(loaded: &Loaded, number: usize) -> Result<Refusal, AllocError>
 {
     let name = name_of(loaded, number)?;
     match &loaded.names()[number].1 {
-        NameLoad::Unit(unit) => match &unit.status {
+        NameLoad::Unit(unit) => match &unit.get().status {
             Status::NotFound => Ok(Refusal::NotFound(name)),
             Status::Masked => Ok(Refusal::Masked(name)),
             Status::Bad(_) => Ok(Refusal::Bad(name)),

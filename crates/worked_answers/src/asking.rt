@@ -53,9 +53,10 @@ fn append_edges(out: &mut Answer, list: &DependencyList) -> Result<(), LineFault
 
 // Writes a unit and its edges.
 fn append_linked(out: &mut Answer, linked: &LinkedUnit) -> Result<(), LineFault> {
-    out.write(linked.unit.name.bytes())?;
+    let unit = linked.unit.get();
+    out.write(unit.name.bytes())?;
     out.write(b" ")?;
-    append_unit(out, &linked.unit)?;
+    append_unit(out, unit)?;
     for list in linked.edges.as_slice() {
         append_edges(out, list)?;
     }
