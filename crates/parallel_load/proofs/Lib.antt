@@ -1,7 +1,8 @@
 mod Closing
+mod Keeping
 mod Numbering
 mod Pieces
-mod Refreshing
 mod Rows
 mod Settling
+mod Staying
 mod Steps

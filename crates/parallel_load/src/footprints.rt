@@ -1,5 +1,5 @@
 //! The first components of the paths at which what stands for a unit is decided.
-ghost use Rattle.std.specs.Prelude.{◌≡◌, ◌→◌, false, IfOk, IfSome, IsSome};
+ghost use Rattle.std.specs.Prelude.{◌≡◌, false, IfOk, IfSome, IsSome};
 ghost use Rattle.std.specs.List.{All};
 ghost use Rattle.std.specs.List.Sorted.{IsStrictlySortedBy};
 ghost use Rattle.unit_name.specs.Names.{name_cmp};

@@ -80,10 +80,12 @@ pub(crate) struct HeldLoader<'a> {
 }
 
 impl<'a> Model for HeldLoader<'a> {
-    ghost use Rattle.path_maps.specs.Views.{View};
+    ghost use Rattle.path_maps.specs.Views.{View, coded_view};
     ghost use Rattle.parallel_load.specs.Refreshes.{AreHeldOn};
 
     ghost Value = { View };
+
+    ghost coded = { coded_view };
 
     ghost view = { λ l. l.reader.index };
 
@@ -95,7 +97,7 @@ impl<'a> HeldLoader<'a> {
     pub fn of(reader: UnitLoader<'a>, held: Vec<(UnitName, Option<Kept>)>) -> HeldLoader<'a>
         requires sorted { IsTrue (is_sorted name_cmp held.items) }
         requires loaded { All (IsHeldOn reader.index) held.items }
-        ensures seen { result ≡ reader.index }
+        ensures seen { result ≡ reader.entry.index }
     {
         HeldLoader { reader, held }
     }

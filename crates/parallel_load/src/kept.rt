@@ -185,7 +185,10 @@ impl Kept {
 impl TryClone for Kept {
     fn try_clone(&self) -> Result<Kept, AllocError> {
         let held = match &self.held {
-            LoadHeld::Fresh(unit) => LoadHeld::Fresh(Box::new(*unit.allocator(), unit.try_clone()?)?),
+            LoadHeld::Fresh(unit) => {
+                let alloc = *Box::allocator(unit);
+                LoadHeld::Fresh(Box::new(alloc, unit.try_clone()?)?)
+            }
             LoadHeld::Alias(main) => LoadHeld::Alias(main.try_clone()?),
             LoadHeld::Unit(unit, lists) => LoadHeld::Unit(unit.try_clone()?, lists.try_clone()?),
         };

@@ -60,6 +60,7 @@ pub(crate) struct KeptRows {
 
 impl Model for Loaded {
     ghost use Rattle.parallel_load.specs.Loads.{LoadMap, coded_load};
+    ghost use Rattle.parallel_load.specs.Numbering.{IsKept};
 
     ghost Value = { LoadMap };
 

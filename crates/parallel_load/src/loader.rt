@@ -48,7 +48,8 @@ impl<'a> Loads<UnitName> for UnitLoader<'a> {
     fn load(&self, alloc: Global, node: &UnitName) -> Result<Kept, AllocError> {
         let resolved = self.index.resolve(alloc, node)?;
         if resolved.main == *node {
-            Kept::fresh(alloc, load_resolved(alloc, &self.index, resolved)?)
+            let unit = load_resolved(alloc, &self.index, resolved)?;
+            Kept::fresh(alloc, unit)
         } else {
             Ok(Kept::alias(resolved.main))
         }

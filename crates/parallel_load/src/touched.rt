@@ -46,6 +46,6 @@ fn is_seen(host: Option<&HostName>, place: &Place) -> bool
     match (&place.scope, host) {
         (Scope::Fleet, _) => true,
         (Scope::Host(_), None) => false,
-        (Scope::Host(owner), Some(host)) => owner == host,
+        (Scope::Host(owner), Some(host)) => owner.bytes() == host.bytes(),
     }
 }

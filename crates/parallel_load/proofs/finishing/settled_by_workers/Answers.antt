@@ -1,5 +1,4 @@
 use Rattle.std.proofs.Common.{◌≡◌, List, subst, sym}
-use Rattle.std.proofs.lemmas.Result.{IfOk-both, IfOk-weaker}
 use Rattle.unit_name.specs.Names.{Name}
 use Rattle.parallel_load.specs.declared.loaded.NameLoad.{NameLoad}
 use Rattle.parallel_load.specs.UniverseLaws.{sorted_from}

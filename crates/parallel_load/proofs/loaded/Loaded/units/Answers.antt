@@ -1,4 +1,4 @@
-use Rattle.std.proofs.Common.{map, ap, ◌∙◌, Bor}
+use Rattle.std.proofs.Common.{Some, map, ap, sym, ◌∙◌, Bor}
 use Rattle.std.proofs.lemmas.List.{map-append}
 use Rattle.unit_loads.specs.declared.units.Unit.{Unit as LoadedUnit}
 use Rattle.parallel_load.specs.Loads.{unit_part}
@@ -12,7 +12,7 @@ loop-load-preserved c = elim c.match-load.branch [
       ap (λ us. map (λ (u : Bor LoadedUnit). u.now) us.items) w.units-is ∙ ap (map (λ (u : Bor LoadedUnit). u.now)) w.in_ok-push.ensures.items
       ∙ map-append (λ (u : Bor LoadedUnit). u.now) c.loop-load.units.items _
       ∙ made_one (λ p. unit_part p.1) c.deref-load-items.result.now c.loop-load.load-index c.loop-load-item.result c.loop-load-item.result c.loop-load-test.true c.loop-load-item.is
-      (map (λ (u : Bor LoadedUnit). u.now) c.loop-load.units.items) w.in-Unit.unit (ap unit_part w.in-Unit.is) c.loop-load.invariant
+      (map (λ (u : Bor LoadedUnit). u.now) c.loop-load.units.items) w.get.result.now (ap unit_part w.in-Unit.is ∙ ap Some (sym w.get.ensures.value)) c.loop-load.invariant
   | in_default w ↦
       ap (λ us. map (λ (u : Bor LoadedUnit). u.now) us.items) w.units-is
       ∙ made_none (λ p. unit_part p.1) c.deref-load-items.result.now c.loop-load.load-index c.loop-load-item.result c.loop-load-item.result c.loop-load-test.true c.loop-load-item.is

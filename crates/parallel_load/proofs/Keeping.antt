@@ -1,0 +1,67 @@
+-- Facts that hold of each element of a list, and lists that are compared.
+use Rattle.std.proofs.Common.{◌≡◌, ◌<◌, ◌+◌, ◌&&◌, ℕ, Bool, true, false, Some, List, [], ◌∷◌, ◌++◌, length, get_or, take, refl, ap, sym, ◌∙◌, subst}
+use denote.Enum.Bare.{same_true}
+use Rattle.std.specs.Prelude.{◌↔◌, IsPermutation, IsSorted}
+use Rattle.std.specs.List.{All, dedup, list_any}
+use Rattle.std.specs.List.Sorted.{IsStrictlySortedBy}
+use Rattle.std.specs.Cmp.Lexicographic.{pointwise}
+use Rattle.std.specs.Ordering.{eq_by_cmp}
+use Rattle.std.proofs.lemmas.List.{take_more}
+use Rattle.std.proofs.lemmas.List.Elements.{All-append, All-cons, All-nil}
+use Rattle.list_laws.specs.Members.{IsAmong, among_from_contains, contains_from_among}
+use Rattle.unit_name.specs.Names.{Name, name_cmp}
+use Rattle.unit_name.specs.NameLaws.{name_eq-Decides}
+use Rattle.setting_rules.specs.contracts.dependency_lists.DependencyListPartialEq.TheImpl as list_eq
+use Rattle.setting_rules.specs.contracts.kinds.DepKind as kinds
+use Rattle.setting_rules.specs.declared.dependency_lists.DependencyList.{DependencyList}
+use Rattle.setting_rules.specs.declared.kinds.DepKind.{DepKind}
+use Rattle.setting_rules.specs.Dependencies.{in_byte_order}
+use Rattle.setting_rules.specs.OrderLaws.{names_rise, names_stay}
+use Rattle.setting_rules.specs.SortedLaws.{sorted_is}
+
+-- one more element of which it holds
+pub all_more : {X : Type 0} (P : X → Type 0) (xs : List X) (i : ℕ) (d x : X) → i < length xs → x ≡ get_or xs i d → All P (take i xs) → P x → All P (take (i + 1) xs)
+all_more P xs i d x l e h p =
+    subst (All P) (sym (take_more xs i d l ∙ ap (λ y. take i xs ++ y ∷ []) (sym e))) (All-append P (take i xs) (x ∷ []) h (All-cons P x [] p (All-nil P)))
+
+-- ---- lists that are compared
+
+first_true : (a b : Bool) → (a && b) ≡ true → a ≡ true
+first_true true b h = refl
+first_true false b h = cc (h)
+
+second_true : (a b : Bool) → (a && b) ≡ true → b ≡ true
+second_true true b h = h
+second_true false b h = cc (h)
+
+-- what a test of all elements has told
+same_by : {X : Type 0} (E : X → X → Bool) → ((x y : X) → E x y ≡ true → x ≡ y) → (xs ys : List X) → pointwise E xs ys ≡ true → xs ≡ ys
+same_by E f [] [] h = refl
+same_by E f [] (y ∷ ys) h = cc (h)
+same_by E f (x ∷ xs) [] h = cc (h)
+same_by E f (x ∷ xs) (y ∷ ys) h =
+    ap (λ z. z ∷ xs) (f x y (first_true (E x y) (pointwise E xs ys) h)) ∙ ap (λ zs. y ∷ zs) (same_by E f xs ys (second_true (E x y) (pointwise E xs ys) h))
+
+one_same : (x y : DependencyList) → (list_eq.eq-value).it x y ≡ true → x ≡ y
+one_same x y h =
+    ap (λ (k : DepKind). let l : DependencyList = record { kind = k; names = x.names } in l) (same_true kinds.the_type tt x.kind y.kind (first_true _ _ h))
+    ∙ ap (λ (ns : List Name). let l : DependencyList = record { kind = y.kind; names = ns } in l)
+    (same_by (eq_by_cmp name_cmp) (λ a b. (name_eq-Decides a b).0) x.names y.names (second_true _ _ h))
+
+pub lists_same : (xs ys : List DependencyList) → pointwise (list_eq.eq-value).it xs ys ≡ true → xs ≡ ys
+lists_same xs ys h = same_by (list_eq.eq-value).it one_same xs ys h
+
+-- ---- names in byte order
+
+module _ (names s d : List Name) (permutation : IsPermutation names s) (sorted : IsSorted name_cmp s) (is : d ≡ dedup (eq_by_cmp name_cmp) s) where
+  order : d ≡ in_byte_order names
+  order = sorted_is names s d permutation sorted is
+
+  pub order_rises : IsStrictlySortedBy name_cmp d
+  order_rises = subst (IsStrictlySortedBy name_cmp) (sym order) (names_rise names)
+
+  pub order_stays : (part : List ℕ) → IsAmong part d ↔ IsAmong part names
+  order_stays part = (
+    λ h. among_from_contains part names ((names_stay names part).0 (contains_from_among part (in_byte_order names) (subst (IsAmong part) order h))),
+    λ h. subst (IsAmong part) (sym order) (among_from_contains part (in_byte_order names) ((names_stay names part).1 (contains_from_among part names h))),
+  )

@@ -1,0 +1,181 @@
+-- What stays of a load where some places changed.
+use Rattle.std.proofs.Common.{Bor, ◌≡◌, ◌<◌, ◌+◌, ℕ, zero, suc, Bool, false, true, Option, Some, None, List, [], ◌∷◌, ◌++◌, length, get_or, take, IsTrue, refl, ap, sym, ◌∙◌, subst, inl, inr, arith}
+use Rattle.std.specs.Prelude.{◌⊎◌, IfSome, IsSome, is_some}
+use Rattle.std.specs.FinMap.{is_sorted, nat_cmp-IsAntisymmetric, slice_cmp-IsAntisymmetric}
+use Rattle.std.specs.List.{All}
+use Rattle.std.specs.Map.{keys_of}
+use Rattle.std.specs.Option.{option_copied}
+use Rattle.std.proofs.lemmas.List.{map-append, take_more}
+use Rattle.std.proofs.lemmas.List.Elements.{All-append, All-nil, All-cons, All-head, All-tail, All-weaker}
+use Rattle.list_laws.specs.Members.{IsAmong, IsAmong-append_left, IsAmong-append_right}
+use Rattle.load_places.specs.Levels.{Looker, level_for}
+use Rattle.load_places.specs.Places.{PlaceParts}
+use Rattle.edit_sums.specs.Sums.{EntryMap, visible_at}
+use Rattle.path_maps.specs.SeenLaws.{places_decide_sights}
+use Rattle.path_maps.specs.Views.{View, view_of}
+use Rattle.sorted_pairs.specs.PlaceLaws.{find_at}
+use Rattle.sorted_pairs.specs.Places.{IsAt}
+use Rattle.unit_name.specs.Names.{Name, name_cmp}
+use Rattle.setting_rules.specs.declared.dependency_lists.DependencyList.{DependencyList}
+use Rattle.fragment_choice.specs.AliasWordLaws.{alias_words_decide, sights_decide_words}
+use Rattle.fragment_choice.specs.Choices.{own_path}
+use Rattle.fragment_choice.specs.LeadsLaws.{SameLeads, leads_decide_mains}
+use Rattle.fragment_choice.specs.Resolutions.{main}
+use Rattle.unit_loads.specs.declared.units.Unit.{Unit as LoadedUnit}
+use Rattle.unit_loads.specs.FootprintLaws.{store_footprints_decide}
+use Rattle.unit_loads.specs.Footprints.{StartsIn, StoresAgreeIn, footprint}
+use Rattle.unit_loads.specs.Footprints.StartsIn.{alone, within}
+use Rattle.parallel_load.specs.declared.loaded.NameLoad.{NameLoad}
+use Rattle.parallel_load.specs.declared.loaded.NameLoad.TheVariants.{Unit as OfUnit, Alias as OfAlias}
+use Rattle.parallel_load.specs.Alone.{IsAliasOf, IsLoadAlone}
+use Rattle.parallel_load.specs.Footprints.{IsNone}
+use Rattle.parallel_load.specs.KeyLaws.{sorted_by_keys}
+use Rattle.parallel_load.specs.Loads.{AreNamedAlone, IsLoad, IsNamedAlone, LoadMap, with_lists}
+use Rattle.parallel_load.specs.PairLaws.{find_among}
+use Rattle.parallel_load.specs.Refreshes.{AreStill, IsBefore, IsHeldOn, IsMissed, IsStill}
+use Rattle.parallel_load.specs.Touched.{HasFolder, IsInFolder}
+use Rattle.parallel_load.specs.UniverseLaws.{all_among}
+use Rattle.parallel_load.proofs.Keeping.{all_more}
+
+-- what is named alone by the name that has a number
+named_at : (s : View) (names : List (Name × NameLoad)) (named : List (List DependencyList)) (i : ℕ) (p : Name × NameLoad) → AreNamedAlone s names named → i < length names
+    → IsNamedAlone s (get_or names i p).0 (get_or names i p).1 (get_or named i [])
+named_at s [] [] i p h l = absurd (omega arith)
+named_at s [] (x ∷ named) i p h l = absurd h
+named_at s (q ∷ names) [] i p h l = absurd h
+named_at s (q ∷ names) (x ∷ named) zero p h l = h.0
+named_at s (q ∷ names) (x ∷ named) (suc i) p h l = named_at s names named i p h.1 (omega arith)
+
+module _ (load : LoadMap) (now : EntryMap) (touched : List PlaceParts) (b : IsBefore load now touched) (inside : All (IsInFolder load.host) touched) where
+  abbrev s : View
+  s = view_of b.before load.host
+
+  abbrev t : View
+  t = view_of now load.host
+
+  -- a place that is looked at and no touched one shows the same
+  untouched : (p : PlaceParts) → (IsAmong p touched → ⊥) → visible_at b.before p ≡ visible_at now p
+  untouched p spared = by (b.rest p)
+    where
+      by : IsAmong p touched ⊎ (visible_at b.before p ≡ visible_at now p) → visible_at b.before p ≡ visible_at now p
+      by (inl a) = absurd (spared a)
+      by (inr e) = e
+
+  own_same : (p : PlaceParts) → IsSome (level_for load.host p) → p.path.folder ≡ [] → visible_at b.before p ≡ visible_at now p
+  own_same p l e = untouched p (λ a. all_among (IsInFolder load.host) touched p inside a l e)
+
+  some_level : (p : PlaceParts) (level : ℕ) → level_for load.host p ≡ Some level → IsSome (level_for load.host p)
+  some_level p level e = let P : Option ℕ → Type 0 = λ o. IsSome o in subst P (sym e) refl
+
+  -- so what leads to what stays
+  pub same_leads : SameLeads s t
+  same_leads =
+      alias_words_decide s t (λ n.
+      sights_decide_words s t n (λ level l.
+      places_decide_sights b.before now load.host (own_path n level) (λ place lvl folder name. own_same place (some_level place _ lvl) folder)))
+
+  pub same_mains : (n : Name) → main s n ≡ main t n
+  same_mains = leads_decide_mains s t same_leads
+
+  module _ (folders : List (List ℕ)) (has : All (HasFolder load.host folders) touched) where
+    -- what misses the folders shows the same
+    agree : (parts : List (List ℕ)) → ((f : List ℕ) → IsAmong f folders → ¬ IsAmong f parts) → StoresAgreeIn b.before now load.host parts
+    agree parts missed p (alone e a) l = own_same p l e
+    agree parts missed p (within a) l = untouched p (λ h. missed p.path.folder (all_among (HasFolder load.host folders) touched p has h l) a)
+
+    unit_stays : (n : Name) (u : LoadedUnit) → IsMissed folders n (OfUnit u) → IsLoadAlone s n (OfUnit u) → IsLoadAlone t n (OfUnit u)
+    unit_stays n u missed is = store_footprints_decide b.before now load.host n u same_leads (agree (footprint n u.names) missed) is
+
+    alias_stays : (n m : Name) → IsAliasOf s n m → IsAliasOf t n m
+    alias_stays n m a = record { main_is = sym (same_mains n) ∙ a.main_is; other = a.other }
+
+    one_stays : (n : Name) (one : NameLoad) (lists : List DependencyList) → IsMissed folders n one → IsLoadAlone s n (with_lists one lists) → IsLoadAlone t n (with_lists one lists)
+    one_stays n (OfUnit u) lists missed is = unit_stays n (record u { deps = lists }) missed is
+    one_stays n (OfAlias m) lists missed is = alias_stays n m is
+
+    still_loaded : (n : Name) (one : NameLoad) → IsStill folders load.names load.named n one → IsLoadAlone t n one
+    still_loaded n one h =
+        let there = named_at s load.names load.named h.number (n, h.load) b.load_is.named h.below in
+        let P : Name × NameLoad → Type 0 = λ q. IsNamedAlone s q.0 q.1 (get_or load.named h.number []) in
+        let here = subst P h.at there in
+        subst (IsLoadAlone t n) (sym h.is) (one_stays n h.load (get_or load.named h.number []) h.missed here.alone)
+
+    pub held_loaded : (still : List (Name × Option NameLoad)) → All (λ (p : Name × Option NameLoad). IfSome p.1 (IsStill folders load.names load.named p.0)) still → All (IsHeldOn t) still
+    held_loaded [] h = All-nil (IsHeldOn t)
+    held_loaded (p ∷ still) h =
+        let P : Name × Option NameLoad → Type 0 = λ q. IfSome q.1 (IsStill folders load.names load.named q.0) in
+        All-cons (IsHeldOn t) p still (first p.0 p.1 (All-head P p still h)) (held_loaded still (All-tail P p still h))
+      where
+        first : (n : Name) (o : Option NameLoad) → IfSome o (IsStill folders load.names load.named n) → IfSome o (IsLoadAlone t n)
+        first n None k = tt
+        first n (Some one) k = still_loaded n one k
+
+-- names with what stays are in order
+pub held_sorted : (names : List (Name × NameLoad)) (still : List (Name × Option NameLoad)) → keys_of still ≡ keys_of names → IsTrue (is_sorted name_cmp names) → IsTrue (is_sorted name_cmp still)
+held_sorted names still e h = let B : Bool → Type 0 = λ b. IsTrue b in subst B (sym (sorted_by_keys name_cmp still names e)) h
+
+-- what is held for a name that is found
+pub held_is : (s : View) (n : Name) (held : List (Name × Option NameLoad)) (at : ℕ) (x : Name × Option NameLoad) (r : Option (Bor NameLoad)) → IsAt name_cmp n held at → x ≡ get_or held at x
+    → All (IsHeldOn s) held → option_copied r ≡ x.1 → IfSome r (λ one. IsLoadAlone s n one.now)
+held_is s n held at x None found e loaded v = tt
+held_is s n held at x (Some one) found e loaded v =
+    let there = find_among name_cmp (slice_cmp-IsAntisymmetric nat_cmp-IsAntisymmetric) n held x.1
+    (find_at name_cmp n held at x found ∙ ap (λ (p : Name × Option NameLoad). Some p.1) (sym e)) in
+    let P : Option NameLoad → Type 0 = λ o. IfSome o (IsLoadAlone s n) in
+    subst P (sym v) (all_among (IsHeldOn s) held (n, x.1) loaded there)
+
+-- a footprint that has none of these folders
+pub missed_by : (folders : List (List ℕ)) (n : Name) (u : LoadedUnit) (load : NameLoad) (parts : List (List ℕ)) → load ≡ OfUnit u → parts ≡ footprint n u.names → All (IsNone parts) folders
+    → IsMissed folders n load
+missed_by folders n u load parts e f h =
+    let P : List (List ℕ) → Type 0 = λ ps. All (IsNone ps) folders in
+    subst (IsMissed folders n) (sym e) (λ folder a. all_among (IsNone (footprint n u.names)) folders folder (subst P f h) a)
+
+-- one more folder, of one more place
+pub folder_more : (host : Looker) (folders : List (List ℕ)) (folder : List ℕ) (touched : List PlaceParts) (i : ℕ) (d x : PlaceParts) → i < length touched → x ≡ get_or touched i d
+    → folder ≡ x.path.folder → All (HasFolder host folders) (take i touched) → All (HasFolder host (folders ++ folder ∷ [])) (take (i + 1) touched)
+folder_more host folders folder touched i d x l e f h =
+    all_more (HasFolder host (folders ++ folder ∷ [])) touched i d x l e
+    (All-weaker (HasFolder host folders) (HasFolder host (folders ++ folder ∷ [])) (λ p k s. IsAmong-append_left p.path.folder folders (folder ∷ []) (k s)) (take i touched) h)
+    (λ s. IsAmong-append_right x.path.folder folders (folder ∷ []) (inl f))
+
+-- or of one that isn't looked at
+pub folder_same : (host : Looker) (folders : List (List ℕ)) (touched : List PlaceParts) (i : ℕ) (d x : PlaceParts) → i < length touched → x ≡ get_or touched i d
+    → is_some (level_for host x) ≡ false → All (HasFolder host folders) (take i touched) → All (HasFolder host folders) (take (i + 1) touched)
+folder_same host folders touched i d x l e f h =
+    all_more (HasFolder host folders) touched i d x l e h (λ s. absurd (let wrong : false ≡ true = sym f ∙ s in cc (wrong)))
+
+same_default : {X : Type 0} (xs : List X) (i : ℕ) (d e : X) → i < length xs → get_or xs i d ≡ get_or xs i e
+same_default [] i d e l = absurd (omega arith)
+same_default (x ∷ xs) zero d e l = refl
+same_default (x ∷ xs) (suc i) d e l = same_default xs i d e (omega arith)
+
+-- what stays of the name that has a number
+pub still_one : (folders : List (List ℕ)) (names : List (Name × NameLoad)) (named : List (List DependencyList)) (i : ℕ) (x : Name × NameLoad) (lists : List DependencyList) (k : Option NameLoad)
+    → i < length names → length named ≡ length names → x ≡ get_or names i x → lists ≡ get_or named i lists → IfSome k (λ one. one ≡ with_lists x.1 lists) → IfSome k (λ _. IsMissed folders x.0 x.1)
+    → IfSome k (IsStill folders names named x.0)
+still_one folders names named i x lists None l each e f same missed = tt
+still_one folders names named i x lists (Some one) l each e f same missed = record {
+  number = i;
+  below = l;
+  load = x.1;
+  at = sym e;
+  is = same ∙ ap (with_lists x.1) (f ∙ same_default named i lists [] (omega (arith, l, each)));
+  missed = missed;
+}
+
+-- so a name more
+pub still_more : (folders : List (List ℕ)) (names : List (Name × NameLoad)) (named : List (List DependencyList)) (i : ℕ) (x : Name × NameLoad) (n : Name) (k : Option NameLoad) (now new : List (Name × Option NameLoad))
+    → i < length names → x ≡ get_or names i x → n ≡ x.0 → IfSome k (IsStill folders names named x.0) → new ≡ now ++ (n, k) ∷ []
+    → (keys_of now ≡ keys_of (take i names)) × All (λ (p : Name × Option NameLoad). IfSome p.1 (IsStill folders names named p.0)) now
+    → (keys_of new ≡ keys_of (take (i + 1) names)) × All (λ (p : Name × Option NameLoad). IfSome p.1 (IsStill folders names named p.0)) new
+still_more folders names named i x n k now new l e key one is h =
+    let P : Name × Option NameLoad → Type 0 = λ p. IfSome p.1 (IsStill folders names named p.0) in
+    let Q : Name → Type 0 = λ m. IfSome k (IsStill folders names named m) in
+    let key_of : Name × Option NameLoad → Name = λ p. p.0 in
+    let name_of : Name × NameLoad → Name = λ p. p.0 in
+    let taken : take (i + 1) names ≡ take i names ++ x ∷ [] = take_more names i x l ∙ ap (λ (y : Name × NameLoad). take i names ++ y ∷ []) (sym e) in (
+      ap (λ (ps : List (Name × Option NameLoad)). keys_of ps) is ∙ map-append key_of now ((n, k) ∷ []) ∙ ap (λ (ks : List Name). ks ++ n ∷ []) h.0
+      ∙ ap (λ (m : Name). keys_of (take i names) ++ m ∷ []) key ∙ sym (map-append name_of (take i names) (x ∷ [])) ∙ ap (λ (ps : List (Name × NameLoad)). keys_of ps) (sym taken),
+      subst (All P) (sym is) (All-append P now ((n, k) ∷ []) h.1 (All-cons P (n, k) [] (subst Q (sym key) one) (All-nil P))),
+    )

@@ -1,0 +1,26 @@
+use Rattle.std.proofs.Common.{◌≡◌, Some, ℕ, List, ap, sym, ◌∙◌, subst}
+use Rattle.std.specs.Prelude.{◌↔◌}
+use Rattle.std.specs.Option.{option_copied}
+use Rattle.std.specs.Ordering.{eq_by_cmp}
+use Rattle.std.proofs.lemmas.List.Filters.{dedup_is}
+use Rattle.std.proofs.lemmas.Option.{same_Some}
+use Rattle.list_laws.specs.Members.{IsAmong}
+use Rattle.unit_name.specs.Names.{Name, name_cmp}
+use Rattle.unit_loads.specs.declared.units.Unit.{Unit as LoadedUnit}
+use Rattle.unit_loads.specs.Footprints.{footprint}
+use Rattle.parallel_load.proofs.Keeping.{order_rises, order_stays}
+use Rattle.parallel_load.proofs.footprints.footprint.Goals as goal
+
+pub returns-clause-rising : goal.returns-clause-rising
+returns-clause-rising c =
+    order_rises c.in_ok-parts.parts.items c.sort_unstable.new.self.items c.dedup.new.self.items c.sort_unstable.ensures.permutation c.sort_unstable.ensures.sorted (dedup_is (eq_by_cmp name_cmp) _ _ c.dedup.ensures.filtered)
+
+pub returns-clause-exact : goal.returns-clause-exact
+returns-clause-exact c unit e =
+    let d : List (List ℕ) = c.dedup.new.self.items in
+    let same : c.in-Some.unit.now ≡ unit = same_Some _ _ (sym (ap option_copied c.in-Some.is) ∙ c.unit.ensures.unit ∙ e) in
+    let P : List (List ℕ) → Type 0 = λ parts. (part : List ℕ) → IsAmong part d ↔ IsAmong part parts in
+    let Q : LoadedUnit → Type 0 = λ u. P (footprint c.args.name.now u.names) in
+    let R : List Name → Type 0 = λ ns. P (footprint c.args.name.now ns) in
+    subst Q same (subst R c.as_slice.ensures.elements (subst P c.in_ok-parts.ensures.parts
+    (order_stays c.in_ok-parts.parts.items c.sort_unstable.new.self.items d c.sort_unstable.ensures.permutation c.sort_unstable.ensures.sorted (dedup_is (eq_by_cmp name_cmp) _ _ c.dedup.ensures.filtered))))
