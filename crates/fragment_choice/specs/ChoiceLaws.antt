@@ -1,5 +1,6 @@
 -- Laws of choices: lesser levels come first, and only what is visible counts.
-use Rattle.std.proofs.Common.{◌≡◌, ◌≢◌, ℕ, ◌<◌, ◌≤◌, Option, Some, None, [], ◌∷◌, refl, ap, sym, ◌∙◌, cond, IsTrue, unwrap_or}
+use Rattle.std.proofs.Common.{◌≡◌, ◌≢◌, ℕ, ◌<◌, ◌≤◌, Option, Some, None, [], ◌∷◌, refl, ap, sym, ◌∙◌, cond, IsTrue, unwrap_or, inl, inr}
+use Rattle.std.specs.Prelude.{◌⊎◌}
 use Rattle.std.specs.Option.{option_and_then, option_or}
 use Rattle.load_path.specs.Paths.{PathParts, path_cmp}
 use Rattle.load_path.specs.PathLaws.{path_cmp_total, path_cmp-IsAntisymmetric}
@@ -45,6 +46,18 @@ MasksHide = (s : View) (n : Name) (r : ℕ) (x : Content) → IsLevel r → seen
 abbrev pub OnlyVisibleCounts : Type 0
 OnlyVisibleCounts = (s t : View) → AreForOne s t → ((p : PathParts) → seen_at s p ≡ seen_at t p) → (n : Name) → choice s n ≡ choice t n
 
+-- the path has one component, which is the name or its template
+pub record IsOwnPath (n : Name) (p : PathParts) : Type 0 where
+  pub owner : Name
+  pub owns : (owner ≡ n) ⊎ (template_of n ≡ Some owner)
+  pub no_folder : p.folder ≡ []
+  pub name_is : p.name ≡ owner
+
+-- views for one host that show the same at the paths of a name and of its template choose the same for it
+abbrev pub OwnPathsDecide : Type 0
+OwnPathsDecide = (s t : View) → AreForOne s t → (n : Name) → ((p : PathParts) → IsOwnPath n p → seen_at s p ≡ seen_at t p)
+    → choice s n ≡ choice t n
+
 -- views for one host that show the same at paths of one component choose the same, whatever their folders show
 abbrev pub OwnPathsCount : Type 0
 OwnPathsCount = (s t : View) → AreForOne s t → ((p : PathParts) → p.folder ≡ [] → seen_at s p ≡ seen_at t p) → (n : Name) → choice s n ≡ choice t n
@@ -84,17 +97,25 @@ pub masks_hide : MasksHide
 masks_hide s n r x h e m none =
     least_level_chooses s n r Masked h (ap (option_and_then (content_says n n (own_place s n r))) e ∙ mask_says n n (own_place s n r) x m) none
 
-own_same : (s t : View) → AreForOne s t → ((p : PathParts) → p.folder ≡ [] → seen_at s p ≡ seen_at t p) → (n o : Name) → own_choice s n o ≡ own_choice t n o
-own_same s t one same n o = first_same (says s n o) (says t n o) (λ k. says_same s t one n o k (same (own_path o k) refl)) levels
+own_same : (s t : View) → AreForOne s t → (n o : Name) → ((k : ℕ) → seen_at s (own_path o k) ≡ seen_at t (own_path o k))
+    → own_choice s n o ≡ own_choice t n o
+own_same s t one n o same = first_same (says s n o) (says t n o) (λ k. says_same s t one n o k (same k)) levels
+
+pub own_paths_decide : OwnPathsDecide
+own_paths_decide s t one n same =
+    ap (λ o. unwrap_or (option_or o (option_and_then (own_choice s n) (template_of n))) NotFound) (own n (inl refl))
+    ∙ ap (λ o. unwrap_or (option_or (own_choice t n n) o) NotFound) (by (template_of n) refl)
+  where
+    own : (o : Name) → (o ≡ n) ⊎ (template_of n ≡ Some o) → own_choice s n o ≡ own_choice t n o
+    own o owns =
+        own_same s t one n o (λ k. same (own_path o k) (record { owner = o; owns = owns; no_folder = refl; name_is = refl }))
+
+    by : (o : Option Name) → template_of n ≡ o → option_and_then (own_choice s n) o ≡ option_and_then (own_choice t n) o
+    by None e = refl
+    by (Some o) e = own o (inr e)
 
 pub own_paths_count : OwnPathsCount
-own_paths_count s t one same n =
-    ap (λ o. unwrap_or (option_or o (option_and_then (own_choice s n) (template_of n))) NotFound) (own_same s t one same n n)
-    ∙ ap (λ o. unwrap_or (option_or (own_choice t n n) o) NotFound) (by (template_of n))
-  where
-    by : (o : Option Name) → option_and_then (own_choice s n) o ≡ option_and_then (own_choice t n) o
-    by None = refl
-    by (Some o) = own_same s t one same n o
+own_paths_count s t one same n = own_paths_decide s t one n (λ p own. same p own.no_folder)
 
 pub only_visible_counts : OnlyVisibleCounts
 only_visible_counts s t one same n = own_paths_count s t one (λ p _. same p) n

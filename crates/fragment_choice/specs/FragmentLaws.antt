@@ -1,6 +1,6 @@
 -- Laws of fragments: each is a file that is visible and isn't empty, at a place whose path has one component.
-use Rattle.std.proofs.Common.{◌≡◌, ℕ, Bool, true, false, cond, Option, Some, None, List, [], ◌∷◌, refl, sym, ap, ◌∙◌}
-use Rattle.std.specs.Prelude.{unwrap_or}
+use Rattle.std.proofs.Common.{◌≡◌, ℕ, Bool, true, false, cond, Option, Some, None, List, [], ◌∷◌, refl, sym, ap, ◌∙◌, inl, inr}
+use Rattle.std.specs.Prelude.{◌⊎◌, unwrap_or}
 use Rattle.std.specs.Option.{option_and_then, option_or}
 use Rattle.edit_sums.specs.declared.contents.Content.{Content}
 use Rattle.edit_sums.specs.declared.contents.Content.TheVariants as content
@@ -17,9 +17,10 @@ use Rattle.load_places.specs.Places.{PlaceParts}
 use Rattle.fragment_choice.specs.declared.choices.Choice.{Choice}
 use Rattle.fragment_choice.specs.declared.choices.Choice.TheVariants.{NotFound, Masked, Fragment, Bad}
 use Rattle.fragment_choice.specs.declared.resolutions.Resolution.{Resolution}
+use Rattle.fragment_choice.specs.ChoiceLaws.{IsOwnPath}
 use Rattle.fragment_choice.specs.Choices.{choice, own_choice, says, content_says, link_says, alias_of, alias_to, own_path, own_place, is_null, is_self, is_bad_kind, shapes_agree, last_component}
 use Rattle.fragment_choice.specs.declared.choices.Cause.TheVariants as cause
-use Rattle.fragment_choice.specs.Resolutions.{Resolves, resolution}
+use Rattle.fragment_choice.specs.Resolutions.{Resolves, main, resolution}
 use Rattle.fragment_choice.specs.Resolutions.Resolves.{ends_at, goes_on}
 use Rattle.fragment_choice.specs.ResolutionLaws.{resolution_resolves}
 
@@ -38,6 +39,29 @@ FragmentsHaveNoFolder = (s : View) (n : Name) (p : PlaceParts) → (resolution s
 -- a file that isn't empty is seen at a path of one component, which has this place
 abbrev pub IsOwnFile : View → PlaceParts → Type 0
 IsOwnFile s p = (q : PathParts) × (seen_place s q ≡ p) × (q.folder ≡ []) × (b : ℕ) × (bs : List ℕ) × (seen_at s q ≡ Some (content.File (b ∷ bs)))
+
+-- the same at a path of the name's own or of its template
+pub record IsOwnFileOf (s : View) (n : Name) (p : PlaceParts) : Type 0 where
+  pub path : PathParts
+  pub place_is : seen_place s path ≡ p
+  pub own : IsOwnPath n path
+  pub first : ℕ
+  pub rest : List ℕ
+  pub shows : seen_at s path ≡ Some (content.File (first ∷ rest))
+
+-- the fragment of a main name stands at the name's own path or at its template's
+abbrev pub FragmentsAreOwn : Type 0
+FragmentsAreOwn = (s : View) (n : Name) (p : PlaceParts) → main s n ≡ n → (resolution s n).choice ≡ Fragment p → IsOwnFileOf s n p
+
+-- such a file at a path of this name
+record IsFileOf (s : View) (o : Name) (p : PlaceParts) : Type 0 where
+  path : PathParts
+  place_is : seen_place s path ≡ p
+  no_folder : path.folder ≡ []
+  name_is : path.name ≡ o
+  first : ℕ
+  rest : List ℕ
+  shows : seen_at s path ≡ Some (content.File (first ∷ rest))
 
 -- an answer that is no fragment
 abbrev IsOther : Option Choice → PlaceParts → Type 0
@@ -75,38 +99,70 @@ content_file n o q p (content.Link target) e = absurd (by (is_null target) e)
     by true e = cc (e)
     by false e = link_other n o (last_component target) p e
 
-said_file : (s : View) (n o : Name) (level : ℕ) (p : PlaceParts) → says s n o level ≡ Some (Fragment p) → IsOwnFile s p
+said_file : (s : View) (n o : Name) (level : ℕ) (p : PlaceParts) → says s n o level ≡ Some (Fragment p) → IsFileOf s o p
 said_file s n o level p e = by (seen_at s (own_path o level)) refl e
   where
-    by : (y : Option Content) → seen_at s (own_path o level) ≡ y → option_and_then (content_says n o (own_place s o level)) y ≡ Some (Fragment p) → IsOwnFile s p
+    by : (y : Option Content) → seen_at s (own_path o level) ≡ y
+        → option_and_then (content_says n o (own_place s o level)) y ≡ Some (Fragment p) → IsFileOf s o p
     by None at e = cc (e)
     by (Some c) at e =
         let file = content_file n o (own_place s o level) p c e in
-        (own_path o level, file.3, refl, file.0, file.1, at ∙ ap Some file.2)
+        record {
+          path = own_path o level;
+          place_is = file.3;
+          no_folder = refl;
+          name_is = refl;
+          first = file.0;
+          rest = file.1;
+          shows = at ∙ ap Some file.2;
+        }
 
-first_file : (s : View) (n o : Name) (rs : List ℕ) (p : PlaceParts) → first_said (says s n o) rs ≡ Some (Fragment p) → IsOwnFile s p
+first_file : (s : View) (n o : Name) (rs : List ℕ) (p : PlaceParts) → first_said (says s n o) rs ≡ Some (Fragment p) → IsFileOf s o p
 first_file s n o [] p e = cc (e)
 first_file s n o (r ∷ rs) p e = by (says s n o r) refl (first_file s n o rs p) e
   where
-    by : (y : Option Choice) → says s n o r ≡ y → (first_said (says s n o) rs ≡ Some (Fragment p) → IsOwnFile s p) → option_or y (first_said (says s n o) rs) ≡ Some (Fragment p) → IsOwnFile s p
+    by : (y : Option Choice) → says s n o r ≡ y → (first_said (says s n o) rs ≡ Some (Fragment p) → IsFileOf s o p)
+        → option_or y (first_said (says s n o) rs) ≡ Some (Fragment p) → IsFileOf s o p
     by None at later e = later e
     by (Some c) at later e = said_file s n o r p (at ∙ e)
 
-chosen_file : (s : View) (n : Name) (p : PlaceParts) → choice s n ≡ Fragment p → IsOwnFile s p
-chosen_file s n p e = by (own_choice s n n) refl (template_of n) e
+chosen_file : (s : View) (n : Name) (p : PlaceParts) → choice s n ≡ Fragment p → IsOwnFileOf s n p
+chosen_file s n p e = by (own_choice s n n) refl (template_of n) refl e
   where
-    by : (y : Option Choice) → own_choice s n n ≡ y → (t : Option Name) → unwrap_or (option_or y (option_and_then (own_choice s n) t)) NotFound ≡ Fragment p → IsOwnFile s p
-    by (Some c) at t e = first_file s n n levels p (at ∙ ap Some e)
-    by None at None e = cc (e)
-    by None at (Some o) e = of_template (own_choice s n o) refl e
+    owned : (o : Name) → (o ≡ n) ⊎ (template_of n ≡ Some o) → IsFileOf s o p → IsOwnFileOf s n p
+    owned o owns at = record {
+      path = at.path;
+      place_is = at.place_is;
+      own = record { owner = o; owns = owns; no_folder = at.no_folder; name_is = at.name_is };
+      first = at.first;
+      rest = at.rest;
+      shows = at.shows;
+    }
+
+    by : (y : Option Choice) → own_choice s n n ≡ y → (t : Option Name) → template_of n ≡ t
+        → unwrap_or (option_or y (option_and_then (own_choice s n) t)) NotFound ≡ Fragment p → IsOwnFileOf s n p
+    by (Some c) at t f e = owned n (inl refl) (first_file s n n levels p (at ∙ ap Some e))
+    by None at None f e = cc (e)
+    by None at (Some o) f e = of_template (own_choice s n o) refl e
       where
-        of_template : (z : Option Choice) → own_choice s n o ≡ z → unwrap_or z NotFound ≡ Fragment p → IsOwnFile s p
+        of_template : (z : Option Choice) → own_choice s n o ≡ z → unwrap_or z NotFound ≡ Fragment p → IsOwnFileOf s n p
         of_template None there e = cc (e)
-        of_template (Some c) there e = first_file s n o levels p (there ∙ ap Some e)
+        of_template (Some c) there e = owned o (inr f) (first_file s n o levels p (there ∙ ap Some e))
+
+seen_file : (s : View) (n : Name) (p : PlaceParts) → IsOwnFileOf s n p → IsOwnFile s p
+seen_file s n p at = (at.path, at.place_is, at.own.no_folder, at.first, at.rest, at.shows)
 
 resolved_file : (s : View) (n : Name) (r : Resolution) (p : PlaceParts) → Resolves s n r → r.choice ≡ Fragment p → IsOwnFile s p
-resolved_file s n r p (ends_at k u short chain ends) e = chosen_file s u p e
+resolved_file s n r p (ends_at k u short chain ends) e = seen_file s u p (chosen_file s u p e)
 resolved_file s n r p (goes_on u chain) e = cc (e)
+
+resolved_own : (s : View) (n : Name) (r : Resolution) (p : PlaceParts) → r.main ≡ n → Resolves s n r → r.choice ≡ Fragment p
+    → IsOwnFileOf s n p
+resolved_own s n r p own (ends_at k u short chain ends) e = chosen_file s n p (ap (choice s) (sym own) ∙ e)
+resolved_own s n r p own (goes_on u chain) e = cc (e)
+
+pub fragments_are_own : FragmentsAreOwn
+fragments_are_own s n p own e = resolved_own s n (resolution s n) p own (resolution_resolves s n) e
 
 -- what stands for a name is seen at a path
 pub fragments_are_seen : (s : View) (n : Name) (p : PlaceParts) → (resolution s n).choice ≡ Fragment p → IsOwnFile s p

@@ -10,6 +10,9 @@ pub mod SilenceLaws
 pub mod LinkCaseLaws
 pub mod LikenessLaws
 pub mod UnitNameLaws
+pub mod LeadsLaws
+pub mod AliasWords
+pub mod AliasWordLaws
 pub mod FragmentLaws
 pub mod FleetChoices
 pub mod HostLaws

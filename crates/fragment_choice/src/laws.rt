@@ -1,19 +1,22 @@
 //! What is true of all choices and resolutions: laws, each the contract of a function that does
 //! nothing.
-ghost use Rattle.fragment_choice.specs.ChoiceLaws.{LeastLevelChooses, TemplatesComeLast, GreaterLevelsDontCount, MasksHide, OnlyVisibleCounts, OwnPathsCount, RemovalsGiveBack};
+ghost use Rattle.fragment_choice.specs.AliasWordLaws.{AliasWordsDecide, AliasWordsShow, OwnWordsDecide, SightsDecideWords};
+ghost use Rattle.fragment_choice.specs.ChoiceLaws.{LeastLevelChooses, TemplatesComeLast, GreaterLevelsDontCount, MasksHide};
+ghost use Rattle.fragment_choice.specs.ChoiceLaws.{OnlyVisibleCounts, OwnPathsCount, OwnPathsDecide, RemovalsGiveBack};
+ghost use Rattle.fragment_choice.specs.LeadsLaws.{LeadsAndChoiceDecide, LeadsDecideMains};
 ghost use Rattle.fragment_choice.specs.SilenceLaws.{SilenceIsNotFound};
 ghost use Rattle.fragment_choice.specs.LinkLaws.{AliasesHaveLinks, InstancesKeepTheirPart};
 ghost use Rattle.fragment_choice.specs.LinkCaseLaws.{KindsMakeBad, ShapesMakeBad, TargetsMakeBad, NoLinkIsALoop, GoodLinksMakeAliases};
 ghost use Rattle.fragment_choice.specs.LikenessLaws.{AliasesAreAlike, ChainsAreAlike, MainsAreAlike};
 ghost use Rattle.fragment_choice.specs.ResolutionLaws.{ChoicesDecide, FollowingFindsTheEnd, MainsAreTheirOwn, NoAliasStands};
-ghost use Rattle.fragment_choice.specs.FragmentLaws.{FragmentsAreFiles, FragmentsHaveNoFolder};
+ghost use Rattle.fragment_choice.specs.FragmentLaws.{FragmentsAreFiles, FragmentsAreOwn, FragmentsHaveNoFolder};
 ghost use Rattle.fragment_choice.specs.HostLaws.{ChoicesAreTheFleets, HostsWithoutPlacesChooseAlike, HostsWithoutPlacesResolveAlike};
 ghost use Rattle.fragment_choice.specs.UnitNameLaws.{MainsDecide, NamesHaveTheMain, NamesDontMeet, OneListOfNames};
 
 /// The least level that says anything chooses, whatever greater levels hold; a mask hides these, and
 /// a removal gives back what was there. Only what is visible counts, and of it only paths of one
-/// component. A name is not found just where all that is visible of it and of its template is passed
-/// over.
+/// component: those of the name and of its template decide. A name is not found just where all that is
+/// visible of it and of its template is passed over.
 pub fn choice_laws()
     ensures least { LeastLevelChooses }
     ensures templates { TemplatesComeLast }
@@ -21,6 +24,7 @@ pub fn choice_laws()
     ensures masks { MasksHide }
     ensures visible { OnlyVisibleCounts }
     ensures own { OwnPathsCount }
+    ensures paths { OwnPathsDecide }
     ensures removals { RemovalsGiveBack }
     ensures silence { SilenceIsNotFound }
 {}
@@ -54,7 +58,7 @@ pub fn link_case_laws()
 
 /// Following a name's aliases finds the end of their chain, which is its own main and no alias. Where
 /// the choices are the same, so is this end. A fragment that stands there is a file that is visible
-/// and isn't empty, at a path of one component.
+/// and isn't empty, at a path of one component: of a main name at its own path or at its template's.
 pub fn resolution_laws()
     ensures ends { FollowingFindsTheEnd }
     ensures mains { MainsAreTheirOwn }
@@ -62,6 +66,20 @@ pub fn resolution_laws()
     ensures choices { ChoicesDecide }
     ensures files { FragmentsAreFiles }
     ensures own { FragmentsHaveNoFolder }
+    ensures paths { FragmentsAreOwn }
+{}
+
+/// Which names are aliases of which decides all main names, and with the choice for a main name what
+/// stands for it. What is an alias of what is decided by alias words: of each name the targets of its
+/// own links, level by level, up to a file or a mask. Equal words also show equal names, and where the
+/// same is seen at a name's own paths its words are equal.
+pub fn alias_laws()
+    ensures mains { LeadsDecideMains }
+    ensures choices { LeadsAndChoiceDecide }
+    ensures words { AliasWordsDecide }
+    ensures own { OwnWordsDecide }
+    ensures shown { AliasWordsShow }
+    ensures sights { SightsDecideWords }
 {}
 
 /// Each name of a unit has the unit as its main, so the names of two units don't meet. A unit has

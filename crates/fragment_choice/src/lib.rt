@@ -14,7 +14,8 @@ mod resolutions;
 pub use aliases::AliasIndex;
 pub use choices::{Cause, Choice, choose};
 pub use laws::{
-    choice_laws, host_laws, likeness_laws, link_case_laws, link_laws, resolution_laws, unit_laws,
+    alias_laws, choice_laws, host_laws, likeness_laws, link_case_laws, link_laws, resolution_laws,
+    unit_laws,
 };
 pub use names::names_of;
 pub use resolutions::{Resolution, resolve};

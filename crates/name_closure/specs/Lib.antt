@@ -3,6 +3,7 @@ pub mod ClosureLaws
 pub mod LimitLaws
 pub mod DistanceLaws
 pub mod SourceLaws
+pub mod KeptLaws
 pub mod ListedLaws
 pub mod Faults
 pub mod Loading

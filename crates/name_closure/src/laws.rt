@@ -1,12 +1,15 @@
 //! Laws of what is reached, for all nodes, sources and steps: each the contract of a function that
 //! does nothing. Its type parameters stand for the sets and the steps that a clause speaks of.
-ghost use Rattle.std.specs.Prelude.{◌≡◌, ◌↔◌, ◌<◌, ◌≤◌, ◌+◌, ℕ, List, length};
+ghost use Rattle.std.specs.Prelude.{◌≡◌, ◌↔◌, ◌<◌, ◌≤◌, ◌+◌, ℕ, Bool, List, length};
+ghost use Rattle.std.specs.List.Sorted.{IsStrictlySortedBy};
 ghost use Rattle.std.specs.Map.{keys_of};
 ghost use Rattle.std.specs.declared.cmp.Ordering.TheVariants.{Equal};
 ghost use Rattle.list_laws.specs.Members.{IsAmong};
 ghost use Rattle.name_closure.specs.Chains.{IsReached, IsDistance, IsClosure, HasOver, IsDistances};
 ghost use Rattle.name_closure.specs.ClosureLaws.{IsClosed};
 ghost use Rattle.name_closure.specs.DistanceLaws.{HasDistance, HasNodeBefore};
+ghost use Rattle.name_closure.specs.KeptLaws.{StepsStay, StepsStayWithin, HasSameSteps, HasKnownAnd};
+ghost use Rattle.name_closure.specs.KeptLaws.{AreKnown, AreAdded, IsUnknownOf, LeadsBeyond};
 ghost use Rattle.name_closure.specs.ListedLaws.{Listed, Named};
 ghost use Rattle.name_closure.specs.Loading.{LeadsByLoad, AreLoaded};
 ghost use Rattle.name_closure.specs.SourceLaws.{AreSameNodes, AreSameSteps, IsInEither};
@@ -24,6 +27,12 @@ pub trait NodeSet<N> {
 pub trait StepSet<N> {
     // One step leads from the first node to the second.
     ghost leads: { N → N → Type 0 };
+}
+
+/// Nodes that are known, which only contracts see.
+pub trait KnownNodes<N> {
+    // Whether the node is known.
+    ghost known: { N → Bool };
 }
 
 /// What is reached has the sources, is closed under the steps, and is the least such set: it lies
@@ -84,6 +93,30 @@ pub fn closures_of_same_steps<N: Ord, S: NodeSet<N>, T: NodeSet<N>, E: StepSet<N
         → (n : N) (k : ℕ) → IsDistance S.holds E.leads n k ↔ IsDistance T.holds F.leads n k }
     ensures closures { AreSameNodes S.holds T.holds → AreSameSteps E.leads F.leads
         → (nodes : List N) → IsClosure S.holds E.leads N.cmp nodes → IsClosure T.holds F.leads N.cmp nodes }
+{}
+
+/// Where each old step from what was reached is a new one still, or leads to what is reached all the
+/// same, as to a source, what was reached stays reached. Where no new step leads out of it, the
+/// closure stays, as it does where what was reached has the same steps. Else all that is reached is
+/// that, and what is reached beyond it from the nodes that were added, by steps to unknown nodes alone.
+pub fn closures_kept<
+    N: Ord,
+    S: NodeSet<N>,
+    O: StepSet<N>,
+    E: StepSet<N>,
+    K: KnownNodes<N>,
+    A: NodeSet<N>,
+>()
+    ensures reached { StepsStay S.holds O.leads E.leads → (n : N) → IsReached S.holds O.leads n
+        → IsReached S.holds E.leads n }
+    ensures stays { StepsStayWithin S.holds O.leads E.leads → (nodes : List N) → IsClosure S.holds O.leads N.cmp nodes
+        → IsClosure S.holds E.leads N.cmp nodes }
+    ensures same { HasSameSteps S.holds O.leads E.leads → (nodes : List N) → IsClosure S.holds O.leads N.cmp nodes
+        → IsClosure S.holds E.leads N.cmp nodes }
+    ensures beyond { AreKnown S.holds O.leads E.leads K.known → StepsStay S.holds O.leads E.leads
+        → AreAdded S.holds O.leads E.leads K.known A.holds → (more all : List N)
+        → IsClosure (IsUnknownOf K.known A.holds) (LeadsBeyond K.known E.leads) N.cmp more
+        → IsStrictlySortedBy N.cmp all → HasKnownAnd K.known more all → IsClosure S.holds E.leads N.cmp all }
 {}
 
 /// A node for which something is loaded leads to just the nodes that are named there. Of one loader

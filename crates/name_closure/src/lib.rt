@@ -18,8 +18,8 @@ mod rounds;
 
 pub use closures::{close_by_rounds, close_loaded};
 pub use laws::{
-    NodeSet, StepSet, closures_of_same_steps, distances_by_lists, distances_of_nodes,
-    least_closed_sets, lists_of_closures, loaded_closures, sources_of_closures,
+    KnownNodes, NodeSet, StepSet, closures_kept, closures_of_same_steps, distances_by_lists,
+    distances_of_nodes, least_closed_sets, lists_of_closures, loaded_closures, sources_of_closures,
 };
 pub use loads::{ClosureFault, Loads, Round, load_each};
 pub use names::others_named;

@@ -2,6 +2,7 @@ pub mod Alone
 pub mod AloneLaws
 pub mod Found
 pub mod Indexes
+pub mod KeptLoadLaws
 pub mod KeyLaws
 pub mod LoadLaws
 pub mod Loads
@@ -10,5 +11,6 @@ pub mod PairLaws
 pub mod Refusals
 pub mod Settled
 pub mod Sources
+pub mod TouchedLaws
 pub mod Universe
 pub mod UniverseLaws

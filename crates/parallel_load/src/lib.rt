@@ -19,7 +19,7 @@ mod mains;
 mod sources;
 
 pub use faults::LoadFault;
-pub use laws::{load_laws, one_load};
+pub use laws::{kept_load_laws, load_laws, one_load, touched_laws};
 pub use loaded::{Dependency, Loaded, NameLoad};
 pub use loads::{MOST_NAMES, load_fleet, load_here};
 pub use unit_loads::{Status, Unit, UnitNote, load_one};

@@ -21,7 +21,7 @@ use Rattle.path_maps.specs.Scopes.{PathMap, scope_of, shown_at, within}
 use Rattle.path_maps.specs.ScopeLaws.{get-scope_of}
 use Rattle.path_maps.specs.Sights.{path_behind}
 use Rattle.path_maps.specs.ViewLaws.{get-seen}
-use Rattle.path_maps.specs.Views.{AreForOne, Own, View, content_at, held_by, held_by_own, looker_of, own_scope, scope_at, seen, seen_at, seen_place, view_of}
+use Rattle.path_maps.specs.Views.{AreForOne, Own, View, content_at, held_by, held_by_own, level_of, looker_of, own_of, own_scope, scope_at, seen, seen_at, seen_place, view_of}
 
 -- a place with a level is seen at it
 abbrev pub PlacesAreSeen : Type 0
@@ -38,6 +38,17 @@ OthersArentLookedAt = (s t : EntryMap) (host : Looker) (place : PlaceParts) → 
 -- a host without places of its own sees what is seen without one
 abbrev pub HostsWithoutPlacesSeeTheFleets : Type 0
 HostsWithoutPlacesSeeTheFleets = (s : EntryMap) (host : List ℕ) → ((path : PathParts) → finmap.get s (within (Host host) path) ≡ None) → seen (view_of s (Some host)) ≡ seen (view_of s None)
+
+-- two stores show the same at each place that this host sees at the path: its own or the fleet's, as the path's level is
+abbrev pub SameAtPlaces : EntryMap → EntryMap → Looker → PathParts → Type 0
+SameAtPlaces s t host p =
+    (place : PlaceParts) → level_for host place ≡ Some (level_of p) → place.path.folder ≡ p.folder → place.path.name ≡ p.name
+    → visible_at s place ≡ visible_at t place
+
+-- then they show this host the same at the path
+abbrev pub PlacesDecideSights : Type 0
+PlacesDecideSights = (s t : EntryMap) (host : Looker) (p : PathParts) → SameAtPlaces s t host p
+    → seen_at (view_of s host) p ≡ seen_at (view_of t host) p
 
 -- nothing is visible at a place of this scope
 abbrev pub ShowsNothing : EntryMap → Scope → Type 0
@@ -207,3 +218,37 @@ fleets_level s p c is = by (p.rank % 2 == 0) (sym (fleets_sights s p) ∙ is)
 
 pub fleets_place : (v : View) (p : PathParts) → (p.rank % 2 == 0) ≡ false → seen_place v p ≡ within Fleet (path_behind p)
 fleets_place v p odd = (λ i. record { scope = cond (odd i) (own_scope v.own) Fleet; path = path_behind p })
+
+-- ---- what places decide
+
+-- twice half of an even number is that number, and so is twice half of an odd one and one
+twice_half : (r : ℕ) → (r % 2 == 0) ≡ true → r / 2 + r / 2 ≡ r
+twice_half r even = let left : r % 2 ≡ 0 = grind (arith, nat_tests, even) in omega (arith, left)
+
+twice_half_and_one : (r : ℕ) → (r % 2 == 0) ≡ false → r / 2 + r / 2 + 1 ≡ r
+twice_half_and_one r odd = let left : ¬ (r % 2 ≡ 0) = grind (arith, nat_tests, odd) in omega (arith, left)
+
+-- what is looked at at an even level, or at an odd one
+abbrev looked_at : EntryMap → Looker → Bool → Option PathMap
+looked_at s host b = cond b (option_map (λ (o : Own). o.held) (option_map (own_of s) host)) (Some (scope_of s Fleet))
+
+pub places_decide_sights : PlacesDecideSights
+places_decide_sights s t host p same =
+    ap (option_and_then shown) (get-seen p (view_of s host))
+    ∙ by host (p.rank % 2 == 0) refl same
+    ∙ ap (option_and_then shown) (sym (get-seen p (view_of t host)))
+  where
+    by : (host : Looker) (b : Bool) → (p.rank % 2 == 0) ≡ b → SameAtPlaces s t host p
+        → option_and_then shown (option_and_then (λ (held : PathMap). finmap.get held (path_behind p)) (looked_at s host b))
+        ≡ option_and_then shown (option_and_then (λ (held : PathMap). finmap.get held (path_behind p)) (looked_at t host b))
+    by host false odd same =
+        ap (option_and_then shown) (get-scope_of Fleet s (path_behind p))
+        ∙ same (within Fleet (path_behind p)) (ap Some (twice_half_and_one p.rank odd)) refl refl
+        ∙ ap (option_and_then shown) (sym (get-scope_of Fleet t (path_behind p)))
+    by None true even same = refl
+    by (Some h) true even same =
+        ap (option_and_then shown) (get-scope_of (Host h) s (path_behind p))
+        ∙ same (within (Host h) (path_behind p))
+        (ap (λ b. cond b (Some (p.rank / 2 + p.rank / 2)) None) ((bytes_eq-Decides h h).1 refl) ∙ ap Some (twice_half p.rank even))
+        refl refl
+        ∙ ap (option_and_then shown) (sym (get-scope_of (Host h) t (path_behind p)))

@@ -69,10 +69,20 @@ module _ (s t : View) where
       ap (λ o. map (note.File p) (notes_of (file_bytes o)) ++ file_notes s ps) (same p (first_there p ps))
       ∙ ap (λ xs. map (note.File p) (notes_of (file_bytes (content_at t p))) ++ xs) (notes_same ps (λ q c. same q (later_there p q ps c)))
 
-module _ (s t : View) (one : AreForOne s t) (names : List Name) (near : (p : PathParts) → IsNear names p → seen_at s p ≡ seen_at t p) where
+-- the same is seen in the folders of a unit of these names
+abbrev pub AgreeInFolders : View → View → List Name → Type 0
+AgreeInFolders s t names = (p : PathParts) → IsAmong p.folder (unit_folders names) → seen_at s p ≡ seen_at t p
+
+-- what is seen at a path, and is the same in both, is the same at its place
+pub same_content : (s t : View) → AreForOne s t → (q : PathParts) (c : Content) → seen_at s q ≡ Some c → seen_at s q ≡ seen_at t q
+    → content_at s (seen_place s q) ≡ content_at t (seen_place s q)
+same_content s t one q c is same =
+    content_seen s q c is ∙ sym (content_seen t q c (sym same ∙ is)) ∙ ap (content_at t) (sym (same_place s t one q))
+
+module _ (s t : View) (one : AreForOne s t) (names : List Name) (inside : AgreeInFolders s t names) where
   -- a path in a folder of the unit shows the same
   shown_in : (ds : List (List ℕ)) → ((d : List ℕ) → IsAmong d ds → IsAmong d (unit_folders names)) → (p : PathParts) (i : ℕ) → slice_get ds i ≡ Some p.folder → seen_at s p ≡ seen_at t p
-  shown_in ds own p i f = near p (inr (own p.folder (placed_among ds i p.folder f)))
+  shown_in ds own p i f = inside p (own p.folder (placed_among ds i p.folder f))
 
   -- and the same is taken there
   same_taken : (x : Search) (ds : List (List ℕ)) → ((d : List ℕ) → IsAmong d ds → IsAmong d (unit_folders names)) → (c : Candidate) (p : PathParts) → IsTaken s x ds c p ↔ IsTaken t x ds c p
@@ -116,35 +126,41 @@ module _ (s t : View) (one : AreForOne s t) (names : List Name) (near : (p : Pat
     exact = λ n. (λ c. (same_linked folder n).0 ((are.exact n).0 c), λ h. (are.exact n).1 ((same_linked folder n).1 h));
   }
 
-  -- what is seen at a path, and is the same in both, is the same at its place
-  same_content : (q : PathParts) (c : Content) → seen_at s q ≡ Some c → seen_at s q ≡ seen_at t q → content_at s (seen_place s q) ≡ content_at t (seen_place s q)
-  same_content q c is same = content_seen s q c is ∙ sym (content_seen t q c (sym same ∙ is)) ∙ ap (content_at t) (sym (same_place s t one q))
-
   drop_in_shown : (p : PlaceParts) → IsDropInAt s names p → content_at s p ≡ content_at t p
   drop_in_shown p (q, is, d) =
       let file = (drop_in_paths_are_files s (folders names) q d).1 in
-      ap (content_at s) (sym is) ∙ same_content q (File (file.0 ∷ file.1)) file.2 (drop_in_folder_shown d.owner q d.place d.stands.folder_is) ∙ ap (content_at t) is
+      ap (content_at s) (sym is)
+      ∙ same_content s t one q (File (file.0 ∷ file.1)) file.2 (drop_in_folder_shown d.owner q d.place d.stands.folder_is)
+      ∙ ap (content_at t) is
 
-  -- the files of the unit show the same
-  files_shown : (fragment : PlaceParts) (dropins : List PlaceParts) → IsOwnFile s fragment → AreDropIns s names dropins → (p : PlaceParts) → Contains (fragment ∷ dropins) p → content_at s p ≡ content_at t p
-  files_shown fragment dropins (q, is, own, b, bs, file) are p c = by (first_or_later fragment p dropins c)
+  -- the files of the unit show the same, where its fragment does
+  files_shown : (fragment : PlaceParts) (dropins : List PlaceParts) → content_at s fragment ≡ content_at t fragment
+      → AreDropIns s names dropins → (p : PlaceParts) → Contains (fragment ∷ dropins) p → content_at s p ≡ content_at t p
+  files_shown fragment dropins own are p c = by (first_or_later fragment p dropins c)
     where
       by : (fragment ≡ p) ⊎ Contains dropins p → content_at s p ≡ content_at t p
-      by (inl e) = ap (content_at s) (sym (is ∙ e)) ∙ same_content q (File (b ∷ bs)) file (near q (inl own)) ∙ ap (content_at t) (is ∙ e)
+      by (inl e) = subst (λ (q : PlaceParts). content_at s q ≡ content_at t q) e own
       by (inr d) = drop_in_shown p ((are.exact p).0 d)
 
-module _ (s t : View) (one : AreForOne s t) (unit : LoadedUnit) (near : (p : PathParts) → IsNear unit.names p → seen_at s p ≡ seen_at t p) where
-  settings_same : (fragment : PlaceParts) → IsOwnFile s fragment → HasSettings s fragment unit → HasSettings t fragment unit
+module _ (s t : View) (one : AreForOne s t) (unit : LoadedUnit) (inside : AgreeInFolders s t unit.names) where
+  settings_same : (fragment : PlaceParts) → content_at s fragment ≡ content_at t fragment → HasSettings s fragment unit
+      → HasSettings t fragment unit
   settings_same fragment own h =
-      let files = files_shown s t one unit.names near fragment unit.dropins own h.dropins_are in
+      let files = files_shown s t one unit.names inside fragment unit.dropins own h.dropins_are in
       let items : items_of s (fragment ∷ unit.dropins) ≡ items_of t (fragment ∷ unit.dropins) = items_same s t (fragment ∷ unit.dropins) files in
       record {
         dropins_are = record {
           rising = h.dropins_are.rising;
-          exact = λ p. (λ c. (same_drop_in_at s t one unit.names near p).0 ((h.dropins_are.exact p).0 c), λ d. (h.dropins_are.exact p).1 ((same_drop_in_at s t one unit.names near p).1 d));
+          exact = λ p. (
+            λ c. (same_drop_in_at s t one unit.names inside p).0 ((h.dropins_are.exact p).0 c),
+            λ d. (h.dropins_are.exact p).1 ((same_drop_in_at s t one unit.names inside p).1 d),
+          );
         };
         links = h.links;
-        links_are = record { wanted_are = same_links s t one unit.names near Wants h.links.wanted h.links_are.wanted_are; required_are = same_links s t one unit.names near Requires h.links.required h.links_are.required_are };
+        links_are = record {
+          wanted_are = same_links s t one unit.names inside Wants h.links.wanted h.links_are.wanted_are;
+          required_are = same_links s t one unit.names inside Requires h.links.required h.links_are.required_are;
+        };
         values_are = h.values_are ∙ ap (λ xs. rows_of (settings_of xs) unit.name) items;
         deps_are = h.deps_are ∙ ap (λ xs. lists_with (settings_of xs) unit.name h.links) items;
         notes_are =
@@ -154,19 +170,28 @@ module _ (s t : View) (one : AreForOne s t) (unit : LoadedUnit) (near : (p : Pat
         manual_is = h.manual_is ∙ ap (λ xs. refuses (settings_of xs)) items;
       }
 
-  all_same : (status : Status) → ((fragment : PlaceParts) → status ≡ Loaded fragment → IsOwnFile s fragment) → HasAllOf s unit status → HasAllOf t unit status
+  -- a unit has the same in both, where its fragment is the same and what is seen in its folders
+  pub all_same : (status : Status) → ((fragment : PlaceParts) → status ≡ Loaded fragment → content_at s fragment ≡ content_at t fragment)
+      → HasAllOf s unit status → HasAllOf t unit status
   all_same (Loaded fragment) own h = settings_same fragment (own fragment refl) h
   all_same NotFound own h = h
   all_same Masked own h = h
   all_same (Bad cause) own h = h
 
 -- the status of a unit whose fragment is at a place came from the choice of that place
-chosen : (c : Choice) (status : Status) (fragment : PlaceParts) → IsStatus c status → status ≡ Loaded fragment → c ≡ choice.Fragment fragment
+pub chosen : (c : Choice) (status : Status) (fragment : PlaceParts) → IsStatus c status → status ≡ Loaded fragment
+    → c ≡ choice.Fragment fragment
 chosen choice.NotFound status fragment h e = cc (h, e)
 chosen choice.Masked status fragment h e = cc (h, e)
 chosen (choice.Fragment place) status fragment h e = cc (h, e)
 chosen (choice.Alias other) status fragment h e = absurd h
 chosen (choice.Bad cause) status fragment h e = cc (h, e)
+
+-- a file at a path of one component is the same, where near paths show the same
+own_file_shown : (s t : View) → AreForOne s t → (names : List Name) → ((p : PathParts) → IsNear names p → seen_at s p ≡ seen_at t p)
+    → (p : PlaceParts) → IsOwnFile s p → content_at s p ≡ content_at t p
+own_file_shown s t one names near p (q, is, own, b, bs, file) =
+    ap (content_at s) (sym is) ∙ same_content s t one q (File (b ∷ bs)) file (near q (inl own)) ∙ ap (content_at t) is
 
 pub near_paths_decide : NearPathsDecide
 near_paths_decide s t one name unit near u =
@@ -177,7 +202,11 @@ near_paths_decide s t one name unit near u =
       name_is = u.name_is;
       names_are = mains_decide s t mains name unit.names u.names_are;
       status_is = subst (λ (r : Resolution). IsStatus r.choice unit.status) (resolved name) u.status_is;
-      has = all_same s t one unit near unit.status (λ fragment e. fragments_are_seen s name fragment (chosen (resolution s name).choice unit.status fragment u.status_is e)) u.has;
+      has =
+          all_same s t one unit (λ p h. near p (inr h)) unit.status
+          (λ fragment e. own_file_shown s t one unit.names near fragment
+          (fragments_are_seen s name fragment (chosen (resolution s name).choice unit.status fragment u.status_is e)))
+          u.has;
     }
 
 -- what is near is not elsewhere

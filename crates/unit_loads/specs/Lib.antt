@@ -1,6 +1,8 @@
 pub mod AssignedLaws
 pub mod Elsewhere
 pub mod ElsewhereLaws
+pub mod FootprintLaws
+pub mod Footprints
 pub mod MemberLaws
 pub mod NameLaws
 pub mod NamedUnits

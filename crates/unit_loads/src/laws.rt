@@ -1,5 +1,6 @@
 //! What is true of all units: laws, each the contract of a function that does nothing.
 ghost use Rattle.unit_loads.specs.ElsewhereLaws.{ElsewhereChangesNothing, NearPathsDecide};
+ghost use Rattle.unit_loads.specs.FootprintLaws.{AgreeSeen, FootprintsDecide, StoreFootprintsDecide};
 ghost use Rattle.unit_loads.specs.NameLaws.{ListsHaveWhatIsNamed, ListsRise, OthersNameNone, UnitsListAllKinds};
 ghost use Rattle.unit_loads.specs.TypeLaws.{UnitsHaveOneType};
 ghost use Rattle.unit_loads.specs.UnitLaws.{OneUnit};
@@ -28,4 +29,13 @@ pub fn named_unit_laws()
 pub fn elsewhere_laws()
     ensures near { NearPathsDecide }
     ensures elsewhere { ElsewhereChangesNothing }
+{}
+
+/// Where names are aliases of the same, a unit is decided by what is seen in its footprint: at its name's own paths and
+/// its template's, in the folders of its names and in its type's. So two stores that show the same there to a host have
+/// the same unit for it.
+pub fn footprint_laws()
+    ensures units { FootprintsDecide }
+    ensures stores { StoreFootprintsDecide }
+    ensures seen { AgreeSeen }
 {}

@@ -1,4 +1,5 @@
-use Rattle.fragment_choice.specs.ChoiceLaws.{least_level_chooses, templates_come_last, greater_levels_dont_count, masks_hide, only_visible_counts, own_paths_count, removals_give_back}
+use Rattle.fragment_choice.specs.ChoiceLaws.{least_level_chooses, templates_come_last, greater_levels_dont_count, masks_hide}
+use Rattle.fragment_choice.specs.ChoiceLaws.{only_visible_counts, own_paths_count, own_paths_decide, removals_give_back}
 use Rattle.fragment_choice.specs.SilenceLaws.{silence_is_not_found}
 use Rattle.fragment_choice.proofs.laws.choice_laws.Goals as goal
 
@@ -10,6 +11,7 @@ returns c = record {
   masks = masks_hide;
   visible = only_visible_counts;
   own = own_paths_count;
+  paths = own_paths_decide;
   removals = removals_give_back;
   silence = silence_is_not_found;
 }

@@ -1,6 +1,14 @@
 use Rattle.fragment_choice.specs.ResolutionLaws.{choices_decide, following_finds_the_end, mains_are_their_own, no_alias_stands}
-use Rattle.fragment_choice.specs.FragmentLaws.{fragments_are_files, fragments_have_no_folder}
+use Rattle.fragment_choice.specs.FragmentLaws.{fragments_are_files, fragments_are_own, fragments_have_no_folder}
 use Rattle.fragment_choice.proofs.laws.resolution_laws.Goals as goal
 
 pub returns : goal.returns
-returns c = record { ends = following_finds_the_end; mains = mains_are_their_own; no_alias = no_alias_stands; choices = choices_decide; files = fragments_are_files; own = fragments_have_no_folder }
+returns c = record {
+  ends = following_finds_the_end;
+  mains = mains_are_their_own;
+  no_alias = no_alias_stands;
+  choices = choices_decide;
+  files = fragments_are_files;
+  own = fragments_have_no_folder;
+  paths = fragments_are_own;
+}

@@ -1,0 +1,73 @@
+-- Which names are aliases of which decides all main names, and with the choice for a main name what stands for it.
+use Rattle.std.proofs.Common.{◌≡◌, ℕ, refl, ap, sym, ◌∙◌, subst}
+use Rattle.std.specs.Prelude.{◌↔◌}
+use Rattle.path_maps.specs.Views.{View}
+use Rattle.unit_name.specs.Names.{Name}
+use Rattle.fragment_choice.specs.declared.choices.Cause.TheVariants.{Loop}
+use Rattle.fragment_choice.specs.declared.choices.Choice.{Choice}
+use Rattle.fragment_choice.specs.declared.choices.Choice.TheVariants.{NotFound, Masked, Fragment, Alias, Bad}
+use Rattle.fragment_choice.specs.declared.resolutions.Resolution.{Resolution}
+use Rattle.fragment_choice.specs.Choices.{choice}
+use Rattle.fragment_choice.specs.Resolutions.{Chain, IsEnd, Leads, Resolves, resolution, main}
+use Rattle.fragment_choice.specs.Resolutions.Chain.{here, step}
+use Rattle.fragment_choice.specs.Resolutions.Resolves.{ends_at, goes_on}
+use Rattle.fragment_choice.specs.ResolutionLaws.{resolution_resolves, following_finds_the_end}
+
+-- the same names are aliases of the same
+abbrev pub SameLeads : View → View → Type 0
+SameLeads s t = (n m : Name) → Leads s n m ↔ Leads t n m
+
+-- views with the same aliases have the same main name for each name
+abbrev pub LeadsDecideMains : Type 0
+LeadsDecideMains = (s t : View) → SameLeads s t → (n : Name) → main s n ≡ main t n
+
+-- and the same stands for a main name where the choice for it is the same
+abbrev pub LeadsAndChoiceDecide : Type 0
+LeadsAndChoiceDecide =
+    (s t : View) → SameLeads s t → (u : Name) → main s u ≡ u → choice s u ≡ choice t u → resolution s u ≡ resolution t u
+
+module _ (s t : View) (same : SameLeads s t) where
+  chain_same : (k : ℕ) (n u : Name) → Chain s k n u → Chain t k n u
+  chain_same k n u (here _) = here n
+  chain_same k n u (step _ m _ d l rest) = step n m u d ((same n m).0 l) (chain_same d m u rest)
+
+  end_same : (u : Name) → IsEnd (choice s u) → IsEnd (choice t u)
+  end_same u ends = by (choice t u) refl
+    where
+      by : (c : Choice) → choice t u ≡ c → IsEnd c
+      by NotFound e = tt
+      by Masked e = tt
+      by (Fragment p) e = tt
+      by (Alias m) e = subst IsEnd ((same u m).1 e) ends
+      by (Bad x) e = tt
+
+  ended : Name → Choice → Resolution
+  ended u c = record { main = u; choice = c }
+
+  main_by : (n : Name) (r : Resolution) → Resolves s n r → r.main ≡ main t n
+  unfolding ended
+  main_by n r (ends_at k u le chain ends) =
+      sym
+      (ap (λ (x : Resolution). x.main)
+      ((following_finds_the_end t n (ended u (choice t u))).0 (ends_at k u le (chain_same k n u chain) (end_same u ends))))
+  main_by n r (goes_on u chain) =
+      sym
+      (ap (λ (x : Resolution). x.main)
+      ((following_finds_the_end t n (ended n (Bad Loop))).0 (goes_on u (chain_same 9 n u chain))))
+
+  resolved_by : (u : Name) (r : Resolution) → r.main ≡ u → choice s u ≡ choice t u → Resolves s u r → r ≡ resolution t u
+  unfolding ended
+  resolved_by u r own here_same (ends_at k v le chain ends) =
+      let at_end : choice s v ≡ choice t v = subst (λ (w : Name). choice s w ≡ choice t w) (sym own) here_same in
+      ap (ended v) at_end
+      ∙ sym
+      ((following_finds_the_end t u (ended v (choice t v))).0 (ends_at k v le (chain_same k u v chain) (end_same v ends)))
+  resolved_by u r own here_same (goes_on v chain) =
+      sym ((following_finds_the_end t u (ended u (Bad Loop))).0 (goes_on v (chain_same 9 u v chain)))
+
+pub leads_decide_mains : LeadsDecideMains
+leads_decide_mains s t same n = main_by s t same n (resolution s n) (resolution_resolves s n)
+
+pub leads_and_choice_decide : LeadsAndChoiceDecide
+leads_and_choice_decide s t same u own here_same =
+    resolved_by s t same u (resolution s u) own here_same (resolution_resolves s u)

@@ -1,0 +1,102 @@
+-- Where names are aliases of the same, what is seen in a unit's footprint decides the unit.
+use Rattle.std.proofs.Common.{◌≡◌, ℕ, Option, Some, None, List, ◌∷◌, ◌++◌, refl, ap, sym, ◌∙◌, subst, inl, inr}
+use Rattle.std.specs.Prelude.{◌⊎◌, is_some}
+use Rattle.list_laws.specs.Members.{IsAmong, IsAmong-append_left, IsAmong-append_right}
+use Rattle.load_path.specs.Paths.{PathParts}
+use Rattle.load_places.specs.Levels.{Looker}
+use Rattle.load_places.specs.Places.{PlaceParts}
+use Rattle.edit_sums.specs.declared.contents.Content.TheVariants.{File}
+use Rattle.edit_sums.specs.Sums.{EntryMap}
+use Rattle.path_maps.specs.SeenLaws.{places_decide_sights}
+use Rattle.path_maps.specs.Views.{AreForOne, View, content_at, view_of}
+use Rattle.unit_name.specs.Names.{Name}
+use Rattle.unit_name.specs.Forms.{template_of}
+use Rattle.fragment_choice.specs.declared.resolutions.Resolution.{Resolution}
+use Rattle.fragment_choice.specs.ChoiceLaws.{IsOwnPath, own_paths_decide}
+use Rattle.fragment_choice.specs.FragmentLaws.{IsOwnFileOf, fragments_are_own}
+use Rattle.fragment_choice.specs.LeadsLaws.{SameLeads, leads_decide_mains, leads_and_choice_decide}
+use Rattle.fragment_choice.specs.Resolutions.{main, resolution}
+use Rattle.fragment_choice.specs.UnitNameLaws.{mains_decide}
+use Rattle.dropins.specs.FolderLists.{listed, with_template}
+use Rattle.unit_loads.specs.declared.units.Unit.{Unit as LoadedUnit}
+use Rattle.unit_loads.specs.Elsewhere.{unit_folders}
+use Rattle.unit_loads.specs.ElsewhereLaws.{all_same, chosen, same_content}
+use Rattle.unit_loads.specs.Footprints.{AgreeIn, StartsIn, StoresAgreeIn, footprint}
+use Rattle.unit_loads.specs.Footprints.StartsIn.{alone, within}
+use Rattle.unit_loads.specs.Units.{IsStatus, IsUnit}
+
+-- Views for one host with the same aliases that show the same in a unit's footprint have the same unit.
+abbrev pub FootprintsDecide : Type 0
+FootprintsDecide =
+    (s t : View) → AreForOne s t → (name : Name) (unit : LoadedUnit) → SameLeads s t → AgreeIn s t (footprint name unit.names)
+    → IsUnit s name unit → IsUnit t name unit
+
+-- Stores that show the same to a host in a unit's footprint have the same unit for it, where it sees the same aliases.
+abbrev pub StoreFootprintsDecide : Type 0
+StoreFootprintsDecide =
+    (s t : EntryMap) (host : Looker) (name : Name) (unit : LoadedUnit) → SameLeads (view_of s host) (view_of t host)
+    → StoresAgreeIn s t host (footprint name unit.names) → IsUnit (view_of s host) name unit → IsUnit (view_of t host) name unit
+
+-- stores that show the same to a host at places show it the same at the paths
+abbrev pub AgreeSeen : Type 0
+AgreeSeen =
+    (s t : EntryMap) (host : Looker) (parts : List (List ℕ)) → StoresAgreeIn s t host parts
+    → AgreeIn (view_of s host) (view_of t host) parts
+
+-- a path of the name or of its template begins with one of the footprint
+own_among : (n o : Name) → (o ≡ n) ⊎ (template_of n ≡ Some o) → IsAmong o (with_template n)
+own_among n o (inl e) = inl (sym e)
+own_among n o (inr e) = inr (subst (λ (x : Option Name). IsAmong o (listed x)) (sym e) (inl refl))
+
+own_starts : (n : Name) (p : PathParts) (more : List (List ℕ)) → IsOwnPath n p → StartsIn (with_template n ++ more) p
+own_starts n p more o =
+    alone o.no_folder
+    (IsAmong-append_left p.name (with_template n) more
+    (subst (λ (x : List ℕ). IsAmong x (with_template n)) (sym o.name_is) (own_among n o.owner o.owns)))
+
+file_shown : (s t : View) → AreForOne s t → (n : Name) (names : List Name) → AgreeIn s t (footprint n names) → (p : PlaceParts)
+    → IsOwnFileOf s n p → content_at s p ≡ content_at t p
+file_shown s t one n names agree p f =
+    ap (content_at s) (sym f.place_is)
+    ∙ same_content s t one f.path (File (f.first ∷ f.rest)) f.shows (agree f.path (own_starts n f.path (unit_folders names) f.own))
+    ∙ ap (content_at t) f.place_is
+
+pub footprints_decide : FootprintsDecide
+footprints_decide s t one name unit leads agree u =
+    let mains : (n : Name) → main s n ≡ main t n = leads_decide_mains s t leads in
+    let chosen_same = own_paths_decide s t one name (λ p o. agree p (own_starts name p (unit_folders unit.names) o)) in
+    let resolved : resolution s name ≡ resolution t name = leads_and_choice_decide s t leads name u.main_is chosen_same in
+    record {
+      main_is = sym (mains name) ∙ u.main_is;
+      name_is = u.name_is;
+      names_are = mains_decide s t mains name unit.names u.names_are;
+      status_is = subst (λ (r : Resolution). IsStatus r.choice unit.status) resolved u.status_is;
+      has =
+          all_same s t one unit
+          (λ p h. agree p (within (IsAmong-append_right p.folder (with_template name) (unit_folders unit.names) h)))
+          unit.status
+          (λ fragment e. file_shown s t one name unit.names agree fragment
+          (fragments_are_own s name fragment u.main_is (chosen (resolution s name).choice unit.status fragment u.status_is e)))
+          u.has;
+    }
+
+-- ---- stores
+
+-- two stores are looked at for one host
+pub one_host : (s t : EntryMap) (host : Looker) → AreForOne (view_of s host) (view_of t host)
+one_host s t None = refl
+one_host s t (Some h) = refl
+
+same_start : (parts : List (List ℕ)) (p q : PathParts) → q.folder ≡ p.folder → q.name ≡ p.name → StartsIn parts p → StartsIn parts q
+same_start parts p q folder name (alone bare among) = alone (folder ∙ bare) (subst (λ (x : List ℕ). IsAmong x parts) (sym name) among)
+same_start parts p q folder name (within among) = within (subst (λ (x : List ℕ). IsAmong x parts) (sym folder) among)
+
+pub agree_seen : AgreeSeen
+agree_seen s t host parts agree p starts =
+    places_decide_sights s t host p
+    (λ place level folder name. agree place (same_start parts p place.path folder name starts) (ap is_some level))
+
+pub store_footprints_decide : StoreFootprintsDecide
+store_footprints_decide s t host name unit leads agree u =
+    footprints_decide (view_of s host) (view_of t host) (one_host s t host) name unit leads
+    (agree_seen s t host (footprint name unit.names) agree) u
