@@ -13,13 +13,12 @@ use Rattle.edit_sums.specs.declared.contents.Content.{Content}
 use Rattle.edit_sums.specs.declared.contents.Content.TheVariants.{Gone, Link, File}
 use Rattle.edit_sums.specs.Entries.{Entry}
 use Rattle.edit_sums.specs.Sums.{shown}
-use Rattle.load_path.specs.Paths.{PathParts}
 use Rattle.path_maps.specs.Views.{View, seen, seen_at}
 use Rattle.unit_name.specs.Names.{Name}
 use Rattle.unit_name.specs.Forms.{template_of}
 use Rattle.fragment_choice.specs.declared.choices.Choice.{Choice}
 use Rattle.fragment_choice.specs.declared.choices.Choice.TheVariants as choice
-use Rattle.fragment_choice.specs.AliasWords.{Target, alias_words, own_targets, target_at, target_part, targets_in, words_of}
+use Rattle.fragment_choice.specs.AliasWords.{Target, alias_words, target_at, target_part, targets_in, words_of}
 use Rattle.fragment_choice.specs.Choices.{choice as chosen_for, content_says, is_null, last_component, link_says}
 use Rattle.fragment_choice.specs.Choices.{own_choice, own_path, own_place, says}
 use Rattle.fragment_choice.specs.LeadsLaws.{SameLeads}

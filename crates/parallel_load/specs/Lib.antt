@@ -3,6 +3,7 @@ pub mod AloneLaws
 pub mod Footprints
 pub mod Found
 pub mod Indexes
+pub mod KeptLoadLaws
 pub mod KeyLaws
 pub mod ListsHeld
 pub mod LoadHeld
@@ -16,5 +17,6 @@ pub mod Refusals
 pub mod Settled
 pub mod Sources
 pub mod Touched
+pub mod TouchedLaws
 pub mod Universe
 pub mod UniverseLaws

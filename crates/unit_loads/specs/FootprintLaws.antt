@@ -1,5 +1,5 @@
 -- Where names are aliases of the same, what is seen in a unit's footprint decides the unit.
-use Rattle.std.proofs.Common.{◌≡◌, ℕ, Option, Some, None, List, [], ◌∷◌, ◌++◌, refl, ap, sym, ◌∙◌, subst, inl, inr}
+use Rattle.std.proofs.Common.{◌≡◌, ℕ, Option, Some, None, List, ◌∷◌, ◌++◌, refl, ap, sym, ◌∙◌, subst, inl, inr}
 use Rattle.std.specs.Prelude.{◌⊎◌, is_some}
 use Rattle.list_laws.specs.Members.{IsAmong, IsAmong-append_left, IsAmong-append_right}
 use Rattle.load_path.specs.Paths.{PathParts}

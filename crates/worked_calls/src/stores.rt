@@ -17,7 +17,7 @@ pub fn answer(words: &mut Words, out: &mut Answer) -> Result<(), LineFault> {
         b"absorb" => absorbed(words, out),
         b"get" | b"visible" => at_place(call, words, out),
         b"folder" => of_folder(words, out),
-        b"of" | b"copy" | b"same" | b"high" | b"len" | b"list" => {
+        b"of" | b"copy" | b"same" | b"changed" | b"high" | b"len" | b"list" => {
             told(call, &words.store()?, words, out)
         },
         _ => of_seen(call, words, out),
@@ -30,6 +30,7 @@ fn told(call: &[u8], first: &Store, words: &mut Words, out: &mut Answer) -> Resu
         b"of" => append_store(out, first),
         b"copy" => append_store(out, &first.try_clone()?),
         b"same" => out.either(first.same(&words.store()?), b"yes", b"no"),
+        b"changed" => append_places(out, &first.changed(&words.store()?)?),
         b"high" => out.print(&first.high()),
         b"len" => append_sizes(out, first),
         b"list" => append_places(out, &first.list()?),

@@ -1,4 +1,5 @@
-use Rattle.path_maps.specs.SeenLaws.{hosts_without_places_see_the_fleets, others_arent_looked_at, places_are_seen, places_decide_sights, what_is_seen_has_a_place}
+use Rattle.path_maps.specs.SeenLaws.{hosts_without_places_see_the_fleets, others_arent_looked_at, places_are_seen}
+use Rattle.path_maps.specs.SeenLaws.{places_decide_sights, what_is_seen_has_a_place}
 use Rattle.path_maps.proofs.laws.seen_laws.Goals as goal
 
 pub returns-clause-places : goal.returns-clause-places

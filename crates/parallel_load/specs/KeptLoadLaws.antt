@@ -1,0 +1,188 @@
+-- What of a load stays: the universe, where aliases and visible names are the same and no unit names what is new
+-- or loses a name but sources; and what stands for a name, where its unit's footprint shows the same.
+-- Source: this project's own.
+use Rattle.std.proofs.Common.{◌≡◌, List, [], ◌∷◌, map, filter, not, refl, ap, sym, ◌∙◌, subst, inl, inr}
+use Rattle.std.specs.Prelude.{◌↔◌, ◌⊎◌}
+use Rattle.path_maps.specs.Views.{AreForOne, View}
+use Rattle.unit_name.specs.Names.{Name, name_cmp}
+use Rattle.setting_rules.specs.declared.dependency_lists.DependencyList.{DependencyList}
+use Rattle.setting_rules.specs.declared.kinds.DepKind.{DepKind}
+use Rattle.setting_rules.specs.Dependencies.{in_byte_order}
+use Rattle.fragment_choice.specs.AliasWordLaws.{SameWords, alias_words_show}
+use Rattle.fragment_choice.specs.Choices.{is_same}
+use Rattle.fragment_choice.specs.LeadsLaws.{SameLeads, leads_decide_mains}
+use Rattle.fragment_choice.specs.Resolutions.{main}
+use Rattle.name_closure.specs.ClosureLaws.{reached_closed}
+use Rattle.name_closure.specs.Chains.{IsReached}
+use Rattle.name_closure.specs.KeptLaws.{closure_stays}
+use Rattle.name_closure.specs.SourceLaws.{same_closure}
+use Rattle.unit_loads.specs.declared.units.Unit.{Unit as LoadedUnit}
+use Rattle.unit_loads.specs.FootprintLaws.{footprints_decide}
+use Rattle.unit_loads.specs.Footprints.{AgreeIn, footprint}
+use Rattle.unit_loads.specs.NameLaws.{lists_have_what_is_named}
+use Rattle.unit_loads.specs.NamedUnits.{IsListed}
+use Rattle.unit_loads.specs.Units.{IsUnit}
+use Rattle.parallel_load.specs.declared.loaded.NameLoad.{NameLoad}
+use Rattle.parallel_load.specs.declared.loaded.NameLoad.TheVariants.{Unit as OfUnit, Alias as OfAlias}
+use Rattle.parallel_load.specs.Loads.{IsNameLoad, by_mains, list_by_mains}
+use Rattle.parallel_load.specs.Universe.{AreUniverse, IsInUniverse, IsSource, IsVisibleName, LeadsTo, Names}
+
+-- something is visible at the same names
+abbrev pub SameVisibleNames : View → View → Type 0
+SameVisibleNames s t = (n : Name) → IsVisibleName s n ↔ IsVisibleName t n
+
+-- views with equal alias words have the same visible names
+abbrev pub WordsKeepVisibleNames : Type 0
+WordsKeepVisibleNames = (s t : View) → SameWords s t → SameVisibleNames s t
+
+-- a unit's lists have the name, in some way
+abbrev pub NamesIn : LoadedUnit → Name → Type 0
+NamesIn unit m = (dep : DepKind) × IsListed unit.deps dep m
+
+-- The units of a name in both views: what the one before names the one after does too, or it is a source; and what the one after names is
+-- in the universe.
+pub record NamesWithin (s t : View) (extra : List Name) (n : Name) : Type 0 where
+  pub before : LoadedUnit
+  pub after : LoadedUnit
+  pub is_before : IsUnit s n before
+  pub is_after : IsUnit t n after
+  pub kept : (m : Name) → NamesIn before m → NamesIn after m ⊎ IsSource s extra m
+  pub known : (m : Name) → NamesIn after m → IsInUniverse s extra m
+
+-- the units of a name in both views name the same
+pub record KeepsItsNames (s t : View) (n : Name) : Type 0 where
+  pub before : LoadedUnit
+  pub after : LoadedUnit
+  pub is_before : IsUnit s n before
+  pub is_after : IsUnit t n after
+  pub same : (m : Name) → NamesIn before m ↔ NamesIn after m
+
+-- where aliases and visible names are the same, and each unit of the universe stays within it, the universe stays
+abbrev pub UniverseStays : Type 0
+UniverseStays =
+    (s t : View) (extra names : List Name) → SameLeads s t → SameVisibleNames s t
+    → ((n : Name) → IsInUniverse s extra n → main s n ≡ n → NamesWithin s t extra n) → AreUniverse s extra names → AreUniverse t extra names
+
+-- as where each unit of the universe names the same
+abbrev pub SameNamesKeepTheUniverse : Type 0
+SameNamesKeepTheUniverse =
+    (s t : View) (extra names : List Name) → SameLeads s t → SameVisibleNames s t
+    → ((n : Name) → IsInUniverse s extra n → main s n ≡ n → KeepsItsNames s t n) → AreUniverse s extra names → AreUniverse t extra names
+
+-- the footprint of the unit that stands for a name shows the same; of an alias nothing is asked
+abbrev pub AgreesAt : View → View → Name → NameLoad → Type 0
+AgreesAt s t n (OfUnit unit) = AgreeIn s t (footprint n unit.names)
+AgreesAt s t n (OfAlias of) = Unit {0}
+
+-- then the same stands for the name, by the main names that are the same too
+abbrev pub NameLoadsStay : Type 0
+NameLoadsStay =
+    (s t : View) → AreForOne s t → (n : Name) (one : NameLoad) → SameLeads s t → AgreesAt s t n one
+    → IsNameLoad s n one → IsNameLoad t n one
+
+pub words_keep_visible_names : WordsKeepVisibleNames
+words_keep_visible_names s t same n = (
+  λ v. (let h = (alias_words_show s t n (same n)).0 (v.0, v.1, v.2.shown) in
+      (h.0, h.1, record { name = v.2.name; whole = v.2.whole; shown = h.2 })),
+  λ v. (let h = (alias_words_show s t n (same n)).1 (v.0, v.1, v.2.shown) in
+      (h.0, h.1, record { name = v.2.name; whole = v.2.whole; shown = h.2 })),
+)
+
+-- ---- the universe
+
+-- what a unit names is what its lists have
+named_there : (s : View) (n m : Name) (unit : LoadedUnit) → IsUnit s n unit → NamesIn unit m → Names s n m
+named_there s n m unit u l = record { own = u.main_is; dep = l.0; named = (lists_have_what_is_named s n unit l.0 m u).0 l.1 }
+
+listed_there : (s : View) (n m : Name) (unit : LoadedUnit) → IsUnit s n unit → Names s n m → NamesIn unit m
+listed_there s n m unit u h = (h.dep, (lists_have_what_is_named s n unit h.dep m u).1 h.named)
+
+module _ (s t : View) (leads : SameLeads s t) where
+  mains : (n : Name) → main s n ≡ main t n
+  mains = leads_decide_mains s t leads
+
+  module _ (extra : List Name) (keeps : (n : Name) → IsInUniverse s extra n → main s n ≡ n → NamesWithin s t extra n) where
+    -- no step is lost but to a source
+    stays : (n m : Name) → IsInUniverse s extra n → LeadsTo s n m → LeadsTo t n m ⊎ IsReached (IsSource s extra) (LeadsTo t) m
+    stays n m r (inl e) = inl (inl (sym (mains n) ∙ e))
+    stays n m r (inr h) = let k = keeps n r h.own in by k (k.kept m (listed_there s n m k.before k.is_before h))
+      where
+        by : (k : NamesWithin s t extra n) → NamesIn k.after m ⊎ IsSource s extra m
+            → LeadsTo t n m ⊎ IsReached (IsSource s extra) (LeadsTo t) m
+        by k (inl l) = inl (inr (named_there t n m k.after k.is_after l))
+        by k (inr source) = inr (record { steps = 0; chain = source })
+
+    -- and none leads out of the universe
+    within : (n m : Name) → IsInUniverse s extra n → LeadsTo t n m → IsInUniverse s extra m
+    within n m r (inl e) = (reached_closed (IsSource s extra) (LeadsTo s)).stepped n m r (inl (mains n ∙ e))
+    within n m r (inr h) = let k = keeps n r (mains n ∙ h.own) in k.known m (listed_there t n m k.after k.is_after h)
+
+  same_sources : (extra : List Name) → SameVisibleNames s t → (n : Name) → IsSource s extra n ↔ IsSource t extra n
+  same_sources extra same n = (there, back)
+    where
+      there : IsSource s extra n → IsSource t extra n
+      there (inl a) = inl a
+      there (inr v) = inr ((same n).0 v)
+
+      back : IsSource t extra n → IsSource s extra n
+      back (inl a) = inl a
+      back (inr v) = inr ((same n).1 v)
+
+  -- ---- units by main names
+
+  filtered_same : (unit : Name) (names : List Name)
+      → filter (λ m. not (is_same m unit)) (map (main s) names) ≡ filter (λ m. not (is_same m unit)) (map (main t) names)
+  filtered_same unit names = ap (filter (λ m. not (is_same m unit))) (by names)
+    where
+      by : (ns : List Name) → map (main s) ns ≡ map (main t) ns
+      by [] = refl
+      by (x ∷ xs) = ap (λ y. y ∷ map (main s) xs) (mains x) ∙ ap (λ ys. main t x ∷ ys) (by xs)
+
+  made_list : DepKind → List Name → DependencyList
+  made_list dep names = record { kind = dep; names = names }
+
+  lists_same : (unit : Name) (lists : List DependencyList)
+      → map (list_by_mains (main s) unit) lists ≡ map (list_by_mains (main t) unit) lists
+  unfolding made_list
+  lists_same unit [] = refl
+  lists_same unit (l ∷ ls) =
+      ap (λ ns. made_list l.kind (in_byte_order ns) ∷ map (list_by_mains (main s) unit) ls) (filtered_same unit l.names)
+      ∙ ap (λ ys. list_by_mains (main t) unit l ∷ ys) (lists_same unit ls)
+
+  pub by_mains_same : (unit : LoadedUnit) → by_mains (main s) unit ≡ by_mains (main t) unit
+  by_mains_same unit = ap (λ ls. let r : LoadedUnit = record unit { deps = ls } in r) (lists_same unit.name unit.deps)
+
+pub universe_stays : UniverseStays
+universe_stays s t extra names leads visible keeps all =
+    same_closure (IsSource s extra) (IsSource t extra) (LeadsTo t) (LeadsTo t) (same_sources s t leads extra visible)
+    (λ n m. (λ h. h, λ h. h)) name_cmp names
+    (closure_stays (IsSource s extra) (LeadsTo s) (LeadsTo t)
+    (record { stay = stays s t leads extra keeps; within = within s t leads extra keeps }) name_cmp names all)
+
+pub same_names_keep_the_universe : SameNamesKeepTheUniverse
+same_names_keep_the_universe s t extra names leads visible keeps all =
+    universe_stays s t extra names leads visible (λ n r own. by n r (keeps n r own)) all
+  where
+    by : (n : Name) → IsInUniverse s extra n → KeepsItsNames s t n → NamesWithin s t extra n
+    by n r k = record {
+      before = k.before;
+      after = k.after;
+      is_before = k.is_before;
+      is_after = k.is_after;
+      kept = λ m l. inl ((k.same m).0 l);
+      known = λ m l.
+          (reached_closed (IsSource s extra) (LeadsTo s)).stepped n m r (inr (named_there s n m k.before k.is_before ((k.same m).1 l)));
+    }
+
+-- ---- what stands for a name
+
+pub name_loads_stay : NameLoadsStay
+name_loads_stay s t one n (OfUnit unit) leads agree p = record {
+  alone = p.alone;
+  is_unit =
+      footprints_decide s t one n p.alone leads
+      (subst (λ (ns : List Name). AgreeIn s t (footprint n ns)) (ap (λ (u : LoadedUnit). u.names) p.by_mains_is) agree) p.is_unit;
+  by_mains_is = p.by_mains_is ∙ by_mains_same s t leads p.alone;
+}
+name_loads_stay s t one n (OfAlias of) leads agree p =
+    record { main_is = sym (leads_decide_mains s t leads n) ∙ p.main_is; other = p.other }
