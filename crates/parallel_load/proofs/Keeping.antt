@@ -1,5 +1,5 @@
 -- Facts that hold of each element of a list, and lists that are compared.
-use Rattle.std.proofs.Common.{◌≡◌, ◌<◌, ◌+◌, ◌&&◌, ℕ, Bool, true, false, Some, List, [], ◌∷◌, ◌++◌, length, get_or, take, refl, ap, sym, ◌∙◌, subst}
+use Rattle.std.proofs.Common.{◌≡◌, ◌<◌, ◌+◌, ◌&&◌, ◌||◌, ℕ, Bool, true, false, List, [], ◌∷◌, ◌++◌, length, get_or, take, refl, ap, sym, ◌∙◌, subst, inl, inr}
 use denote.Enum.Bare.{same_true}
 use Rattle.std.specs.Prelude.{◌↔◌, IsPermutation, IsSorted}
 use Rattle.std.specs.List.{All, dedup, list_any}
@@ -65,3 +65,13 @@ module _ (names s d : List Name) (permutation : IsPermutation names s) (sorted :
     λ h. among_from_contains part names ((names_stay names part).0 (contains_from_among part (in_byte_order names) (subst (IsAmong part) order h))),
     λ h. subst (IsAmong part) (sym order) (among_from_contains part (in_byte_order names) ((names_stay names part).1 (contains_from_among part names h))),
   )
+
+-- a list has a name that is among it, as the test asks it
+pub any_there : (z : Name) (xs : List Name) → IsAmong z xs → list_any (λ y. eq_by_cmp name_cmp y z) xs ≡ true
+any_there z [] h = absurd h
+any_there z (y ∷ xs) (inl e) = ap (λ b. b || list_any (λ x. eq_by_cmp name_cmp x z) xs) ((name_eq-Decides y z).1 e)
+any_there z (y ∷ xs) (inr h) = ap (λ b. eq_by_cmp name_cmp y z || b) (any_there z xs h) ∙ or_true (eq_by_cmp name_cmp y z)
+  where
+    or_true : (b : Bool) → (b || true) ≡ true
+    or_true true = refl
+    or_true false = refl

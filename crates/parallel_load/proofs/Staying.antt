@@ -1,11 +1,11 @@
 -- What stays of a load where some places changed.
-use Rattle.std.proofs.Common.{Bor, ◌≡◌, ◌<◌, ◌+◌, ℕ, zero, suc, Bool, false, true, Option, Some, None, List, [], ◌∷◌, ◌++◌, length, get_or, take, IsTrue, refl, ap, sym, ◌∙◌, subst, inl, inr, arith}
-use Rattle.std.specs.Prelude.{◌⊎◌, IfSome, IsSome, is_some}
+use Rattle.std.proofs.Common.{Bor, ◌≡◌, ◌<◌, ◌≤◌, ◌+◌, ℕ, zero, suc, Bool, false, true, Option, Some, None, List, [], ◌∷◌, ◌++◌, length, get_or, take, IsTrue, refl, ap, sym, ◌∙◌, subst, inl, inr, arith}
+use Rattle.std.specs.Prelude.{◌↔◌, ◌⊎◌, IfSome, IsSome, is_some}
 use Rattle.std.specs.FinMap.{is_sorted, nat_cmp-IsAntisymmetric, slice_cmp-IsAntisymmetric}
 use Rattle.std.specs.List.{All}
 use Rattle.std.specs.Map.{keys_of}
 use Rattle.std.specs.Option.{option_copied}
-use Rattle.std.proofs.lemmas.List.{map-append, take_more}
+use Rattle.std.proofs.lemmas.List.{map-append, take_all, take_more}
 use Rattle.std.proofs.lemmas.List.Elements.{All-append, All-nil, All-cons, All-head, All-tail, All-weaker}
 use Rattle.list_laws.specs.Members.{IsAmong, IsAmong-append_left, IsAmong-append_right}
 use Rattle.load_places.specs.Levels.{Looker, level_for}
@@ -23,19 +23,21 @@ use Rattle.fragment_choice.specs.LeadsLaws.{SameLeads, leads_decide_mains}
 use Rattle.fragment_choice.specs.Resolutions.{main}
 use Rattle.unit_loads.specs.declared.units.Unit.{Unit as LoadedUnit}
 use Rattle.unit_loads.specs.FootprintLaws.{store_footprints_decide}
-use Rattle.unit_loads.specs.Footprints.{StartsIn, StoresAgreeIn, footprint}
+use Rattle.unit_loads.specs.Footprints.{StoresAgreeIn, footprint}
 use Rattle.unit_loads.specs.Footprints.StartsIn.{alone, within}
 use Rattle.parallel_load.specs.declared.loaded.NameLoad.{NameLoad}
 use Rattle.parallel_load.specs.declared.loaded.NameLoad.TheVariants.{Unit as OfUnit, Alias as OfAlias}
 use Rattle.parallel_load.specs.Alone.{IsAliasOf, IsLoadAlone}
 use Rattle.parallel_load.specs.Footprints.{IsNone}
 use Rattle.parallel_load.specs.KeyLaws.{sorted_by_keys}
-use Rattle.parallel_load.specs.Loads.{AreNamedAlone, IsLoad, IsNamedAlone, LoadMap, with_lists}
+use Rattle.parallel_load.specs.Loads.{AreNamedAlone, IsNamedAlone, LoadMap, with_lists}
 use Rattle.parallel_load.specs.PairLaws.{find_among}
 use Rattle.parallel_load.specs.Refreshes.{AreStill, IsBefore, IsHeldOn, IsMissed, IsStill}
 use Rattle.parallel_load.specs.Touched.{HasFolder, IsInFolder}
+use Rattle.parallel_load.specs.Universe.{IsSource}
 use Rattle.parallel_load.specs.UniverseLaws.{all_among}
 use Rattle.parallel_load.proofs.Keeping.{all_more}
+use Rattle.parallel_load.proofs.Settling.{seen_sources}
 
 -- what is named alone by the name that has a number
 named_at : (s : View) (names : List (Name × NameLoad)) (named : List (List DependencyList)) (i : ℕ) (p : Name × NameLoad) → AreNamedAlone s names named → i < length names
@@ -176,6 +178,29 @@ still_more folders names named i x n k now new l e key one is h =
     let name_of : Name × NameLoad → Name = λ p. p.0 in
     let taken : take (i + 1) names ≡ take i names ++ x ∷ [] = take_more names i x l ∙ ap (λ (y : Name × NameLoad). take i names ++ y ∷ []) (sym e) in (
       ap (λ (ps : List (Name × Option NameLoad)). keys_of ps) is ∙ map-append key_of now ((n, k) ∷ []) ∙ ap (λ (ks : List Name). ks ++ n ∷ []) h.0
-      ∙ ap (λ (m : Name). keys_of (take i names) ++ m ∷ []) key ∙ sym (map-append name_of (take i names) (x ∷ [])) ∙ ap (λ (ps : List (Name × NameLoad)). keys_of ps) (sym taken),
+          ∙ ap (λ (m : Name). keys_of (take i names) ++ m ∷ []) key ∙ sym (map-append name_of (take i names) (x ∷ [])) ∙ ap (λ (ps : List (Name × NameLoad)). keys_of ps) (sym taken),
       subst (All P) (sym is) (All-append P now ((n, k) ∷ []) h.1 (All-cons P (n, k) [] (subst Q (sym key) one) (All-nil P))),
     )
+
+-- before the first name
+pub still_none : (folders : List (List ℕ)) (names : List (Name × NameLoad)) (named : List (List DependencyList)) (now : List (Name × Option NameLoad)) → now ≡ []
+    → (keys_of now ≡ keys_of (take 0 names)) × All (λ (p : Name × Option NameLoad). IfSome p.1 (IsStill folders names named p.0)) now
+still_none folders names named now e =
+    let P : Name × Option NameLoad → Type 0 = λ p. IfSome p.1 (IsStill folders names named p.0) in
+    (ap (λ (ps : List (Name × Option NameLoad)). keys_of ps) e, subst (All P) (sym e) (All-nil P))
+
+-- behind the last
+pub still_all : (folders : List (List ℕ)) (names names' : List (Name × NameLoad)) (named named' : List (List DependencyList)) (i : ℕ) (now : List (Name × Option NameLoad))
+    → names ≡ names' → named ≡ named' → length names ≤ i
+    → (keys_of now ≡ keys_of (take i names)) × All (λ (p : Name × Option NameLoad). IfSome p.1 (IsStill folders names named p.0)) now → AreStill folders names' named' now
+still_all folders names names' named named' i now e f l h =
+    let P : List (Name × NameLoad) → Type 0 = λ ns. AreStill folders ns named' now in
+    let Q : List (List DependencyList) → Type 0 = λ ls. AreStill folders names ls now in
+    subst P e (subst Q f (record { keys_are = h.0 ∙ ap (λ (ps : List (Name × NameLoad)). keys_of ps) (take_all i names l); each = h.1 }))
+
+-- the sources of a store for a host, of what is asked for
+pub same_sources : (store : EntryMap) (own host : Looker) (seen : View) (asked extra sources : List Name) → own ≡ host → seen ≡ view_of store own → asked ≡ extra
+    → ((n : Name) → IsAmong n sources ↔ IsSource seen asked n) → (n : Name) → IsAmong n sources ↔ IsSource (view_of store host) extra n
+same_sources store own host seen asked extra sources e f g h =
+    let P : List Name → Type 0 = λ ns. (n : Name) → IsAmong n sources ↔ IsSource (view_of store host) ns n in
+    subst P g (seen_sources seen (view_of store host) asked sources (f ∙ ap (view_of store) e) h)

@@ -1,8 +1,7 @@
 -- Where what was loaded for a name is held: words for private clauses.
 -- Source: this project's own.
-use Rattle.std.specs.Prelude.{Option, Some, None, List}
+use Rattle.std.specs.Prelude.{Option, Some, None}
 use Rattle.unit_name.specs.Names.{Name}
-use Rattle.setting_rules.specs.declared.dependency_lists.DependencyList.{DependencyList}
 use Rattle.parallel_load.specs.declared.kept.LoadHeld.{LoadHeld}
 use Rattle.parallel_load.specs.declared.kept.LoadHeld.TheVariants as held
 use Rattle.parallel_load.specs.declared.loaded.NameLoad.{NameLoad}

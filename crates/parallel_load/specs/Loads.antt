@@ -1,6 +1,6 @@
 -- What a load of a store is: for each name of the universe its unit, or the main name of which it is an alias.
 -- Source: systemd.unit(5), "Description"; that dependencies are told by main names is this project's own.
-use Rattle.std.specs.Prelude.{◌≡◌, ◌≢◌, not, Option, Some, None, List, [], ◌∷◌, map, filter, refl}
+use Rattle.std.specs.Prelude.{◌≡◌, not, Option, Some, None, List, [], ◌∷◌, map, filter, refl}
 use Rattle.std.specs.Coded.{Coded, code_by, coded×, coded_list, coded_option, coded_ℕ}
 use Rattle.std.specs.List.{filter_map}
 use Rattle.std.specs.FinMap.{find}

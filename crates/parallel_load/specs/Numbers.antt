@@ -1,7 +1,7 @@
 -- The names of a load by numbers: a name's number is its place in byte order, from 0.
 -- Source: this project's own.
-use Rattle.std.specs.Prelude.{◌≡◌, ◌<◌, ℕ, Some, IsTrue, List, [], length}
-use Rattle.std.specs.FinMap.{find, is_sorted}
+use Rattle.std.specs.Prelude.{◌≡◌, ◌<◌, ℕ, Some, List, [], length}
+use Rattle.std.specs.FinMap.{find}
 use Rattle.std.specs.List.{slice_index_or}
 use Rattle.std.specs.Map.{keys_of}
 use Rattle.std.specs.Option.{option_and_then}
@@ -13,7 +13,6 @@ use Rattle.unit_loads.specs.declared.units.Unit.{Unit as LoadedUnit}
 use Rattle.unit_loads.specs.NamedUnits.{IsListed}
 use Rattle.parallel_load.specs.declared.loaded.Dependency.{Dependency}
 use Rattle.parallel_load.specs.declared.loaded.NameLoad.{NameLoad}
-use Rattle.parallel_load.specs.declared.loaded.NameLoad.TheVariants.{Unit as OfUnit, Alias as OfAlias}
 use Rattle.parallel_load.specs.Loads.{lists_in, unit_part}
 
 -- the name that has this number
@@ -46,4 +45,3 @@ pub record AreDependenciesOf (names : List (Name × NameLoad)) (lists : List Dep
 pub record AreDependencyRows (names : List (Name × NameLoad)) (table : List (List Dependency)) : Type 0 where
   pub one_each : length table ≡ length names
   pub rows : (i : ℕ) (p : Name × NameLoad) → i < length names → AreDependenciesOf names (lists_in (slice_index_or names i p).1) (slice_index_or table i [])
-

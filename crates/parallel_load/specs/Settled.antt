@@ -1,9 +1,8 @@
 -- A load made of what was found, by the numbers of main names: words for private clauses.
 -- Source: this project's own.
-use Rattle.std.specs.Prelude.{◌≡◌, ◌<◌, ℕ, if◌then◌else◌, Option, Some, None, List, [], ◌∷◌, length, map}
+use Rattle.std.specs.Prelude.{◌≡◌, ℕ, if◌then◌else◌, Option, Some, None, List, [], map}
 use Rattle.std.specs.FinMap.{find}
 use Rattle.std.specs.List.{filter_map, flat_map}
-use Rattle.std.specs.Map.{keys_of}
 use Rattle.std.specs.Option.{option_and_then}
 use Rattle.list_laws.specs.Members.{IsAmong}
 use Rattle.unit_name.specs.Names.{Name, name_cmp}

@@ -128,11 +128,21 @@ impl Mains {
             let unit = Shared::new(alloc, unit)?;
             let lists = NamedLists::of_unit(unit.try_clone()?);
             let load = NameLoad::Unit(unit);
-            return Ok(Settled { name, load, lists, deps });
+            return Ok(Settled {
+                name,
+                load,
+                lists,
+                deps,
+            });
         }
         let lists = NamedLists::alone(alloc, mem::replace(&mut unit.deps, settled))?;
         let load = NameLoad::Unit(Shared::new(alloc, unit)?);
-        Ok(Settled { name, load, lists, deps })
+        Ok(Settled {
+            name,
+            load,
+            lists,
+            deps,
+        })
     }
 
     // The same for a unit of another load, with what it named there. It is shared where it stays as it is.
@@ -149,7 +159,12 @@ impl Mains {
         let settled = self.settle_lists(alloc, &unit.get().name, lists.as_slice(), &mut deps)?;
         let deps = Shared::new(alloc, deps)?;
         let load = NameLoad::Unit(with_dependencies(alloc, unit, settled)?);
-        Ok(Settled { name, load, lists, deps })
+        Ok(Settled {
+            name,
+            load,
+            lists,
+            deps,
+        })
     }
 
     // Lists of a unit's dependencies by main names, which are added by numbers.

@@ -61,7 +61,8 @@ fn close_again(
     let extra = loaded.extra();
     let held = still_of(alloc, loaded, folders)?;
     let sources = sources(alloc, &store.seen_by(host), extra)?;
-    let loader = HeldLoader::of(UnitLoader::of(alloc, store, host)?, held);
+    let reader = UnitLoader::of(alloc, store, host)?;
+    let loader = HeldLoader::of(reader, held);
     let found = close_loaded(alloc, &loader, &sources, MOST_NAMES)?;
     Ok(settled(alloc, host, extra, found)?)
 }

@@ -1,6 +1,3 @@
-use Rattle.std.proofs.Common.{◌≡◌, List, subst, sym}
-use Rattle.unit_name.specs.Names.{Name}
-use Rattle.parallel_load.specs.declared.loaded.NameLoad.{NameLoad}
 use Rattle.parallel_load.specs.UniverseLaws.{sorted_from}
 use Rattle.parallel_load.proofs.Numbering.{is_ready, settled_load}
 use Rattle.parallel_load.proofs.finishing.settled_by_workers.Goals as goal

@@ -1,15 +1,14 @@
 use Rattle.std.proofs.Common.{◌≡◌, true, false, sym, ◌∙◌, subst}
 use Rattle.std.specs.List.{All}
 use Rattle.std.proofs.lemmas.List.{take_all}
-use Rattle.setting_rules.specs.OrderLaws.{any-from_IsAmong}
 use Rattle.parallel_load.specs.Footprints.{IsNone}
-use Rattle.parallel_load.proofs.Keeping.{all_more}
+use Rattle.parallel_load.proofs.Keeping.{all_more, any_there}
 use Rattle.parallel_load.proofs.footprints.meets.Goals as goal
 
 pub loop-folder-preserved : goal.loop-folder-preserved
 loop-folder-preserved c =
     all_more (IsNone c.args.parts.now) c.args.folders.now c.loop-folder.folder-index c.folder-item.result c.folder-item.result c.loop-folder-test.true c.folder-item.is c.loop-folder.invariant
-    (λ a. (let wrong : false ≡ true = sym c.if-contains.false ∙ c.contains.ensures.value ∙ any-from_IsAmong c.folder-item.result c.args.parts.now a in cc (wrong)))
+    (λ a. (let wrong : false ≡ true = sym c.if-contains.false ∙ c.contains.ensures.value ∙ any_there c.folder-item.result c.args.parts.now a in cc (wrong)))
 
 pub returns : goal.returns
 returns c = record { none = λ _. subst (All (IsNone c.args.parts.now)) (take_all c.loop-folder.folder-index c.args.folders.now c.loop-folder-test.false) c.loop-folder.invariant }

@@ -1,4 +1,4 @@
-use Rattle.std.proofs.Common.{◌++◌, ◌∷◌, [], ℕ, List, ap, sym, ◌∙◌, subst, take, ◌+◌}
+use Rattle.std.proofs.Common.{ℕ, List, ap, sym, ◌∙◌, subst, take, ◌+◌}
 use Rattle.std.specs.List.{All}
 use Rattle.std.specs.Option.{option_copied}
 use Rattle.std.proofs.lemmas.List.{take_all}
@@ -17,7 +17,7 @@ loop-place-preserved c =
       | then-is_seen+in_ok-from_slice+in_ok-push w ↦
           subst P (sym (ap (λ v. v.items) w.folders-is ∙ w.in_ok-push.ensures.items))
           (folder_more host c.loop-place.folders.items w.in_ok-from_slice.field-0 c.args.touched.now i x x c.loop-place-test.true c.place-item.is
-          (w.in_ok-from_slice.ensures.bytes ∙ w.folder.ensures.folder) c.loop-place.invariant)
+          (w.in_ok-from_slice.ensures.copy ∙ w.folder.ensures.folder) c.loop-place.invariant)
       | else-is_seen w ↦
           subst P (sym (ap (λ v. v.items) w.folders-is))
           (folder_same host c.loop-place.folders.items c.args.touched.now i x x c.loop-place-test.true c.place-item.is (sym c.is_seen.ensures.seen ∙ w.if-is_seen.false) c.loop-place.invariant)

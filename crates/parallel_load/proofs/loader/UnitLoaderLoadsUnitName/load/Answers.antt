@@ -6,7 +6,7 @@ use Rattle.fragment_choice.specs.declared.resolutions.Resolution.{Resolution}
 use Rattle.fragment_choice.specs.Resolutions.{resolution}
 use Rattle.fragment_choice.specs.ResolutionLaws.{mains_are_their_own}
 use Rattle.unit_loads.specs.Units.{IsUnit}
-use Rattle.parallel_load.specs.declared.loaded.NameLoad.TheVariants.{Unit as OfUnit, Alias as OfAlias}
+use Rattle.parallel_load.specs.declared.loaded.NameLoad.TheVariants.{Unit as OfUnit}
 use Rattle.parallel_load.specs.Alone.{IsAliasOf, IsLoadAlone}
 use Rattle.parallel_load.proofs.loader.UnitLoaderLoadsUnitName.load.Goals as goal
 

@@ -4,7 +4,6 @@ use Rattle.setting_rules.specs.declared.dependency_lists.DependencyList.{Depende
 use Rattle.unit_loads.specs.declared.units.Unit.{Unit as LoadedUnit}
 use Rattle.parallel_load.specs.declared.loaded.Dependency.{Dependency}
 use Rattle.parallel_load.specs.declared.loaded.NameLoad.TheVariants.{Unit as OfUnit}
-use Rattle.parallel_load.specs.declared.mains.Settled.{Settled}
 use Rattle.parallel_load.specs.Settled.{list_numbers, list_settled}
 use Rattle.parallel_load.proofs.Keeping.{lists_same}
 use Rattle.parallel_load.proofs.mains.Mains.settle_unit.Goals as goal
