@@ -1,3 +1,4 @@
+mod Again
 mod Closing
 mod Keeping
 mod Numbering

@@ -1,5 +1,5 @@
 -- The numbers of main names, and the dependencies that they give.
-use Rattle.std.proofs.Common.{◌≡◌, ◌<◌, ℕ, zero, suc, Bool, true, false, if◌then◌else◌, Option, Some, None, Result, Ok, Err, List, [], ◌∷◌, ◌++◌, length, get_or, map, IsTrue, refl, ap, sym, ◌∙◌, subst, inl, inr, arith}
+use Rattle.std.proofs.Common.{◌≡◌, ◌<◌, ◌≤◌, ℕ, zero, suc, Bool, true, false, if◌then◌else◌, Option, Some, None, Result, Ok, Err, List, [], ◌∷◌, ◌++◌, length, get_or, map, IsTrue, refl, ap, sym, ◌∙◌, subst, inl, inr, arith}
 use Rattle.std.specs.Cmp.Lexicographic.{nat_list_cmp_total}
 use Rattle.std.specs.FinMap.{slice_cmp-IsAntisymmetric, nat_cmp-IsAntisymmetric}
 use Rattle.std.specs.FinMap.Entries.{find, is_sorted}
@@ -28,8 +28,9 @@ use Rattle.parallel_load.specs.Alone.{names_in_lists}
 use Rattle.parallel_load.specs.Indexes.{IsIndex, key_at}
 use Rattle.parallel_load.specs.KeyLaws.{key_at_place, key_found, keys_length, sorted_by_keys}
 use Rattle.parallel_load.specs.LoadHeld.{alias_in}
+use Rattle.parallel_load.specs.LoadRows.{IsKept, IsSettledRow}
 use Rattle.parallel_load.specs.Loads.{LoadMap, lists_in, unit_part}
-use Rattle.parallel_load.specs.Numbering.{AreNumbered, IsKept, IsMainNumber, main_name}
+use Rattle.parallel_load.specs.Numbering.{AreNumbered, IsMainNumber, main_name}
 use Rattle.parallel_load.specs.Numbers.{AreDependenciesOf, AreDependencyRows, HasNumber, IsDependencyOf, IsUnitAmong, name_of}
 use Rattle.parallel_load.specs.PairLaws.{among_find, find_among}
 use Rattle.parallel_load.specs.Settled.{AreSettled, IsWhole, dependency_of, list_numbers, list_settled, load_numbers, load_settled, name_lists, name_loads, name_numbers, other_number, other_numbers, settled_name, unit_settled, unless_unit}
@@ -289,25 +290,37 @@ module _ (ms : List (Name × ℕ)) (found : List (Name × NameLoad)) where
   numbers_stay (p ∷ ps) [] h = absurd h
   numbers_stay (p ∷ ps) (k ∷ ks) h = (h.0, number_stays p k.1 h.1, numbers_stay ps ks h.2)
 
-lists_length : (all : List Settled) → length (name_lists all) ≡ length (name_loads all)
-lists_length [] = refl
-lists_length (one ∷ all) = ap suc (lists_length all)
+-- what is settled has what it had as it was
+pub row_settled : (ms : List (Name × ℕ)) (n : Name) (one : NameLoad) → IsSettledRow ms (settled_name ms (n, one))
+row_settled ms n (OfUnit u) = refl
+row_settled ms n (OfAlias m) = refl
+
+rows_settled : (ms : List (Name × ℕ)) (found : List (Name × NameLoad)) → All (IsSettledRow ms) (map (settled_name ms) found)
+rows_settled ms [] = All-nil (IsSettledRow ms)
+rows_settled ms (p ∷ found) = All-cons (IsSettledRow ms) (settled_name ms p) (map (settled_name ms) found) (row_settled ms p.0 p.1) (rows_settled ms found)
 
 -- what is made of what was found is ready to be a load
 pub record IsReady (found : List (Name × NameLoad)) (ms : List (Name × ℕ)) (all : List Settled) : Type 0 where
   pub kept : IsKept (name_loads all) (name_lists all) (name_numbers all) ms
   pub settled : AreSettled found (name_loads all) (name_lists all)
 
-pub is_ready : (found pairs : List (Name × NameLoad)) (ms : List (Name × ℕ)) (all : List Settled) → IsTrue (is_sorted name_cmp found) → IsWhole found → AreNumbered found found ms
+pub is_ready : (found pairs : List (Name × NameLoad)) (ms : List (Name × ℕ)) (all : List Settled) → IsTrue (is_sorted name_cmp found) → IsWhole found → length found ≤ 4096 → AreNumbered found found ms
     → pairs ≡ found → all ≡ map (settled_name ms) pairs → IsReady found ms all
-is_ready found pairs ms all sorted whole numbered e f =
+is_ready found pairs ms all sorted whole few numbered e f =
     let P : List Settled → Type 0 = λ xs. IsReady found ms xs in
     subst P (sym (f ∙ ap (map (settled_name ms)) e)) (record {
       kept = record {
+        all = map (settled_name ms) found;
+        are_rows = record {
+          names_are = refl;
+          named_are = refl;
+          numbered = numbers_stay ms found found ms numbered;
+          settled = rows_settled ms found;
+          few = subst (λ (k : ℕ). k ≤ 4096) (sym (loads_length ms found)) few;
+        };
+        table_is = refl;
         sorted = names_sorted found sorted whole ms numbered;
-        each = lists_length (map (settled_name ms) found);
         rows = rows_are found sorted whole ms numbered;
-        numbered = numbers_stay ms found found ms numbered;
       };
       settled = record { mains = ms; numbered = numbered; names_are = refl; named_are = refl };
     })

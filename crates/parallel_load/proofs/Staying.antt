@@ -17,7 +17,7 @@ use Rattle.sorted_pairs.specs.PlaceLaws.{find_at}
 use Rattle.sorted_pairs.specs.Places.{IsAt}
 use Rattle.unit_name.specs.Names.{Name, name_cmp}
 use Rattle.setting_rules.specs.declared.dependency_lists.DependencyList.{DependencyList}
-use Rattle.fragment_choice.specs.AliasWordLaws.{alias_words_decide, sights_decide_words}
+use Rattle.fragment_choice.specs.AliasWordLaws.{SameWords, alias_words_decide, sights_decide_words}
 use Rattle.fragment_choice.specs.Choices.{own_path}
 use Rattle.fragment_choice.specs.LeadsLaws.{SameLeads, leads_decide_mains}
 use Rattle.fragment_choice.specs.Resolutions.{main}
@@ -69,12 +69,15 @@ module _ (load : LoadMap) (now : EntryMap) (touched : List PlaceParts) (b : IsBe
   some_level : (p : PlaceParts) (level : ℕ) → level_for load.host p ≡ Some level → IsSome (level_for load.host p)
   some_level p level e = let P : Option ℕ → Type 0 = λ o. IsSome o in subst P (sym e) refl
 
-  -- so what leads to what stays
-  pub same_leads : SameLeads s t
-  same_leads =
-      alias_words_decide s t (λ n.
+  -- so the words of all names stay
+  pub same_words : SameWords s t
+  same_words n =
       sights_decide_words s t n (λ level l.
-      places_decide_sights b.before now load.host (own_path n level) (λ place lvl folder name. own_same place (some_level place _ lvl) folder)))
+      places_decide_sights b.before now load.host (own_path n level) (λ place lvl folder name. own_same place (some_level place _ lvl) folder))
+
+  -- and what leads to what
+  pub same_leads : SameLeads s t
+  same_leads = alias_words_decide s t same_words
 
   pub same_mains : (n : Name) → main s n ≡ main t n
   same_mains = leads_decide_mains s t same_leads
@@ -91,7 +94,7 @@ module _ (load : LoadMap) (now : EntryMap) (touched : List PlaceParts) (b : IsBe
     alias_stays : (n m : Name) → IsAliasOf s n m → IsAliasOf t n m
     alias_stays n m a = record { main_is = sym (same_mains n) ∙ a.main_is; other = a.other }
 
-    one_stays : (n : Name) (one : NameLoad) (lists : List DependencyList) → IsMissed folders n one → IsLoadAlone s n (with_lists one lists) → IsLoadAlone t n (with_lists one lists)
+    pub one_stays : (n : Name) (one : NameLoad) (lists : List DependencyList) → IsMissed folders n one → IsLoadAlone s n (with_lists one lists) → IsLoadAlone t n (with_lists one lists)
     one_stays n (OfUnit u) lists missed is = unit_stays n (record u { deps = lists }) missed is
     one_stays n (OfAlias m) lists missed is = alias_stays n m is
 

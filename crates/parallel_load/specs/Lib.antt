@@ -8,6 +8,7 @@ pub mod KeyLaws
 pub mod ListsHeld
 pub mod LoadHeld
 pub mod LoadLaws
+pub mod LoadRows
 pub mod Loads
 pub mod Numbering
 pub mod Numbers

@@ -1,15 +1,12 @@
--- What a load keeps besides: the numbers of main names, and dependencies by them.
+-- The numbers of main names: words for private clauses.
 -- Source: this project's own.
-use Rattle.std.specs.Prelude.{◌≡◌, ◌<◌, ℕ, IsTrue, List, [], ◌∷◌, length}
-use Rattle.std.specs.FinMap.{is_sorted}
+use Rattle.std.specs.Prelude.{◌≡◌, ◌<◌, ℕ, List, [], ◌∷◌, length}
 use Rattle.std.specs.Map.{keys_of}
 use Rattle.list_laws.specs.Members.{IsAmong}
-use Rattle.unit_name.specs.Names.{Name, name_cmp}
-use Rattle.setting_rules.specs.declared.dependency_lists.DependencyList.{DependencyList}
-use Rattle.parallel_load.specs.declared.loaded.Dependency.{Dependency}
+use Rattle.unit_name.specs.Names.{Name}
 use Rattle.parallel_load.specs.declared.loaded.NameLoad.{NameLoad}
 use Rattle.parallel_load.specs.declared.loaded.NameLoad.TheVariants.{Unit as OfUnit, Alias as OfAlias}
-use Rattle.parallel_load.specs.Numbers.{AreDependencyRows, name_of}
+use Rattle.parallel_load.specs.Numbers.{name_of}
 
 -- ---- the numbers of main names
 
@@ -29,10 +26,3 @@ AreNumbered found [] [] = Unit {0}
 AreNumbered found [] (m ∷ ms) = ⊥
 AreNumbered found (p ∷ ps) [] = ⊥
 AreNumbered found (p ∷ ps) (m ∷ ms) = (m.0 ≡ p.0) × IsMainNumber found p m.1 × AreNumbered found ps ms
-
--- What a load keeps: its names in byte order, each with lists of what it names, dependencies by numbers, and the number of its main name.
-pub record IsKept (names : List (Name × NameLoad)) (named : List (List DependencyList)) (table : List (List Dependency)) (mains : List (Name × ℕ)) : Type 0 where
-  pub sorted : IsTrue (is_sorted name_cmp names)
-  pub each : length named ≡ length names
-  pub rows : AreDependencyRows names table
-  pub numbered : AreNumbered names names mains

@@ -1,11 +1,12 @@
 //! A load made of what was found: its names in order, dependencies by main names and by numbers.
-ghost use Rattle.std.specs.Prelude.{◌≡◌, ◌<◌, map, IfOk, IsTrue};
+ghost use Rattle.std.specs.Prelude.{◌≡◌, ◌<◌, ◌≤◌, length, map, IfOk, IsTrue};
 ghost use Rattle.std.specs.BTreeMap.{keys};
 ghost use Rattle.std.specs.FinMap.{is_sorted};
 ghost use Rattle.std.specs.Option.{option_copied};
 ghost use Rattle.std.specs.List.Sorted.{IsStrictlySortedBy};
 ghost use Rattle.unit_name.specs.Names.{name_cmp};
-ghost use Rattle.parallel_load.specs.Numbering.{AreNumbered, IsKept};
+ghost use Rattle.parallel_load.specs.LoadRows.{IsKept};
+ghost use Rattle.parallel_load.specs.Numbering.{AreNumbered};
 ghost use Rattle.parallel_load.specs.Settled.{AreSettled, IsWhole, name_lists, name_loads, name_numbers, settled_name};
 
 use crate::kept::{Kept, NamedLists};
@@ -29,6 +30,7 @@ pub(crate) fn settled(
 ) -> Result<Loaded, AllocError>
     requires rising { IsStrictlySortedBy name_cmp (keys found) }
     requires whole { IsWhole found.entries }
+    requires few { length found.entries ≤ 4096 }
     ensures host { IfOk result (λ load. load.host ≡ option_copied host.entry) }
     ensures extra { IfOk result (λ load. load.extra ≡ extra.now) }
     ensures names { IfOk result (λ load. AreSettled found.entries load.names load.named) }
@@ -36,7 +38,8 @@ pub(crate) fn settled(
     let Found { pairs, mains } = found_of(alloc, found)?;
     let fresh = fresh_among(&pairs);
     let names = mains.settle_all(alloc, pairs)?;
-    load_of(alloc, host, extra, names, mains, fresh)
+    let numbers = Shared::new(alloc, mains)?;
+    load_of(alloc, host, extra, names, numbers, fresh)
 }
 
 /// The same, where so many workers put the main names in, each for a share of the names. It may wait for threads.
@@ -51,6 +54,7 @@ pub(crate) fn settled_by_workers<R: Threads + Sync>(
     requires some { 0 < workers }
     requires rising { IsStrictlySortedBy name_cmp (keys found) }
     requires whole { IsWhole found.entries }
+    requires few { length found.entries ≤ 4096 }
     ensures host { IfOk result (λ load. load.host ≡ option_copied host.entry) }
     ensures extra { IfOk result (λ load. load.extra ≡ extra.now) }
     ensures names { IfOk result (λ load. AreSettled found.entries load.names load.named) }
@@ -58,7 +62,8 @@ pub(crate) fn settled_by_workers<R: Threads + Sync>(
     let Found { pairs, mains } = found_of(alloc, found)?;
     let fresh = fresh_among(&pairs);
     let names = settle_by_workers(rt, alloc, &mains, pairs, workers)?;
-    load_of(alloc, host, extra, names, mains, fresh)
+    let numbers = Shared::new(alloc, mains)?;
+    load_of(alloc, host, extra, names, numbers, fresh)
 }
 
 // What was found, in order, and the numbers of main names.
@@ -124,13 +129,13 @@ fn settle_by_workers<R: Threads + Sync>(
     work_by_shares(rt, alloc, pairs, workers, &settle)
 }
 
-// The load of these names, which are in byte order, with the numbers of their main names.
-fn load_of(
+/// The load of these names, which are in byte order, with the numbers of their main names. It fails for want of memory alone.
+pub(crate) fn load_of(
     alloc: Global,
     host: Option<&HostName>,
     extra: &[UnitName],
     settled: Vec<Settled>,
-    mains: Mains,
+    mains: Shared<Mains>,
     fresh: u64,
 ) -> Result<Loaded, AllocError>
     requires kept { IsKept (name_loads settled.items) (name_lists settled.items) (name_numbers settled.items) mains }
@@ -143,7 +148,6 @@ fn load_of(
     let mut asked = Vec::new(alloc);
     add_names(&mut asked, extra)?;
     let Parts { names, named, deps } = parts_of(alloc, settled)?;
-    let mains = Shared::new(alloc, mains)?;
     let kept = KeptRows { named, deps, mains };
     let extra = Items::from_vec(asked);
     Ok(Loaded::new(host, extra, names, kept, fresh))

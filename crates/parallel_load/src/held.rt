@@ -54,8 +54,8 @@ fn kept_still(
     Ok(Some(Kept::again(load, lists)?))
 }
 
-// Whether one of these folders is in the footprint of what stands for a name: an alias has none.
-fn is_hit(
+/// Whether one of these folders is in the footprint of what stands for a name: an alias has none.
+pub(crate) fn is_hit(
     alloc: Global,
     name: &UnitName,
     load: &NameLoad,

@@ -18,6 +18,7 @@ mod loaded;
 mod loader;
 mod loads;
 mod mains;
+mod patching;
 mod refreshing;
 mod sources;
 mod touched;

@@ -5,11 +5,11 @@ ghost use Rattle.std.specs.Option.{option_copied};
 ghost use Rattle.unit_name.specs.Names.{name_cmp};
 ghost use Rattle.parallel_load.specs.Loads.{load_at, main_in, unit_in, units_in};
 ghost use Rattle.parallel_load.specs.Numbers.{AreDependencyRows};
-ghost use Rattle.parallel_load.specs.Numbering.{IsKept};
+ghost use Rattle.parallel_load.specs.LoadRows.{AreRows, IsKept};
 
 use crate::kept::NamedLists;
-use crate::mains::Mains;
-use plain_values::{Items, Shared};
+use crate::mains::{Mains, Settled};
+use plain_values::{Items, Shared, TryClone};
 use replica_store::HostName;
 use setting_rules::DepKind;
 use sorted_pairs::seek;
@@ -25,6 +25,16 @@ pub enum NameLoad {
     Unit(Shared<Unit>),
     /// The unit of this main name, of which it is an alias.
     Alias(UnitName),
+}
+
+/// The same again: a unit is shared.
+impl TryClone for NameLoad {
+    fn try_clone(&self) -> Result<NameLoad, AllocError> {
+        Ok(match self {
+            NameLoad::Unit(unit) => NameLoad::Unit(unit.try_clone()?),
+            NameLoad::Alias(main) => NameLoad::Alias(main.try_clone()?),
+        })
+    }
 }
 
 /// A dependency on a unit by its number: the place of its name among all names of a load, from 0.
@@ -60,7 +70,7 @@ pub(crate) struct KeptRows {
 
 impl Model for Loaded {
     ghost use Rattle.parallel_load.specs.Loads.{LoadMap, coded_load};
-    ghost use Rattle.parallel_load.specs.Numbering.{IsKept};
+    ghost use Rattle.parallel_load.specs.LoadRows.{IsKept};
 
     ghost Value = { LoadMap };
 
@@ -139,6 +149,25 @@ impl Loaded {
         ensures each { length result.now ≡ length self.now.names }
     {
         self.kept.named.as_slice()
+    }
+
+    /// Its rows again, shared, with the numbers of main names. It fails for want of memory alone.
+    pub(crate) fn rows(&self) -> Result<(Vec<Settled>, Shared<Mains>), AllocError>
+        ensures rows { IfOk result (λ again. AreRows self.now.names self.now.named again.1 again.0.items) }
+    {
+        let names = self.names.as_slice();
+        let named = self.kept.named.as_slice();
+        let deps = self.kept.deps.as_slice();
+        let mut rows = Vec::with_capacity(self.allocator(), names.len())?;
+        for (number, (name, load)) in names.iter().enumerate() {
+            rows.push(Settled {
+                name: name.try_clone()?,
+                load: load.try_clone()?,
+                lists: named[number].try_clone()?,
+                deps: deps[number].try_clone()?,
+            })?;
+        }
+        Ok((rows, self.kept.mains.try_clone()?))
     }
 
     /// The unit of a main name. None for an alias, and for a name that isn't in the universe. O(log n), without memory.

@@ -14,6 +14,7 @@ use crate::held::{HeldLoader, still_of};
 use crate::loaded::Loaded;
 use crate::loader::UnitLoader;
 use crate::loads::{MOST_NAMES, load_here};
+use crate::patching::patched;
 use crate::sources::sources;
 use crate::touched::{folders_of, touches_names};
 use name_closure::close_loaded;
@@ -38,7 +39,10 @@ pub fn refresh(loaded: &Loaded, store: &Store, touched: &[Place]) -> Result<Load
         return load_here(alloc, store, host, loaded.extra());
     }
     let folders = folders_of(alloc, host, touched)?;
-    close_again(loaded, store, touched, &folders)
+    match patched(loaded, store, touched, &folders)? {
+        Some(load) => Ok(load),
+        None => close_again(loaded, store, touched, &folders),
+    }
 }
 
 // The same where all places that changed are in these folders: what stays is taken from the load.

@@ -16,5 +16,5 @@ mod settled;
 mod units;
 
 pub use laws::{elsewhere_laws, footprint_laws, named_unit_laws, one_type, one_unit};
-pub use loads::{load_one, load_resolved, load_unit};
+pub use loads::{load_named, load_one, load_resolved, load_unit};
 pub use units::{Status, Unit, UnitNote};

@@ -3,13 +3,14 @@ ghost use Rattle.std.specs.Prelude.{◌≡◌, IfOk};
 ghost use Rattle.std.specs.Option.{option_copied};
 ghost use Rattle.path_maps.specs.Views.{view_of};
 ghost use Rattle.fragment_choice.specs.Resolutions.{main, resolution};
+ghost use Rattle.fragment_choice.specs.UnitNames.{AreNames};
 ghost use Rattle.unit_loads.specs.Units.{HasNothing, IsUnit, no_names};
 
 use crate::found::Found;
 use crate::units::{Status, Unit};
 use fragment_choice::{AliasIndex, Choice, Resolution};
 use plain_values::Items;
-use replica_store::{HostName, Store};
+use replica_store::{HostName, Seen, Store};
 use setting_rules::{DepKind, DependencyList};
 use std::alloc::{AllocError, Global};
 use unit_name::UnitName;
@@ -55,11 +56,25 @@ pub fn load_resolved(
     requires resolved { resolution index.now resolved.main ≡ resolved }
     ensures unit { IfOk result (IsUnit index.now resolved.main) }
 {
+    let names = index.names_of(alloc, &resolved.main)?;
+    load_named(alloc, index.seen(), resolved, names)
+}
+
+/// The same where all its names are known: no index of aliases is asked. It fails for want of memory alone.
+pub fn load_named(
+    alloc: Global,
+    seen: &Seen,
+    resolved: Resolution,
+    names: Vec<UnitName>,
+) -> Result<Unit, AllocError>
+    requires resolved { resolution seen.now resolved.main ≡ resolved }
+    requires names { AreNames seen.now resolved.main names.items }
+    ensures unit { IfOk result (IsUnit seen.now resolved.main) }
+{
     let Resolution { main, choice } = resolved;
-    let names = index.names_of(alloc, &main)?;
     match choice {
         Choice::Fragment(place) => {
-            let found = Found::of(alloc, index.seen(), &main, &names, &place)?;
+            let found = Found::of(alloc, seen, &main, &names, &place)?;
             Ok(found.into_unit(main, names, place))
         }
         Choice::NotFound => unloaded(alloc, main, names, Status::NotFound),

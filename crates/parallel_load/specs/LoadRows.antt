@@ -1,0 +1,71 @@
+-- What a load keeps of each name: words for private clauses.
+-- Source: this project's own.
+use Rattle.std.specs.Prelude.{◌≡◌, ◌⊎◌, ◌≤◌, ℕ, IsTrue, List, [], ◌∷◌, length}
+use Rattle.std.specs.FinMap.{is_sorted}
+use Rattle.std.specs.List.{All}
+use Rattle.path_maps.specs.Views.{View}
+use Rattle.unit_name.specs.Names.{Name, name_cmp}
+use Rattle.setting_rules.specs.declared.dependency_lists.DependencyList.{DependencyList}
+use Rattle.fragment_choice.specs.Resolutions.{main}
+use Rattle.fragment_choice.specs.UnitNames.{AreNames}
+use Rattle.unit_loads.specs.declared.units.Unit.{Unit as LoadedUnit}
+use Rattle.unit_loads.specs.Units.{IsUnit}
+use Rattle.parallel_load.specs.declared.loaded.Dependency.{Dependency}
+use Rattle.parallel_load.specs.declared.loaded.NameLoad.{NameLoad}
+use Rattle.parallel_load.specs.declared.loaded.NameLoad.TheVariants.{Unit as OfUnit}
+use Rattle.parallel_load.specs.declared.mains.Settled.{Settled}
+use Rattle.parallel_load.specs.Loads.{with_lists}
+use Rattle.parallel_load.specs.Numbering.{AreNumbered}
+use Rattle.parallel_load.specs.Numbers.{AreDependencyRows}
+use Rattle.parallel_load.specs.Refreshes.{IsMissed}
+use Rattle.parallel_load.specs.Settled.{name_lists, name_loads, name_numbers, settled_name}
+
+-- a row's name with what stands for it before main names are put in
+abbrev pub row_alone : Settled → Name × NameLoad
+row_alone row = (row.name, with_lists row.load row.lists)
+
+-- the row has main names and numbers by these
+abbrev pub IsSettledRow : List (Name × ℕ) → Settled → Type 0
+IsSettledRow mains row = row ≡ settled_name mains (row_alone row)
+
+-- these are the rows of names in order, with the numbers of their main names
+pub record AreRows (names : List (Name × NameLoad)) (named : List (List DependencyList)) (mains : List (Name × ℕ)) (rows : List Settled) : Type 0 where
+  pub names_are : names ≡ name_loads rows
+  pub named_are : named ≡ name_lists rows
+  pub numbered : AreNumbered names names mains
+  pub settled : All (IsSettledRow mains) rows
+  pub few : length names ≤ 4096
+
+-- What a load keeps: its names in byte order, dependencies by numbers, and what rows are made of.
+pub record IsKept (names : List (Name × NameLoad)) (named : List (List DependencyList)) (table : List (List Dependency)) (mains : List (Name × ℕ)) : Type 0 where
+  pub all : List Settled
+  pub are_rows : AreRows names named mains all
+  pub table_is : table ≡ name_numbers all
+  pub sorted : IsTrue (is_sorted name_cmp names)
+  pub rows : AreDependencyRows names table
+
+-- ---- rows that are read again
+
+-- where a unit stands for the row's name, that is its main name, and the unit has its names
+abbrev pub IsOwnUnit : View → Settled → Type 0
+IsOwnUnit t row = (unit : LoadedUnit) → row.load ≡ OfUnit unit → (main t row.name ≡ row.name) × AreNames t row.name unit.names
+
+-- a unit is read again that names what it named
+pub record IsReadAgain (t : View) (mains : List (Name × ℕ)) (old new : Settled) : Type 0 where
+  pub was : LoadedUnit
+  pub load_is : old.load ≡ OfUnit was
+  pub unit : LoadedUnit
+  pub is_unit : IsUnit t old.name unit
+  pub names_stay : unit.deps ≡ old.lists
+  pub is : new ≡ settled_name mains (old.name, OfUnit unit)
+
+-- the row stays, as these folders miss it, or its unit is read again
+abbrev pub IsRowAgain : View → List (List ℕ) → List (Name × ℕ) → Settled → Settled → Type 0
+IsRowAgain t folders mains old new = ((new ≡ old) × IsMissed folders old.name old.load) ⊎ IsReadAgain t mains old new
+
+-- the same of all rows
+abbrev pub AreRowsAgain : View → List (List ℕ) → List (Name × ℕ) → List Settled → List Settled → Type 0
+AreRowsAgain t folders mains [] [] = Unit {0}
+AreRowsAgain t folders mains [] (new ∷ news) = ⊥
+AreRowsAgain t folders mains (old ∷ olds) [] = ⊥
+AreRowsAgain t folders mains (old ∷ olds) (new ∷ news) = IsRowAgain t folders mains old new × AreRowsAgain t folders mains olds news
