@@ -27,7 +27,7 @@ loop-deps-preserved c =
     let P : ℕ → Vec ℕ Global → Type 0 = λ k r. AreNames (count_of load) (name_at load) (Listed r.items) (DependsOn load c.args.kind (name_at load k)) in
     made_more P c.loop-deps.deps-index _ _ c.in_ok-numbers_by.field-0 c.loop-deps.invariant c.in_ok-push.ensures.items
     (row_named load (subst S c.names.ensures.names c.names.ensures.sorted) c.args.kind rows c.dependencies-deps-items.ensures.rows c.loop-deps.deps-index c.loop-deps-test.true
-    c.deps-item.result c.deps-item.is c.in_ok-numbers_by.field-0.items (subst N c.as_slice.ensures.elements c.in_ok-numbers_by.ensures.numbers))
+    c.deps-item.result c.deps-item.is c.in_ok-numbers_by.field-0.items (subst N (c.as_slice.ensures.elements ∙ c.get.ensures.value) c.in_ok-numbers_by.ensures.numbers))
 
 pub returns-clause-steps : goal.returns-clause-steps
 returns-clause-steps c =

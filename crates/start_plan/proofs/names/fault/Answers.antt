@@ -10,7 +10,7 @@ pub unreachable-requires : goal.unreachable-requires
 unreachable-requires c =
     let at = part_at c.args.loaded.now c.names.result.now c.names.ensures.names c.names.ensures.sorted c.args.number c.index-names-number.result
     (omega (arith, c.requires.below, ap length c.names.ensures.names)) in
-    let f : false ≡ true = sym c.requires.unloaded ∙ ap is_loaded (at ∙ ap unit_part c.in-Unit.is) ∙ ap has_fragment c.in-Loaded.is in
+    let f : false ≡ true = sym c.requires.unloaded ∙ ap is_loaded (at ∙ ap unit_part c.in-Unit.is ∙ ap Some (sym c.get.ensures.value)) ∙ ap has_fragment c.in-Loaded.is in
     cc (f)
 
 pub unreachable-requires-in-Alias : goal.unreachable-requires-in-Alias
@@ -23,16 +23,16 @@ pub returns-in-NotFound : goal.returns-in-NotFound
 returns-in-NotFound c =
     let at = part_at c.args.loaded.now c.names.result.now c.names.ensures.names c.names.ensures.sorted c.args.number c.index-names-number.result
     (omega (arith, c.requires.below, ap length c.names.ensures.names)) in
-    record { fault = (c.in_ok-name.ensures.name, ap (option_map (λ u. u.status)) (at ∙ ap unit_part c.in-Unit.is) ∙ ap Some c.in-NotFound.is) }
+    record { fault = (c.in_ok-name.ensures.name, ap (option_map (λ u. u.status)) (at ∙ ap unit_part c.in-Unit.is ∙ ap Some (sym c.get.ensures.value)) ∙ ap Some c.in-NotFound.is) }
 
 pub returns-in-Masked : goal.returns-in-Masked
 returns-in-Masked c =
     let at = part_at c.args.loaded.now c.names.result.now c.names.ensures.names c.names.ensures.sorted c.args.number c.index-names-number.result
     (omega (arith, c.requires.below, ap length c.names.ensures.names)) in
-    record { fault = (c.in_ok-name.ensures.name, ap (option_map (λ u. u.status)) (at ∙ ap unit_part c.in-Unit.is) ∙ ap Some c.in-Masked.is) }
+    record { fault = (c.in_ok-name.ensures.name, ap (option_map (λ u. u.status)) (at ∙ ap unit_part c.in-Unit.is ∙ ap Some (sym c.get.ensures.value)) ∙ ap Some c.in-Masked.is) }
 
 pub returns-in-Bad : goal.returns-in-Bad
 returns-in-Bad c =
     let at = part_at c.args.loaded.now c.names.result.now c.names.ensures.names c.names.ensures.sorted c.args.number c.index-names-number.result
     (omega (arith, c.requires.below, ap length c.names.ensures.names)) in
-    record { fault = (c.in_ok-name.ensures.name, (c.in-Bad.field-0, ap (option_map (λ u. u.status)) (at ∙ ap unit_part c.in-Unit.is) ∙ ap Some c.in-Bad.is)) }
+    record { fault = (c.in_ok-name.ensures.name, (c.in-Bad.field-0, ap (option_map (λ u. u.status)) (at ∙ ap unit_part c.in-Unit.is ∙ ap Some (sym c.get.ensures.value)) ∙ ap Some c.in-Bad.is)) }
