@@ -1,7 +1,5 @@
-use Rattle.script_answers.specs.Tells.{TellsList}
-use Rattle.fleet_script.specs.Holds.{kept_in}
-use Rattle.fleet_script.proofs.Goes.{reads}
+use Rattle.std.proofs.Common.{rules}
 use Rattle.fleet_script.proofs.states.Shell.list.Goals as goal
 
 pub returns : goal.returns
-returns g c = record { done = reads (kept_in c.args.self.now) c.tell_list.result c.args.node.now c.in_ok-replica.replica.now c.store.result.now (TellsList c.args.host c.args.unit.now) c.in_ok-replica.ensures.found c.store.ensures.store c.tell_list.ensures.told }
+returns g c = ?
