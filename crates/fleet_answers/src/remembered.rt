@@ -188,7 +188,16 @@ pub fn answer_again<R: Threads + Sync, G: Gate + Sync>(
     let Some(names) = whole_names(alloc, &[], question)? else {
         return Ok(Answer::Template);
     };
-    match snapshots.snapshot(rt, alloc, node, store, question.host(), &names, workers, gate) {
+    match snapshots.snapshot(
+        rt,
+        alloc,
+        node,
+        store,
+        question.host(),
+        &names,
+        workers,
+        gate,
+    ) {
         Ok(snapshot) => {
             let answer = snapshot.answer(question)?;
             snapshots.keep(node, store, snapshot);

@@ -99,7 +99,9 @@ fn tell<R: Threads + Sync>(
     ensures told { IsSaid (λ text. text.items) result (TellsQuestion question.now store.now) }
 {
     let workers = workers.count() as usize;
-    match answer_again(rt, alloc, snapshots, node, store, question, workers, &OpenGate) {
+    match answer_again(
+        rt, alloc, snapshots, node, store, question, workers, &OpenGate,
+    ) {
         Ok(answer) => answer_text(alloc, answer),
         Err(AnswerFault::Workers) => unreachable!(),
         Err(AnswerFault::Memory) => Err(Fault::Memory),

@@ -44,7 +44,16 @@ impl Shell {
     {
         let at = self.node_at(alloc, node)?;
         let store = self.nodes[at].store();
-        tell_unit(rt, alloc, &mut self.snapshots, at, store, host, unit, &self.workers)
+        tell_unit(
+            rt,
+            alloc,
+            &mut self.snapshots,
+            at,
+            store,
+            host,
+            unit,
+            &self.workers,
+        )
     }
 
     // Lists what a unit pulls, as all that must be loaded of a node comes to it.
@@ -60,7 +69,16 @@ impl Shell {
     {
         let at = self.node_at(alloc, node)?;
         let store = self.nodes[at].store();
-        tell_list(rt, alloc, &mut self.snapshots, at, store, host, unit, &self.workers)
+        tell_list(
+            rt,
+            alloc,
+            &mut self.snapshots,
+            at,
+            store,
+            host,
+            unit,
+            &self.workers,
+        )
     }
 
     // Tells what starts and what stops where a unit is to start while others run.
