@@ -1,3 +1,4 @@
+mod Asked
 mod Fleets
 mod Held
 mod Told

@@ -12,11 +12,13 @@ mod answers;
 mod laws;
 mod names;
 mod questions;
+mod remembered;
 mod snapshots;
 mod worlds;
 
 pub use answers::{answer_here, answer_question};
 pub use laws::answer_laws;
 pub use questions::{Answer, AnswerFault, LinkedUnit, Question};
+pub use remembered::{MOST_SNAPSHOTS, Snapshots, answer_again};
 pub use snapshots::Snapshot;
 pub use worlds::answer_in_world;

@@ -2,6 +2,7 @@
 ghost use Rattle.std.specs.Prelude.{◌≡◌, ◌↔◌, ◌⊎◌, ◌<◌, Err, IfOk, IfErr, IsSome, Some};
 ghost use Rattle.std.specs.Option.{option_copied};
 ghost use Rattle.path_maps.specs.Views.{view_of};
+ghost use Rattle.parallel_load.specs.Refreshes.{IsBefore};
 ghost use Rattle.parallel_load.specs.Refusals.{OnTooMany, OnWorkers};
 ghost use Rattle.parallel_load.specs.Universe.{IsTooLarge};
 ghost use Rattle.parallel_load.specs.declared.faults.LoadFault.TheVariants.{Workers};
@@ -13,9 +14,9 @@ ghost use Rattle.fleet_answers.specs.Answers.{AreKnown, IsLinkedUnit, IsPlanTold
 
 use crate::questions::{Answer, LinkedUnit, Question};
 use inverse_deps::{Edges, edges};
-use parallel_load::{Gate, LoadFault, Loaded, NameLoad, Unit, load_fleet, load_here};
+use parallel_load::{Gate, LoadFault, Loaded, NameLoad, Unit, load_fleet, load_here, refresh};
 use plain_values::{Items, Shared, TryClone};
-use replica_store::{HostName, Store};
+use replica_store::{HostName, Place, Store};
 use setting_rules::{DepKind, DependencyList};
 use start_plan::{Plan, Refusal, Request, plan};
 use std::alloc::{AllocError, Global};
@@ -83,6 +84,18 @@ impl Snapshot {
         }
         let loaded = load_fleet(rt, alloc, store, host, extra, workers, gate)?;
         Ok(Snapshot::with_edges(alloc, loaded)?)
+    }
+
+    /// The snapshot of another store for the same host with the same names asked for, where these places are all at which the
+    /// two stores show otherwise: what `of` gives of it, refusals too, but that only what changed is read.
+    pub(crate) fn refreshed(&self, store: &Store, touched: &[Place]) -> Result<Snapshot, LoadFault>
+        requires before { IsBefore self.now.load store.now touched.now }
+        ensures snapshot { IfOk result (IsSnapshot (view_of store.now self.now.load.host) self.now.load.extra) }
+        ensures over { IfErr result (λ fault. OnTooMany fault (IsTooLarge (view_of store.now self.now.load.host) self.now.load.extra)) }
+        ensures no_workers { IfErr result (λ fault. OnWorkers fault ⊥) }
+    {
+        let loaded = refresh(&self.loaded, store, touched)?;
+        Ok(Snapshot::with_edges(loaded.allocator(), loaded)?)
     }
 
     // A load with its edges.

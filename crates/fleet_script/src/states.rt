@@ -5,6 +5,7 @@ ghost use Rattle.std.specs.Cmp.Lexicographic.{slice_cmp};
 ghost use Rattle.std.specs.Ordering.{nat_cmp};
 
 use delta_pieces::Piece;
+use fleet_answers::Snapshots;
 use plain_values::Bytes;
 use replica_store::Replica;
 use script_answers::Crew;
@@ -21,8 +22,8 @@ mod questions;
 type Told = Result<Vec<u8>, Fault>;
 
 /// Each node's replica of now, in the order of their making; by name the numbers of the nodes, from 0, and the pieces
-/// of now; and the writer numbers that are taken; and how many workers load,
-/// which changes no answer.
+/// of now; the writer numbers that are taken; and how many workers load, and what they loaded last for each node, which
+/// change no answer.
 #[derive(Drop)]
 pub(crate) struct Shell {
     nodes: Vec<Replica>,
@@ -30,6 +31,7 @@ pub(crate) struct Shell {
     writers: BTreeSet<u32>,
     pieces: BTreeMap<Bytes, Piece>,
     workers: Crew,
+    snapshots: Snapshots,
 
     // A number is that of a node. Where memory was refused in the midst of making one, a node may stand without a name.
     ghost within: { (name : List ℕ) (at : ℕ) → get (slice_cmp nat_cmp) numbers name ≡ Some at
@@ -50,6 +52,7 @@ impl Shell {
             writers: BTreeSet::new(alloc),
             pieces: BTreeMap::new(alloc),
             workers: Crew::one(),
+            snapshots: Snapshots::new(alloc),
         }
     }
 

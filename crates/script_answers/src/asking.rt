@@ -8,7 +8,7 @@ use crate::pulled_lines::pulled_text;
 use crate::refusals::fault_of_plan;
 use crate::requests::{read_name, read_request};
 use crate::unit_lines::unit_text;
-use fleet_answers::{Answer, AnswerFault, Question, answer_question};
+use fleet_answers::{Answer, AnswerFault, Question, Snapshots, answer_again};
 use replica_store::Store;
 use script_commands::{Fault, LineRefusal, Word, Words, read_host};
 use std::alloc::Global;
@@ -20,10 +20,13 @@ use worker_rounds::OpenGate;
 /// order, a word that names no host, a word that is no unit name, a template, and a store of which more than 4,096 names
 /// must be loaded.
 ///
-/// It loads all units once, by 1 to 64 workers, whose number changes nothing of the answer.
+/// It loads all units once, by 1 to 64 workers, whose number changes nothing of the answer. What was loaded for the last
+/// question of the node is refreshed, and kept for the next one; no answer depends on it.
 pub fn tell_unit<R: Threads + Sync>(
     rt: &R,
     alloc: Global,
+    snapshots: &mut Snapshots,
+    node: usize,
     store: &Store,
     host: Option<Word<'_>>,
     unit: &[u8],
@@ -33,7 +36,8 @@ pub fn tell_unit<R: Threads + Sync>(
 {
     let host = read_host(alloc, host)?;
     let name = read_name(alloc, unit)?;
-    tell(rt, alloc, store, &Question::Unit { host, name }, workers)
+    let question = Question::Unit { host, name };
+    tell(rt, alloc, snapshots, node, store, &question, workers)
 }
 
 /// Lists what the unit that a word names pulls, over what it requires, has as requisite, binds to and wants, each unit once
@@ -41,6 +45,8 @@ pub fn tell_unit<R: Threads + Sync>(
 pub fn tell_list<R: Threads + Sync>(
     rt: &R,
     alloc: Global,
+    snapshots: &mut Snapshots,
+    node: usize,
     store: &Store,
     host: Option<Word<'_>>,
     unit: &[u8],
@@ -50,7 +56,8 @@ pub fn tell_list<R: Threads + Sync>(
 {
     let host = read_host(alloc, host)?;
     let name = read_name(alloc, unit)?;
-    tell(rt, alloc, store, &Question::Pulled { host, name }, workers)
+    let question = Question::Pulled { host, name };
+    tell(rt, alloc, snapshots, node, store, &question, workers)
 }
 
 /// Tells what stops, and then what starts and in which order, where the unit that a word names is to start while those that
@@ -63,6 +70,8 @@ pub fn tell_list<R: Threads + Sync>(
 pub fn tell_plan<R: Threads + Sync>(
     rt: &R,
     alloc: Global,
+    snapshots: &mut Snapshots,
+    node: usize,
     store: &Store,
     host: Option<Word<'_>>,
     unit: &[u8],
@@ -73,13 +82,16 @@ pub fn tell_plan<R: Threads + Sync>(
 {
     let host = read_host(alloc, host)?;
     let request = read_request(alloc, host, unit, running)?;
-    tell(rt, alloc, store, &Question::Plan(request), workers)
+    let question = Question::Plan(request);
+    tell(rt, alloc, snapshots, node, store, &question, workers)
 }
 
 // Tells what a question is answered.
 fn tell<R: Threads + Sync>(
     rt: &R,
     alloc: Global,
+    snapshots: &mut Snapshots,
+    node: usize,
     store: &Store,
     question: &Question,
     workers: &Crew,
@@ -87,7 +99,9 @@ fn tell<R: Threads + Sync>(
     ensures told { IsSaid (λ text. text.items) result (TellsQuestion question.now store.now) }
 {
     let workers = workers.count() as usize;
-    match answer_question(rt, alloc, store, &[], question, workers, &OpenGate) {
+    match answer_again(
+        rt, alloc, snapshots, node, store, question, workers, &OpenGate,
+    ) {
         Ok(answer) => answer_text(alloc, answer),
         Err(AnswerFault::Workers) => unreachable!(),
         Err(AnswerFault::Memory) => Err(Fault::Memory),

@@ -33,37 +33,57 @@ impl Shell {
 
     // Tells a unit, as all that must be loaded of a node comes to it.
     pub(super) fn show<R: Threads + Sync>(
-        &self,
+        &mut self,
         rt: &R,
         alloc: Global,
         node: &[u8],
         host: Option<Word<'_>>,
         unit: &[u8],
     ) -> Told
-        ensures done { Executes self.now self.now (Show node.now host.entry unit.now) result }
+        ensures done { Executes self.old self.new (Show node.now host.entry unit.now) result }
     {
-        let replica = self.replica(alloc, node)?;
-        tell_unit(rt, alloc, replica.store(), host, unit, &self.workers)
+        let at = self.node_at(alloc, node)?;
+        let store = self.nodes[at].store();
+        tell_unit(
+            rt,
+            alloc,
+            &mut self.snapshots,
+            at,
+            store,
+            host,
+            unit,
+            &self.workers,
+        )
     }
 
     // Lists what a unit pulls, as all that must be loaded of a node comes to it.
     pub(super) fn list<R: Threads + Sync>(
-        &self,
+        &mut self,
         rt: &R,
         alloc: Global,
         node: &[u8],
         host: Option<Word<'_>>,
         unit: &[u8],
     ) -> Told
-        ensures done { Executes self.now self.now (List node.now host.entry unit.now) result }
+        ensures done { Executes self.old self.new (List node.now host.entry unit.now) result }
     {
-        let replica = self.replica(alloc, node)?;
-        tell_list(rt, alloc, replica.store(), host, unit, &self.workers)
+        let at = self.node_at(alloc, node)?;
+        let store = self.nodes[at].store();
+        tell_list(
+            rt,
+            alloc,
+            &mut self.snapshots,
+            at,
+            store,
+            host,
+            unit,
+            &self.workers,
+        )
     }
 
     // Tells what starts and what stops where a unit is to start while others run.
     pub(super) fn plan<R: Threads + Sync>(
-        &self,
+        &mut self,
         rt: &R,
         alloc: Global,
         node: &[u8],
@@ -71,13 +91,16 @@ impl Shell {
         unit: &[u8],
         running: Words<'_>,
     ) -> Told
-        ensures done { Executes self.now self.now (Plan node.now host.entry unit.now running.entry) result }
+        ensures done { Executes self.old self.new (Plan node.now host.entry unit.now running.entry) result }
     {
-        let replica = self.replica(alloc, node)?;
+        let at = self.node_at(alloc, node)?;
+        let store = self.nodes[at].store();
         tell_plan(
             rt,
             alloc,
-            replica.store(),
+            &mut self.snapshots,
+            at,
+            store,
             host,
             unit,
             running,

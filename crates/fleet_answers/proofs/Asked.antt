@@ -1,0 +1,38 @@
+-- Names and places that are compared.
+use Rattle.std.proofs.Common.{◌≡◌, ◌&&◌, Bool, true, false, List, [], ◌∷◌, refl, ap, sym, ◌∙◌, subst, inl, inr}
+use Rattle.std.specs.Prelude.{◌↔◌, ◌≢◌, ◌⊎◌}
+use Rattle.std.specs.Cmp.Lexicographic.{pointwise}
+use Rattle.std.specs.Ordering.{eq_by_cmp}
+use Rattle.list_laws.specs.Members.{IsAmong}
+use Rattle.load_places.specs.Places.{PlaceParts}
+use Rattle.edit_sums.specs.Sums.{EntryMap, visible_at}
+use Rattle.path_maps.specs.DifferenceLaws.{changed_or_same}
+use Rattle.unit_name.specs.Names.{Name, name_cmp}
+use Rattle.unit_name.specs.NameLaws.{name_eq-Decides}
+
+first_true : (a b : Bool) → (a && b) ≡ true → a ≡ true
+first_true true b h = refl
+first_true false b h = cc (h)
+
+second_true : (a b : Bool) → (a && b) ≡ true → b ≡ true
+second_true true b h = h
+second_true false b h = cc (h)
+
+-- names that a test finds the same
+pub names_same : (xs ys : List Name) → pointwise (eq_by_cmp name_cmp) xs ys ≡ true → xs ≡ ys
+names_same [] [] h = refl
+names_same [] (y ∷ ys) h = cc (h)
+names_same (x ∷ xs) [] h = cc (h)
+names_same (x ∷ xs) (y ∷ ys) h =
+    let E = eq_by_cmp name_cmp in
+    ap (λ (n : Name). n ∷ xs) ((name_eq-Decides x y).0 (first_true (E x y) (pointwise E xs ys) h))
+    ∙ ap (λ (ns : List Name). y ∷ ns) (names_same xs ys (second_true (E x y) (pointwise E xs ys) h))
+
+-- places that are told as changed have all at which stores show otherwise
+pub rest_is : (new old : EntryMap) (places told : List PlaceParts) → told ≡ places → ((p : PlaceParts) → IsAmong p places ↔ (visible_at new p ≢ visible_at old p)) → (p : PlaceParts)
+    → IsAmong p told ⊎ (visible_at old p ≡ visible_at new p)
+rest_is new old places told e exact p = by (changed_or_same new old places exact p)
+  where
+    by : IsAmong p places ⊎ (visible_at new p ≡ visible_at old p) → IsAmong p told ⊎ (visible_at old p ≡ visible_at new p)
+    by (inl a) = inl (subst (IsAmong p) (sym e) a)
+    by (inr h) = inr (sym h)
