@@ -2,7 +2,8 @@
 use crate::asking::{ask, world};
 use crate::edits::{Asked, asked_of};
 use crate::graphs::graph;
-use crate::tellings::{append_load, append_looked_up, append_unit};
+use crate::refreshing::{footprint, refresh};
+use crate::tellings::{append_load, append_looked_up, append_unit, is_same_load};
 use parallel_load::{LoadFault, Loaded, load_fleet, load_here, load_one};
 use replica_store::HostName;
 use std::thread::Threads;
@@ -38,7 +39,7 @@ fn append_compared(
 ) -> Result<(), LineFault> {
     match (here, fleet) {
         (Ok(here), Ok(fleet)) => {
-            let is_same = here.extra() == fleet.extra() && here.names() == fleet.names();
+            let is_same = is_same_load(here, fleet)?;
             out.either(is_same, b"the same", b"another")
         }
         (Err(_), Ok(_)) => out.write(b"a load"),
@@ -146,6 +147,8 @@ pub fn answer<R: Threads + Clock + Sync>(
         b"gate" => gate(rt, words, host, out),
         b"meet" => meet(rt, words, host, out),
         b"one" => one(words, host, out),
+        b"refresh" => refresh(words, host, out),
+        b"footprint" => footprint(words, host, out),
         b"ask" => ask(rt, words, host, out),
         b"world" => world(rt, words, host, out),
     )

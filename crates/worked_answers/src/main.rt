@@ -13,6 +13,10 @@
 //! - `graph EDITS + ASKED + KINDS + NAMES`: the units of the graph of a load, and from each name the unit for which it
 //!   stands, where edges of the kinds lead in one step, what is reached over them, and how far what it pulls is;
 //! - `one EDITS + NAMES`: the unit of each name, loaded alone;
+//! - `refresh COUNTS + EDITS + ASKED`: how many units are read to load the store of so many first edits; then for each further
+//!   number of them where that store shows otherwise, how many units are read where its load is made of the one before, and
+//!   whether it is the load by one thread;
+//! - `footprint EDITS + ASKED + NAMES`: the first components of all paths that say something of the unit of each name;
 //! - `ask EDITS + ASKED + QUESTION + WORKERS`: what a store answers by one thread, and by each number of workers;
 //! - `world EDITS + QUESTION + WORKERS`: what two nodes of a world answer, by each number of workers, once the second took
 //!   what the first put: at a moment before the last edit, and at one behind it; and that there is no third node.
@@ -37,6 +41,7 @@ mod dialogues;
 mod edits;
 mod embedding;
 mod graphs;
+mod refreshing;
 mod scripts;
 mod tellings;
 

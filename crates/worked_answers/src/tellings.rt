@@ -44,13 +44,20 @@ pub fn append_load(out: &mut Answer, load: &Loaded) -> Result<(), LineFault> {
     append_units(out, &load.units()?)
 }
 
-// Writes places, each behind a space.
-fn append_places(out: &mut Answer, places: &[Place]) -> Result<(), LineFault> {
+/// Writes places, each behind a space.
+pub fn append_places(out: &mut Answer, places: &[Place]) -> Result<(), LineFault> {
     for place in places {
         out.write(b" ")?;
         place.append_to(&mut out.bytes)?;
     }
     Ok(())
+}
+
+/// Whether two loads are for the same host, with the same names asked for, the same names, dependencies and units.
+pub fn is_same_load(one: &Loaded, other: &Loaded) -> Result<bool, LineFault> {
+    let is_same_asked = one.host() == other.host() && one.extra() == other.extra();
+    let is_same_map = one.names() == other.names() && one.dependencies() == other.dependencies();
+    Ok(is_same_asked && is_same_map && one.units()? == other.units()?)
 }
 
 /// Writes what stands for a unit.

@@ -1,0 +1,190 @@
+//! Loads that are refreshed, and footprints of units, in words.
+ghost use Rattle.std.specs.Prelude.{◌≢◌, ◌↔◌, IfOk};
+ghost use Rattle.list_laws.specs.Members.{IsAmong};
+ghost use Rattle.load_places.specs.Places.{PlaceParts};
+ghost use Rattle.edit_sums.specs.Sums.{visible_at};
+ghost use Rattle.path_maps.specs.Views.{view_of};
+ghost use Rattle.parallel_load.specs.Loads.{IsLoad};
+
+use crate::edits::asked_of;
+use crate::tellings::{append_places, is_same_load};
+use parallel_load::{LoadFault, Loaded, load_here};
+use replica_store::{Edit, HostName, Place, Store};
+use std::alloc::Global;
+use unit_name::UnitName;
+use worked_lines::{Answer, LineFault, Words};
+
+// A store with a load of it.
+#[derive(Drop)]
+struct LoadedStore {
+    store: Store,
+    load: Loaded,
+}
+
+impl LoadedStore {
+    // A store with the load by one thread.
+    fn of(
+        alloc: Global,
+        store: Store,
+        host: Option<&HostName>,
+        names: &[UnitName],
+    ) -> Result<LoadedStore, LoadFault>
+        ensures load { IfOk result (λ made. IsLoad (view_of made.store made.load.host) made.load.extra made.load) }
+    {
+        let load = load_here(alloc, &store, host, names)?;
+        Ok(LoadedStore { store, load })
+    }
+
+    // Another store with the load that is made of this one, where it shows otherwise at just these places.
+    fn refreshed(&self, store: Store, changed: &[Place]) -> Result<LoadedStore, LoadFault>
+        requires load { IsLoad (view_of self.now.store self.now.load.host) self.now.load.extra self.now.load }
+        requires changed { (p : PlaceParts) → IsAmong p changed.now
+            ↔ (visible_at store p ≢ visible_at self.now.store p) }
+        ensures load { IfOk result (λ made. IsLoad (view_of made.store made.load.host) made.load.extra made.load) }
+    {
+        let load = parallel_load::refresh(&self.load, &store, changed)?;
+        Ok(LoadedStore { store, load })
+    }
+}
+
+// The store of so many first edits.
+fn store_of(alloc: Global, edits: &[Edit], count: usize) -> Result<Store, LineFault> {
+    if count > edits.len() {
+        return Err(LineFault::Words);
+    }
+    Ok(Store::from_edits(alloc, &edits[..count])?)
+}
+
+// Writes of how many edits a store is.
+fn append_count(out: &mut Answer, count: usize) -> Result<(), LineFault> {
+    out.line(format!(in out.alloc; "of {count} edits: ")?.as_bytes())
+}
+
+// Writes how many units were read for a load.
+fn append_fresh(out: &mut Answer, load: &Loaded) -> Result<(), LineFault> {
+    out.print(&load.fresh())?;
+    out.write(b" read")
+}
+
+// Writes why there is no load, unless that is want of memory.
+fn append_fault(out: &mut Answer, fault: LoadFault) -> Result<(), LineFault> {
+    match fault {
+        LoadFault::Memory => Err(LineFault::Memory),
+        fault => out.print(&fault),
+    }
+}
+
+// Writes whether a load is the one by one thread.
+fn append_compared(
+    out: &mut Answer,
+    load: &Loaded,
+    here: Result<Loaded, LoadFault>,
+) -> Result<(), LineFault> {
+    match here {
+        Ok(here) => out.either(is_same_load(load, &here)?, b", the same", b", another"),
+        Err(LoadFault::Memory) => Err(LineFault::Memory),
+        Err(_) => out.write(b", where there is none"),
+    }
+}
+
+// Writes where a store shows otherwise than one before it, and how many units are read where its load is made of that one's. It is
+// the one of which the next is made, unless there is none.
+fn append_refreshed(
+    out: &mut Answer,
+    before: LoadedStore,
+    store: Store,
+) -> Result<LoadedStore, LineFault>
+    requires load { IsLoad (view_of before.store before.load.host) before.load.extra before.load }
+    ensures load { IfOk result (λ made. IsLoad (view_of made.store made.load.host) made.load.extra made.load) }
+{
+    let changed = store.changed(&before.store)?;
+    out.write(b"changed")?;
+    append_places(out, &changed)?;
+    out.write(b"; ")?;
+    let load = &before.load;
+    let here = load_here(out.alloc, &store, load.host(), load.extra());
+    match before.refreshed(store, &changed) {
+        Ok(made) => {
+            append_fresh(out, &made.load)?;
+            append_compared(out, &made.load, here)?;
+            Ok(made)
+        }
+        Err(fault) => {
+            append_fault(out, fault)?;
+            out.either(here.is_ok(), b", where there is one", b"")?;
+            Ok(before)
+        }
+    }
+}
+
+// Writes what is refreshed for each of several numbers of edits, one after another.
+fn append_later(
+    out: &mut Answer,
+    first: LoadedStore,
+    edits: &[Edit],
+    counts: &[usize],
+) -> Result<(), LineFault>
+    requires load { IsLoad (view_of first.store first.load.host) first.load.extra first.load }
+{
+    let mut held = first;
+    for count in counts {
+        append_count(out, *count)?;
+        let store = store_of(out.alloc, edits, *count)?;
+        held = append_refreshed(out, held, store)?;
+    }
+    Ok(())
+}
+
+/// Loads the store of so many first edits, and makes of that load the one of each further number of them.
+pub fn refresh(
+    words: &mut Words,
+    host: Option<HostName>,
+    out: &mut Answer,
+) -> Result<(), LineFault> {
+    let counts = words.numbers()?;
+    let edits = words.edits()?;
+    let names = words.names()?;
+    let (first, later) = counts.split_first().ok_or(LineFault::Words)?;
+    append_count(out, *first)?;
+    let store = store_of(out.alloc, &edits, *first)?;
+    match LoadedStore::of(out.alloc, store, host.as_ref(), &names) {
+        Ok(held) => {
+            append_fresh(out, &held.load)?;
+            append_later(out, held, &edits, later)
+        }
+        Err(fault) => append_fault(out, fault),
+    }
+}
+
+// Writes the footprint of the unit of a main name.
+fn append_footprint(out: &mut Answer, load: &Loaded, name: &UnitName) -> Result<(), LineFault> {
+    out.line(name.bytes())?;
+    out.write(b":")?;
+    if load.unit(name).is_none() {
+        return out.write(b" no unit");
+    }
+    for part in &parallel_load::footprint(load, name)? {
+        out.write(b" ")?;
+        out.write(part.as_slice())?;
+    }
+    Ok(())
+}
+
+/// Loads a store, and writes the footprints of the units of several names.
+pub fn footprint(
+    words: &mut Words,
+    host: Option<HostName>,
+    out: &mut Answer,
+) -> Result<(), LineFault> {
+    let asked = asked_of(words, host)?;
+    let looked = words.names()?;
+    match load_here(words.alloc, &asked.store, asked.host.as_ref(), &asked.names) {
+        Ok(load) => {
+            for name in &looked {
+                append_footprint(out, &load, name)?;
+            }
+            Ok(())
+        }
+        Err(fault) => append_fault(out, fault),
+    }
+}
