@@ -1,0 +1,103 @@
+"""Where the units of a picture stand: a column for each step, or a ring."""
+import math
+from dataclasses import dataclass
+
+LETTER, PADDING, HEIGHT = 7.3, 9, 22  # the width of a letter, the room beside a name, and the height of a box
+ROW, GAP, MARGIN, HEAD = 32, 90, 24, 96
+MOST_ROWS = 32  # rows of a column; a step with more units has several
+SWEEPS = 12
+
+
+@dataclass(frozen=True)
+class Spot:
+    """Where a box stands: its left upper corner and its width."""
+
+    x: float
+    y: float
+    width: float
+
+    def middle(self):
+        return self.x + self.width / 2, self.y + HEIGHT / 2
+
+
+@dataclass(frozen=True)
+class Layout:
+    """Where all stands: spots by name, the left and the right of each step's columns, and the size of the whole."""
+
+    spots: dict
+    steps: dict
+    width: float
+    height: float
+
+
+def width_of(name):
+    return LETTER * len(name) + 2 * PADDING
+
+
+def rows_of(picture):
+    """The units of each step, so ordered that lines cross little: each stands where those stand, on the middle, to which it has lines."""
+    steps = {}
+    for box in picture.boxes:
+        steps.setdefault(box.step, []).append(box.name)
+    near = {box.name: [] for box in picture.boxes}
+    for line in picture.lines:
+        near[line.source].append(line.target)
+        near[line.target].append(line.source)
+    height = {name: (at + 0.5) / len(names) for names in steps.values() for at, name in enumerate(names)}
+    numbers = sorted(steps)
+    for sweep in range(SWEEPS):
+        for number in numbers if sweep % 2 == 0 else numbers[::-1]:
+            names = steps[number]
+            means = {it: mean([height[other] for other in near[it] if other not in names], height[it]) for it in names}
+            names.sort(key=lambda it: (means[it], it))
+            height.update({name: (at + 0.5) / len(names) for at, name in enumerate(names)})
+    return {number: steps[number] for number in numbers}
+
+
+def mean(numbers, default):
+    return sum(numbers) / len(numbers) if numbers else default
+
+
+def columns_of(names):
+    """The columns of a step: as many as its units need, about equally long."""
+    count = math.ceil(len(names) / MOST_ROWS)
+    size = math.ceil(len(names) / count)
+    return [names[at : at + size] for at in range(0, len(names), size)]
+
+
+def column_layout(picture):
+    """Units in columns, a step after the other."""
+    steps = {number: columns_of(names) for number, names in rows_of(picture).items()}
+    tallest = max(len(column) for columns in steps.values() for column in columns)
+    spots, bands, x = {}, {}, MARGIN
+    for number, columns in steps.items():
+        left = x
+        for column in columns:
+            wide = max(map(width_of, column))
+            top = HEAD + (tallest - len(column)) * ROW / 2
+            for at, name in enumerate(column):
+                spots[name] = Spot(x + (wide - width_of(name)) / 2, top + at * ROW, width_of(name))
+            x += wide + PADDING * 2
+        bands[number] = left - PADDING, x - PADDING
+        x += GAP
+    return Layout(spots, bands, x - GAP + MARGIN, HEAD + tallest * ROW + MARGIN)
+
+
+def ring_layout(picture):
+    """Units in a ring, in order, the first on top."""
+    names = [it.name for it in picture.boxes]
+    widest = max(map(width_of, names))
+    tall = max(80.0, 24.0 * len(names))
+    wide = max(tall, widest * 0.9)
+    middle_x, middle_y = MARGIN + widest / 2 + wide, HEAD + tall
+    spots = {}
+    for at, name in enumerate(names):
+        angle = 2 * math.pi * at / len(names)
+        x, y = middle_x + wide * math.sin(angle), middle_y - tall * math.cos(angle)
+        spots[name] = Spot(x - width_of(name) / 2, y, width_of(name))
+    return Layout(spots, {}, 2 * middle_x, middle_y + tall + HEIGHT + MARGIN)
+
+
+def layout_of(picture):
+    """Where all of a picture stands."""
+    return ring_layout(picture) if picture.is_ring else column_layout(picture)

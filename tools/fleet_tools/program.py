@@ -1,0 +1,54 @@
+"""The program that answers scripts: the proved one, or, where that is asked for, the same text run without proofs."""
+import os
+import shutil
+import subprocess
+import sys
+from dataclasses import dataclass
+
+from .faults import Fault
+from .scripts import script_of
+
+REPOSITORY = os.path.dirname(os.path.dirname(os.path.dirname(os.path.realpath(__file__))))
+CRATE = os.path.join(REPOSITORY, "crates", "fleet_shell")
+BUILT = os.path.join(CRATE, "out", "fleet_shell")
+
+HOW_TO_BUILD = f"""the proved program isn't built. Either of these builds it, with Rattle's `rt` on the path:
+  (cd {CRATE} && rt run < /dev/null)    proves it and all below it, compiles it and runs it: about an hour, once
+  (cd {REPOSITORY} && rt ci)    the same and all tests
+FLEET_SHELL=FILE names one that stands elsewhere. With --unproved the same program is run without proofs, a minute or two for each question."""
+
+
+@dataclass(frozen=True)
+class Program:
+    """How the program is run."""
+
+    words: tuple
+    folder: str
+    is_proved: bool
+
+    def answer(self, lines):
+        """What it answers to a script of these lines."""
+        script = script_of(lines)
+        if not self.is_proved:
+            print("fleet: asking the unproved program by `rt try`, which takes a minute or two", file=sys.stderr, flush=True)
+        try:
+            ran = subprocess.run(self.words, input=script, cwd=self.folder, stdout=subprocess.PIPE, stderr=subprocess.PIPE, check=False)
+        except OSError as fault:
+            raise Fault(f"{self.words[0]}: {fault.strerror}") from fault
+        if ran.returncode:
+            told = ran.stderr.decode("utf-8", "replace").strip()
+            raise Fault(f"{' '.join(self.words)} ended with status {ran.returncode}{': ' if told else ''}{told}")
+        return ran.stdout
+
+
+def program_of(is_unproved):
+    """The program that is to be asked."""
+    if is_unproved:
+        if not shutil.which("rt"):
+            raise Fault("--unproved needs Rattle's `rt` on the path")
+        return Program(("rt", "try"), CRATE, False)
+    named = os.environ.get("FLEET_SHELL")
+    built = os.path.abspath(named) if named else BUILT
+    if not os.path.isfile(built):
+        raise Fault(f"FLEET_SHELL={named}: no such file" if named else HOW_TO_BUILD)
+    return Program((built,), os.getcwd(), True)

@@ -1,0 +1,224 @@
+"""Reads the unit load path below a root: what a store takes of it, and what is told of the rest."""
+import os
+from dataclasses import dataclass, field
+from enum import Enum
+
+from .faults import Fault, printable
+from .files import bytes_of, led_to
+from .places import DIRECTORIES, HOST, MOST_FILE_BYTES, MOST_NAME_BYTES, MOST_TARGET_BYTES, WORD, Link, Place, is_unit_name
+
+# Where a manager finds units that nobody wrote as files of the load path, and where old distributions have theirs.
+OTHER_DIRECTORIES = {
+    "/run/systemd/generator": "units that generators made",
+    "/run/systemd/generator.early": "units that generators made",
+    "/run/systemd/generator.late": "units that generators made",
+    "/run/systemd/transient": "transient units",
+    "/etc/systemd/system.control": "what `systemctl set-property` wrote",
+    "/run/systemd/system.control": "what `systemctl set-property` wrote",
+    "/etc/systemd/system.attached": "units of attached images",
+    "/run/systemd/system.attached": "units of attached images",
+    "/lib/systemd/system": "units of a system whose /lib isn't /usr/lib",
+}
+
+NAME_RULE = f"its name isn't 1 to {MOST_NAME_BYTES} bytes of printable ASCII without spaces"
+TARGET_RULE = f"its target isn't 1 to {MOST_TARGET_BYTES:,} bytes of printable ASCII without spaces"
+EVERY = 500  # files between two looks of the progress line
+
+
+class Grade(Enum):
+    """What came of an entry that is told."""
+
+    LEFT_OUT = "left out"
+    UNREAD = "can't be read"
+    TAKEN = "taken, but"
+
+
+@dataclass(frozen=True)
+class Told:
+    """An entry of a tree, what came of it, and why."""
+
+    path: str
+    grade: Grade
+    why: str
+
+    def __str__(self):
+        return f"{printable(self.path)}: {self.grade.value}: {self.why}"
+
+
+@dataclass
+class Tree:
+    """What stands below a root, for the fleet or for a host: what a store takes of it, and what is told."""
+
+    root: str
+    host: str = ""
+    entries: dict = field(default_factory=dict)
+    told: list = field(default_factory=list)
+
+    def ordered(self):
+        """The places with their contents, in the order of the store."""
+        return sorted(self.entries.items())
+
+    def count(self, grade):
+        """How many entries were told so."""
+        return sum(it.grade is grade for it in self.told)
+
+
+@dataclass(frozen=True)
+class Spot:
+    """A folder that is read: the directory that it belongs to, the folder's name in it (none for the directory itself), and where in the tree
+    it really stands."""
+
+    rank: int
+    folder: str
+    where: str
+
+    def shown(self, name=""):
+        """The path by which an entry is told."""
+        return "/".join([DIRECTORIES[self.rank], *[it for it in (self.folder, name) if it]])
+
+
+class Reader:
+    """Reads one tree."""
+
+    def __init__(self, root, host, progress):
+        self.tree = Tree(root, host)
+        self.base = root.rstrip("/")
+        self.progress = progress
+        self.homes = {}
+
+    def read(self):
+        """Reads the whole tree."""
+        if not os.path.isdir(self.tree.root):
+            raise Fault(f"{printable(self.tree.root)}: no folder")
+        spots = [it for it in map(self.spot_of, range(len(DIRECTORIES))) if it]
+        read = [self.read_folder(it) for it in spots]
+        if not any(read):
+            causes = [f"; {it}" for it in self.tree.told[:1]]
+            raise Fault(f"{printable(self.tree.root)}: none of {', '.join(DIRECTORIES)} stands there and can be read{''.join(causes)}")
+        for path, what in OTHER_DIRECTORIES.items():
+            self.look_at_other(path, what)
+        return self.tree
+
+    def tell(self, path, grade, why):
+        self.tree.told.append(Told(path, grade, why))
+
+    def tell_unread(self, path, fault):
+        why = fault.strerror or str(fault)
+        self.tell(path, Grade.LEFT_OUT if isinstance(fault, IsADirectoryError) else Grade.UNREAD, why)
+
+    def spot_of(self, rank):
+        """Where a directory of the load path stands; nothing where there is none, or where it is another one under a second name."""
+        path = DIRECTORIES[rank]
+        try:
+            where = led_to(self.base, path)
+        except OSError as fault:
+            self.tell_unread(path, fault)
+            return None
+        if where in self.homes:
+            self.tell(path, Grade.LEFT_OUT, f"it is the same folder as {DIRECTORIES[self.homes[where]]}, and is read there")
+            return None
+        if not os.path.lexists(self.base + where):
+            return None
+        self.homes[where] = rank
+        return Spot(rank, "", where)
+
+    def read_folder(self, spot):
+        """Reads a folder; false where that failed."""
+        try:
+            with os.scandir(self.base + spot.where) as it:
+                found = sorted(it, key=lambda entry: entry.name)
+        except OSError as fault:
+            self.tell_unread(spot.shown(), fault)
+            return False
+        if not found and spot.folder:
+            self.tell(spot.shown(), Grade.LEFT_OUT, "an empty folder")
+        for entry in found:
+            if not WORD.fullmatch(entry.name) or len(entry.name) > MOST_NAME_BYTES:
+                self.tell(spot.shown(entry.name), Grade.LEFT_OUT, NAME_RULE)
+                continue
+            try:
+                self.read_entry(spot, entry)
+            except OSError as fault:
+                self.tell_unread(spot.shown(entry.name), fault)
+        return True
+
+    def read_entry(self, spot, entry):
+        """Reads one entry of a folder."""
+        if entry.is_symlink():
+            self.read_link(spot, entry)
+        elif entry.is_dir(follow_symlinks=False):
+            self.read_subfolder(spot, entry.name, f"{spot.where}/{entry.name}")
+        elif entry.is_file(follow_symlinks=False):
+            self.read_file(spot, entry)
+        else:
+            self.tell(spot.shown(entry.name), Grade.LEFT_OUT, "neither a file nor a link nor a folder")
+
+    def take(self, spot, name, content):
+        self.tree.entries[Place(self.tree.host, spot.rank, spot.folder, name)] = content
+        if len(self.tree.entries) % EVERY == 0:
+            self.progress.tell(f"{self.tree.root}: {len(self.tree.entries):,} files and links")
+
+    def read_subfolder(self, spot, name, where):
+        """Reads a folder in a directory of the load path; one level deeper nothing is read."""
+        if spot.folder:
+            self.tell(spot.shown(name), Grade.LEFT_OUT, "a folder in a folder")
+            return
+        if is_unit_name(name):
+            self.tell(spot.shown(name), Grade.TAKEN, "a folder where a unit's file is expected: what it holds is of no unit")
+        self.read_folder(Spot(spot.rank, name, where))
+
+    def read_file(self, spot, entry):
+        content = bytes_of(entry.path, MOST_FILE_BYTES)
+        if len(content) > MOST_FILE_BYTES:
+            self.tell(spot.shown(entry.name), Grade.LEFT_OUT, f"over {MOST_FILE_BYTES:,} bytes")
+        else:
+            self.take(spot, entry.name, content)
+
+    def read_link(self, spot, entry):
+        """Takes a link with its target, or reads the folder to which it leads."""
+        target, path = os.readlink(entry.path), spot.shown(entry.name)
+        if spot.folder:
+            is_dropin = spot.folder.endswith(".d") and entry.name.endswith(".conf") and entry.name != ".conf"
+            if is_dropin and target != "/dev/null":
+                self.tell(path, Grade.LEFT_OUT, f"a drop-in that is a link, to {printable(target)}")
+                return
+        elif target != "/dev/null" and self.follow(spot, entry.name):
+            return
+        if not WORD.fullmatch(target) or len(target) > MOST_TARGET_BYTES:
+            self.tell(path, Grade.LEFT_OUT, TARGET_RULE)
+            return
+        self.take(spot, entry.name, Link(target))
+
+    def follow(self, spot, name):
+        """Looks where a link in a directory leads. True where that is a folder, which is then read in its place."""
+        path = spot.shown(name)
+        try:
+            where = led_to(self.base, f"{spot.where}/{name}")
+        except OSError as fault:
+            self.tell(path, Grade.TAKEN, f"its way doesn't end: {fault.strerror}")
+            return False
+        if os.path.isdir(self.base + where):
+            self.tell(path, Grade.TAKEN, f"a link to the folder {printable(where)}, which is read as if it stood here")
+            self.read_subfolder(spot, name, where)
+            return True
+        if is_unit_name(name) and where.rpartition("/")[0] not in self.homes:
+            self.tell(path, Grade.TAKEN, f"it leads out of the load path, to {printable(where)}, where nothing is read")
+        return False
+
+    def look_at_other(self, path, what):
+        """Tells of a directory that isn't part of the load path here, where it holds something."""
+        try:
+            where = led_to(self.base, path)
+            names = [] if where in self.homes else os.listdir(self.base + where)
+        except OSError:
+            return
+        if names:
+            self.tell(path, Grade.LEFT_OUT, f"{what}; {len(names)} there")
+
+
+def read_tree(word, progress, is_named=True):
+    """Reads the tree that a word names: `ROOT`, or, where trees can be named, `NAME=ROOT`."""
+    name, equals, root = word.partition("=") if is_named and not os.path.isdir(word) else ("", "", word)
+    if equals and not HOST.fullmatch(name):
+        raise Fault(f"{printable(name)}: no host's name: 1 to 64 ASCII letters, digits, dashes and dots")
+    return Reader(root if equals else word, name if equals else "", progress).read()
