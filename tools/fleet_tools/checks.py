@@ -28,8 +28,8 @@ def check(store, target, trees):
     if isinstance(planned, Refusal):
         wrong.append(f"{target}: no plan: {planned}")
     left_out = sum(tree.count(Grade.LEFT_OUT) + tree.count(Grade.UNREAD) for tree in trees)
-    rows = counted(units, trees) + ([("left out of the import", "entries", left_out)] if left_out else [])
-    return Check(len(units), wrong, [f"not modelled: {what}: {count:,} {of}" for what, of, count in rows])
+    rows = counted(units, trees) + ([("left out of the store", "place", left_out)] if left_out else [])
+    return Check(len(units), wrong, [f"not modelled: {what}: {numbered(count, of)}" for what, of, count in rows])
 
 
 def default_target(store):
@@ -55,8 +55,12 @@ def wrong_with(unit, units):
                 yield f"{unit.name}: {kind}={other}: {refusal}: it {words}"
 
 
+def numbered(count, thing):
+    """So many things, in words."""
+    return f"{count:,} {thing}{'' if count == 1 else 's'}"
+
+
 def summary(found):
     """The last line of a check."""
-    count = len(found.wrong)
-    told = [f"{found.units:,} units, {count:,} {'thing' if count == 1 else 'things'} wrong"]
+    told = [f"{numbered(found.units, 'unit')}, {numbered(len(found.wrong), 'thing')} wrong"]
     return told + ([f"what isn't modelled, and what to expect of it: {PAGE}"] if found.unmodelled else [])

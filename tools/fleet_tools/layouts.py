@@ -2,8 +2,10 @@
 import math
 from dataclasses import dataclass
 
+from .pictures import Shape
+
 LETTER, PADDING, HEIGHT = 7.3, 9, 22  # the width of a letter, the room beside a name, and the height of a box
-ROW, GAP, MARGIN, HEAD = 32, 90, 24, 96
+ROW, GAP, MARGIN, HEAD = 32, 90, 32, 96
 MOST_ROWS = 32  # rows of a column; a step with more units has several
 SWEEPS = 12
 
@@ -59,28 +61,27 @@ def mean(numbers, default):
 
 
 def columns_of(names):
-    """The columns of a step: as many as its units need, about equally long."""
+    """The columns of a step: as many as its units need, the units going from one to the next, so that each stands as high as its place."""
     count = math.ceil(len(names) / MOST_ROWS)
-    size = math.ceil(len(names) / count)
-    return [names[at : at + size] for at in range(0, len(names), size)]
+    return [names[at::count] for at in range(count)]
 
 
 def column_layout(picture):
     """Units in columns, a step after the other."""
     steps = {number: columns_of(names) for number, names in rows_of(picture).items()}
-    tallest = max(len(column) for columns in steps.values() for column in columns)
+    tallest = max(len(columns[0]) for columns in steps.values())
     spots, bands, x = {}, {}, MARGIN
     for number, columns in steps.items():
         left = x
-        for column in columns:
+        for turn, column in enumerate(columns):
             wide = max(map(width_of, column))
-            top = HEAD + (tallest - len(column)) * ROW / 2
+            top = HEAD + (tallest - len(columns[0])) * ROW / 2 + turn * ROW / len(columns)
             for at, name in enumerate(column):
                 spots[name] = Spot(x + (wide - width_of(name)) / 2, top + at * ROW, width_of(name))
             x += wide + PADDING * 2
         bands[number] = left - PADDING, x - PADDING
         x += GAP
-    return Layout(spots, bands, x - GAP + MARGIN, HEAD + tallest * ROW + MARGIN)
+    return Layout(spots, bands, x - GAP + MARGIN, HEAD + (tallest + 0.5) * ROW + MARGIN)
 
 
 def ring_layout(picture):
@@ -100,4 +101,4 @@ def ring_layout(picture):
 
 def layout_of(picture):
     """Where all of a picture stands."""
-    return ring_layout(picture) if picture.is_ring else column_layout(picture)
+    return ring_layout(picture) if picture.shape is Shape.RING else column_layout(picture)

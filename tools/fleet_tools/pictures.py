@@ -29,9 +29,17 @@ class Tie(Enum):
     REQUISITE = "needs running"
 
 
+class Shape(Enum):
+    """How a picture's units stand: in the steps of a plan, on ways from what is asked for to what is at fault, or in a ring."""
+
+    STEPS = "steps"
+    WAYS = "ways"
+    RING = "ring"
+
+
 @dataclass(frozen=True)
 class Box:
-    """A unit, what it is, and the step in which it starts; what stops has step 0."""
+    """A unit, what it is, and the step in which it starts; what stops has step 0. On ways the step is the distance."""
 
     name: str
     role: Role
@@ -49,12 +57,12 @@ class Line:
 
 @dataclass(frozen=True)
 class Picture:
-    """A picture: its title, its units in order, its lines, and whether the units stand in a ring."""
+    """A picture: its title, its units in order, its lines, and how the units stand."""
 
     title: str
     boxes: tuple
     lines: tuple
-    is_ring: bool = False
+    shape: Shape
 
 
 def named_in(refusal):
@@ -116,7 +124,7 @@ def picture_of_plan(target, plan, units):
         lines += [Line(it, name, Tie.CONFLICT) for it in plan.start if it in rivals(units[name])]
         lines += [Line(name, it, Tie.NEEDS) for it in plan.stop if any(it in units[name].to(kind) for kind in TYING)]
     count = f"{len(plan.start)} to start" + (f", {len(plan.stop)} to stop" if plan.stop else "")
-    return Picture(f"{target}: {count}", tuple(boxes), tuple(lines))
+    return Picture(f"{target}: {count}", tuple(boxes), tuple(lines), Shape.STEPS)
 
 
 def picture_of_cycle(target, refusal, units):
@@ -124,7 +132,7 @@ def picture_of_cycle(target, refusal, units):
     names = refusal.told
     boxes = tuple(Box(it, Role.FAULTY, 1) for it in names)
     ring = [Line(one, other, Tie.WAITED) for one, other in zip(names, [*names[1:], names[0]])]
-    return Picture(f"{target}: no plan, {len(names)} units wait for each other", boxes, (*ring, *lines_of(names, units)), True)
+    return Picture(f"{target}: no plan, {len(names)} units wait for each other", boxes, (*ring, *lines_of(names, units)), Shape.RING)
 
 
 def way_to(name, asked, units):
@@ -157,4 +165,4 @@ def picture_of_refusal(target, refusal, units):
     lines = [Line(one, other, Tie.NEEDS) for one, other in dict.fromkeys(pair for way in ways for pair in zip(way, way[1:]))]
     between = {"P7": Tie.CONFLICT, "P6": Tie.REQUISITE}.get(refusal.code)
     lines += [Line(*faulty, between)] if between else []
-    return Picture(f"{target}: no plan: {refusal}", tuple(boxes), tuple(lines))
+    return Picture(f"{target}: no plan: {refusal}", tuple(boxes), tuple(lines), Shape.WAYS)

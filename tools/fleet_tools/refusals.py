@@ -25,9 +25,9 @@ def cycle_words(*names):
 SENTENCES = {
     "L2": lambda: "more than 4,096 names must be loaded",
     "P1": lambda: "a template: ask for an instance of it",
-    "P2": lambda name: f"{name} has no file",
-    "P3": lambda name: f"{name} is masked",
-    "P4": lambda name: f"the link of {name} can't be followed",
+    "P2": lambda _name: "it has no file",
+    "P3": lambda _name: "it is masked",
+    "P4": lambda _name: "its link is bad",
     "P5": lambda: "it refuses to be started by hand",
     "P6": lambda name, other: f"{name} starts only where {other} runs already",
     "P7": lambda one, other: f"{one} and {other} conflict, and both are required",

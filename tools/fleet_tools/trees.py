@@ -31,6 +31,7 @@ class Grade(Enum):
     LEFT_OUT = "left out"
     UNREAD = "can't be read"
     TAKEN = "taken, but"
+    EMPTY = "nothing to take"
 
 
 @dataclass(frozen=True)
@@ -131,7 +132,7 @@ class Reader:
             self.tell_unread(spot.shown(), fault)
             return False
         if not found and spot.folder:
-            self.tell(spot.shown(), Grade.LEFT_OUT, "an empty folder")
+            self.tell(spot.shown(), Grade.EMPTY, "an empty folder")
         for entry in found:
             if not WORD.fullmatch(entry.name) or len(entry.name) > MOST_NAME_BYTES:
                 self.tell(spot.shown(entry.name), Grade.LEFT_OUT, NAME_RULE)

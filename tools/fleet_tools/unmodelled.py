@@ -64,10 +64,10 @@ def counted(units, trees):
     loaded = [it for it in units.values() if it.status is UnitStatus.LOADED]
     entries = [(place, content) for tree in trees for place, content in tree.entries.items()]
     files = [content for _, content in entries if not isinstance(content, Link)]
-    rows = [(what, "units", sum(map(test, loaded))) for what, test in OF_UNITS]
-    rows += [(what, "files", sum(bool(test(it)) for it in files)) for what, test in OF_FILES]
-    rows.append((".upholds folders", "links", sum(place.folder.endswith(".upholds") for place, _ in entries)))
-    rows.append(("folders of links for a type, as service.wants", "links", sum(is_of_type(place.folder) for place, _ in entries)))
+    rows = [(what, "unit", sum(map(test, loaded))) for what, test in OF_UNITS]
+    rows += [(what, "file", sum(bool(test(it)) for it in files)) for what, test in OF_FILES]
+    rows.append(("what stands in .upholds folders", "place", sum(place.folder.endswith(".upholds") for place, _ in entries)))
+    rows.append(("folders of links for a type, as service.wants", "link", sum(is_of_type(place.folder) for place, _ in entries)))
     return [(what, of, count) for what, of, count in rows if count]
 
 

@@ -9,7 +9,7 @@ from .refusals import Refusal
 from .scripts import node_of, script_of
 from .trees import Grade, read_tree
 
-COUNTS = {Grade.LEFT_OUT: "left out", Grade.UNREAD: "that can't be read", Grade.TAKEN: "taken otherwise than they look"}
+COUNTS = {Grade.LEFT_OUT: "left out", Grade.UNREAD: "that can't be read", Grade.TAKEN: "to be looked at"}
 
 
 def tell(line):
@@ -48,7 +48,7 @@ def counts_of(tree):
 def tell_counts(trees):
     """Tells of each tree how many of its entries the store hasn't as they are."""
     for tree in trees:
-        if tree.told:
+        if counts_of(tree):
             tell(f"{printable(tree.root)}: {counts_of(tree)}; `fleet import` tells which")
 
 
@@ -58,7 +58,7 @@ def tell_each(trees):
         for it in tree.told:
             tell(it)
         if tree.told:
-            tell(f"{printable(tree.root)}: {len(tree.entries):,} taken, {counts_of(tree)}")
+            tell(", ".join([f"{printable(tree.root)}: {len(tree.entries):,} taken", *filter(None, [counts_of(tree)])]))
 
 
 def import_trees(asked, progress):
