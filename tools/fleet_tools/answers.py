@@ -6,17 +6,13 @@ from enum import Enum
 from .faults import Fault
 from .refusals import Refusal, refusal_of
 
-# The kinds of dependencies that units name, and what the program prints where others name them.
-INVERSES = {
-    "Before": "After", "After": "Before", "Wants": "WantedBy", "Requires": "RequiredBy", "Requisite": "RequisiteOf", "BindsTo": "BoundBy",
-    "PartOf": "ConsistsOf", "Conflicts": "ConflictedBy", "OnFailure": "OnFailureOf", "PropagatesReloadTo": "ReloadPropagatedFrom",
-    "ReloadPropagatedFrom": "PropagatesReloadTo",
-}
+# The kinds of dependencies in the order in which the program prints them, and those that units name.
+EDGE_KINDS = ("Before", "After", "Wants", "WantedBy", "Requires", "RequiredBy", "Requisite", "RequisiteOf", "BindsTo", "BoundBy", "PartOf",
+              "ConsistsOf", "Conflicts", "ConflictedBy", "OnFailure", "OnFailureOf", "PropagatesReloadTo", "ReloadPropagatedFrom")
 NEEDING = ("Requires", "BindsTo")
-PULLING = ("Requires", "Requisite", "BindsTo", "Wants")
 
 NAME = r"[A-Za-z0-9:\-_.\\@]+"
-EDGE_LINE = re.compile("(" + "|".join(sorted({*INVERSES, *INVERSES.values()})) + f"): ({NAME}(?: {NAME})*)")
+EDGE_LINE = re.compile("(" + "|".join(EDGE_KINDS) + f"): ({NAME}(?: {NAME})*)")
 NOTE_LINE = re.compile(r"note (K[1-6]) (.*)", re.S)
 DROPIN_LINE = re.compile(r"dropin ((?:[A-Za-z0-9.\-]+:)?/[!-~]+\.conf)")
 

@@ -1,13 +1,14 @@
 """Questions about a store made of trees: units by name, all that they name, plans."""
 import re
 
-from .answers import INVERSES, Answers
+from .answers import EDGE_KINDS, Answers
 from .faults import Fault, Status
 from .places import UNIT_NAME, Link, is_asked
 from .refusals import Refusal
 from .scripts import node_of
 
 NODE = "tree"
+MOST_NAMES = 4_096  # that are loaded
 
 # A unit's name as a word of a file.
 NAMED = re.compile(rb"(?<![^\s=])" + UNIT_NAME.encode("ascii") + rb"(?!\S)")
@@ -69,12 +70,14 @@ class Store:
         """All units that are loaded, by name, and what a plan's question, if there is one, is answered; in one run, but where units are named
         that no file spells, as by a specifier."""
         names = self.own_names()
-        questions = [("show", it) for it in sorted({*names, *self.spelled_names()})]
+        # where there are more than can be loaded, one question tells
+        asked = sorted({*names, *self.spelled_names()}) if len(names) <= MOST_NAMES else names[:1]
+        questions = [("show", it) for it in asked]
         answers = self.asked([*questions, *([("plan", *plan)] if plan else [])])
         units = self.units_in(answers, len(questions))
         planned = answers.plan() if plan else None
         mains = {other: unit.name for unit in units.values() for other in unit.names}
-        return self.reached(units, [mains.get(it, it) for it in names], tuple(INVERSES)), planned
+        return self.reached(units, [mains.get(it, it) for it in names], EDGE_KINDS), planned
 
     def units(self, names):
         """What these names come to, by main name."""

@@ -1,21 +1,21 @@
 """Tells of two trees which units come to something else, field by field."""
+from .answers import EDGE_KINDS
 
 
-def fields_of(unit):
-    """A unit's fields in order, each with the list of what it holds; of a unit that isn't there, nothing."""
+def groups_of(unit):
+    """A unit's fields, each with the list of what it holds: what it is, its settings, and its edges; of a unit that isn't there, nothing."""
     if unit is None:
-        return {}
-    fields = {"status": [unit.status_words()], "names": list(unit.names), "drop-ins": list(unit.dropins)}
-    fields.update(unit.settings())
-    fields.update((kind, list(names)) for kind, names in unit.edges.items())
-    return fields
+        return {}, {}, {}
+    head = {"status": [unit.status_words()], "names": list(unit.names), "drop-ins": list(unit.dropins)}
+    return head, unit.settings(), {kind: list(unit.edges[kind]) for kind in EDGE_KINDS if kind in unit.edges}
 
 
 def differences(one, other):
     """The lines on all units that differ; each unit's name, and below it what only the one or only the other has."""
     for name in sorted({*one, *other}):
-        first, second = fields_of(one.get(name)), fields_of(other.get(name))
-        changes = [line for field in {**first, **second} for line in changed(field, first.get(field, []), second.get(field, []))]
+        changes = []
+        for first, second in zip(groups_of(one.get(name)), groups_of(other.get(name))):
+            changes += [line for field in {**first, **second} for line in changed(field, first.get(field, []), second.get(field, []))]
         if changes:
             yield name
             yield from changes

@@ -1,0 +1,88 @@
+"""What cases work with: a room for trees, and runs of `tools/fleet`."""
+import os
+import subprocess
+import sys
+from dataclasses import dataclass
+
+from repository import ROOT
+
+FLEET = os.path.join(ROOT, "tools", "fleet")
+TREES = os.path.join(ROOT, "tests", "trees")
+E, R, L, U = "/etc/systemd/system", "/run/systemd/system", "/usr/local/lib/systemd/system", "/usr/lib/systemd/system"
+
+sys.path.insert(0, os.path.join(ROOT, "tools"))
+
+
+@dataclass(frozen=True)
+class Link:
+    """A link that a tree is made with."""
+
+    target: str
+
+
+@dataclass(frozen=True)
+class Ran:
+    """How a run ended."""
+
+    status: int
+    out: bytes
+    err: bytes
+
+    def lines(self):
+        return self.out.decode("latin-1").split("\n")[:-1]
+
+    def told(self):
+        """What was told on standard error."""
+        return [it.removeprefix("fleet: ") for it in self.err.decode("latin-1").split("\n")[:-1]]
+
+
+class Bench:
+    """The program that is asked, and a room of its own for each case."""
+
+    def __init__(self, program, room):
+        self.program, self.room = program, room
+
+    def fleet(self, *words, status=0, env=(), **more):
+        """Runs `tools/fleet`, which must end with this status."""
+        around = {**os.environ, "FLEET_SHELL": self.program, **dict(env)}
+        ran = subprocess.run([FLEET, *words], env=around, stdout=subprocess.PIPE, stderr=subprocess.PIPE, check=False, **more)
+        found = Ran(ran.returncode, ran.stdout, ran.stderr)
+        same(found.status, status, f"status of {words}: {found}")
+        return found
+
+    def tree(self, name, entries):
+        """Makes a tree: from paths to texts, bytes, links, or nothing for a folder. Its root."""
+        root = os.path.join(self.room, name)
+        for path, content in entries.items():
+            at = os.fsencode(root) + (path if isinstance(path, bytes) else path.encode())
+            os.makedirs(at if content is None else os.path.dirname(at), exist_ok=True)
+            if isinstance(content, Link):
+                os.symlink(content.target, at)
+            elif content is not None:
+                with open(at, "wb") as file:
+                    file.write(content if isinstance(content, bytes) else content.encode())
+        return root
+
+    def path(self, name):
+        """A path in the room."""
+        return os.path.join(self.room, name)
+
+    def counting(self):
+        """A program that is the program, and the file to which it adds a line for each run."""
+        count, wrapper = self.path("count"), self.path("counting")
+        with open(wrapper, "w", encoding="utf-8") as file:
+            file.write(f'#!/bin/sh\necho run >> "{count}"\nexec "{self.program}"\n')
+        os.chmod(wrapper, 0o755)
+        return wrapper, count
+
+
+def same(found, wanted, what=""):
+    """Fails where what was found isn't what is wanted."""
+    if found != wanted:
+        raise AssertionError(f"{what}\n--- wanted\n{shown(wanted)}\n--- found\n{shown(found)}")
+
+
+def shown(value):
+    """A value for a reader, a list line by line, and of what is long its begin."""
+    text = "\n".join(map(str, value)) if isinstance(value, (list, tuple)) else str(value)
+    return text if len(text) < 4000 else text[:4000] + ".."

@@ -1,0 +1,238 @@
+"""What is asked of trees is answered as the rules say: units, plans, what is wrong, what differs."""
+import os
+import shutil
+import subprocess
+import sys
+
+import unit_model as model
+from repository import ROOT
+
+from .bench import FLEET, TREES, E, L, R, U, same
+
+DEBIAN, WEB1, BROKEN = (os.path.join(TREES, it) for it in ("debian", "web1", "broken"))
+
+
+def store_of(root, host=""):
+    """What stands in a tree of tests/trees, read for the model."""
+    found = {}
+    for directory in model.DIRECTORIES:
+        for at, folders, names in os.walk(root + directory):
+            for name in [*names, *(it for it in folders if os.path.islink(f"{at}/{it}"))]:
+                path = f"{at}/{name}"
+                place = host + path[len(root) :]
+                if os.path.islink(path):
+                    found[place] = model.Link(os.readlink(path))
+                else:
+                    with open(path, encoding="latin-1", newline="") as file:
+                        found[place] = file.read()
+    return found
+
+
+def modelled(call, *words):
+    """What the model answers."""
+    try:
+        return call(*words)[:-1]
+    except model.Refused as refusal:
+        return [refusal.line()]
+
+
+def as_the_model_says(bench):
+    """Each question about the tree of tests/trees is answered as the rules say, for the fleet and for a host."""
+    store = {**store_of(DEBIAN), **store_of(WEB1, "web1:")}
+    more = ["--with", f"web1={WEB1}"]
+    asked = ["nginx.service", "postgresql@15-main.service", "app-shop-web.service", "default.target", "autovt@tty2.service", "sshd.service"]
+    for host, words in ((None, more), ("web1", [*more, "--host", "web1"])):
+        for name in asked:
+            same(bench.fleet("show", DEBIAN, name, *words).lines(), modelled(model.show, store, host, name), f"show {name}")
+            same(bench.fleet("cat", DEBIAN, name, *words).lines(), modelled(model.cat, store, host, name), f"cat {name}")
+        for name in ("default.target", "graphical.target", "cron.service"):
+            same(bench.fleet("list", DEBIAN, name, *words, "--workers", "4").lines(), modelled(model.list_pulled, store, host, name))
+        for name, running in (("default.target", []), ("multi-user.target", ["rescue.service", "ssh.socket"]), ("app-wiki.service", ["postgresql.service"])):
+            found = bench.fleet("plan", DEBIAN, name, *running, *words).lines()
+            same(found, modelled(model.plan, store, host, name, running), f"plan {name}")
+
+
+def worked_by_hand(bench):
+    """A unit of the tree, worked by hand: the host's own file, whose drop-ins come from four directories, by rank and by name."""
+    web1 = ["--with", f"web1={WEB1}", "--host", "web1"]
+    same(bench.fleet("show", DEBIAN, "nginx", *web1).lines(), [
+        "unit nginx.service", f"status loaded web1:{E}/nginx.service", "names nginx.service", f"dropin {E}/service.d/90-protect.conf",
+        f"dropin web1:{E}/nginx.service.d/limits.conf", "Unit.Description=Web server of this host", "Service.ExecStart=/opt/nginx/nginx",
+        "Service.ProtectSystem=full", "Service.LimitNOFILE=262144", "After: network-online.target", "Wants: network-online.target",
+        "WantedBy: multi-user.target",
+    ])
+    same(bench.fleet("plan", DEBIAN, "app-wiki.service").lines(),
+         ["start postgresql@15-main.service", "start postgresql.service", "start app-wiki.service"])
+    same(bench.fleet("plan", DEBIAN, "ssh.service", "ssh.socket").lines(), ["stop ssh.socket", "start ssh.service"])
+    starts = bench.fleet("plan", DEBIAN, "multi-user.target", *web1).lines()
+    same([it in starts for it in ("start cron.service", "start app-shop-worker.service", "start app-shop-web.service")], [False, False, True])
+    same(bench.fleet("cat", DEBIAN, "autovt@tty2").lines()[-3:], [f"# {E}/getty@tty2.service.d/noclear.conf", "[Service]", "TTYVTDisallocate=no"])
+
+
+def refusals(bench):
+    """A refusal ends with status 1, is told in words, and prints nothing."""
+    for words, told in (
+        (["plan", BROKEN, "first"], "plan of first.service: P8 Cycle first.service third.service second.service: they wait for each other: "
+         "first.service before third.service, third.service before second.service, second.service before first.service"),
+        (["plan", BROKEN, "both.target"], "plan of both.target: P7 Conflict day.service night.service: day.service and night.service conflict, "
+         "and both are required"),
+        (["plan", BROKEN, "lacks"], "plan of lacks.service: P2 NotFound gone.service: it has no file"),
+        (["cat", BROKEN, "masked"], "cat of masked.service: P3 Masked masked.service: it is masked"),
+        (["cat", BROKEN, "kind"], "cat of kind.service: P4 Bad kind.service: its link is bad"),
+        (["show", BROKEN, "escape@.service"], "show of escape@.service: P1 Template: a template: ask for an instance of it"),
+        (["list", BROKEN, "a!.service"], "list of a!.service: N4 BadByte 1"),
+        (["plan", DEBIAN, "shutdown.target"], "plan of shutdown.target: P5 ManualStart: it refuses to be started by hand"),
+        (["plan", DEBIAN, "example-broker"], "plan of example-broker.service: P6 Requisite example-broker.service dbus.service: "
+         "example-broker.service starts only where dbus.service runs already"),
+    ):
+        ran = bench.fleet(*words, status=1)
+        same((ran.out, ran.told()[-1]), (b"", told))
+    same(bench.fleet("show", BROKEN, "gone").lines(), ["unit gone.service", "status not-found", "names gone.service", "RequiredBy: lacks.service"])
+
+
+def what_runs(bench):
+    """What runs is read from the line and from a file, as `systemctl list-units --plain` prints it."""
+    root = bench.tree("a", {f"{U}/t.target": "[Unit]\nRequires=a.service b.service c.service\nAfter=a.service b.service c.service\n",
+                            **{f"{U}/{it}.service": "[Unit]\n" for it in "abc"}})
+    with open(bench.path("running"), "w", encoding="utf-8") as file:
+        file.write("# what runs\nb.service loaded active running A service\n\n  n.service\n")
+    same(bench.fleet("plan", root, "t.target", "a", "--running-from", bench.path("running")).lines(), ["start c.service", "start t.target"])
+    same(bench.fleet("plan", root, "t.target", "--running-from", "-", input=b"c.service\n").lines(),
+         ["start a.service", "start b.service", "start t.target"])
+
+
+def wrong_units(bench):
+    """All that is wrong with a tree is told, a line each, with status 1."""
+    notes, cycle = f"{U}/notes.service", "first.service before third.service, third.service before second.service, second.service before first.service"
+    same(bench.fleet("check", BROKEN, status=1).lines(), [
+        "away.service: B4 Target: the link leads to no unit name",
+        "escape@a\\x2.service: Unit.Description: K5 BadEscape: a specifier for what can't be unescaped; the value is passed over",
+        "kind.service: B1 Kind: the link leads to another kind of unit, or is of a kind without aliases",
+        "lacks.service: Requires=gone.service: P2 NotFound: it has no file", "lacks.service: Requires=masked.service: P3 Masked: it is masked",
+        "lacks.service: BindsTo=kind.service: P4 Bad: it has a bad link", "loop1.service: B3 Loop: more than 8 links, or a loop of them",
+        "loop2.service: B3 Loop: more than 8 links, or a loop of them", f"{notes}:1: K1 OutsideSection: a line before the first section",
+        f"{notes}:6: K2 NoEquals: a line without a key and a `=`",
+        f"{notes}:7: K3 BadHeader: a section's header without its end; what follows it is passed over",
+        "notes.service: Unit.RefuseManualStart: K4 BadBoolean: neither yes nor no",
+        "notes.service: Unit.Wants: K6 BadName: a word that is no unit name; it is passed over",
+        "shape.service: B2 Shape: the link leads from a plain name, a template or an instance to one that doesn't fit",
+        f"multi-user.target: no plan: P8 Cycle first.service third.service second.service: they wait for each other: {cycle}",
+        "not modelled: DefaultDependencies= never off: 11 units", "not modelled: targets that systemd starts after all that they pull: 2 units",
+        "18 units, 15 things wrong", "what isn't modelled, and what to expect of it: docs/SYSTEMD.md",
+    ])
+    same(bench.fleet("check", BROKEN, "both.target", status=1).lines()[14][:57], "both.target: no plan: P7 Conflict day.service night.servi")
+
+
+def nothing_wrong(bench):
+    """The tree of tests/trees has nothing wrong; what it uses that isn't modelled is counted."""
+    found = bench.fleet("check", DEBIAN)
+    units = model.Units(store_of(DEBIAN), None).load([])[1]
+    same((found.err, found.lines()[-2]), (b"", f"{len(units)} units, 0 things wrong"))
+    same([it for it in found.lines() if not it.startswith("not modelled: ")], found.lines()[-2:])
+    counted = dict(it.removeprefix("not modelled: ").rsplit(": ", 1) for it in found.lines()[:-2])
+    same(counted["DefaultDependencies= never off"], "45 units")
+    same(counted["specifiers of the machine, which stay as they are written"], "1 file")
+    same(counted["what stands in .upholds folders"], "1 place")
+    plain = bench.tree("plain", {f"{U}/a.service": "[Unit]\nDefaultDependencies=no\nDescription=100%% %n\n"})
+    ran = bench.fleet("check", plain)
+    same((ran.lines(), ran.told()), (["1 unit, 0 things wrong"],
+                                     ["neither default.target nor multi-user.target is there, and no target is named: no plan is looked at"]))
+
+
+def asked_once(bench):
+    """A check of 400 units, instances among them, runs the program once; units that only a specifier names take another run."""
+    entries = {f"{U}/u{number}.service": f"[Unit]\nAfter=u{number - 1}.service\nWants=i@{number % 99}.service\n" for number in range(299)}
+    root = bench.tree("a", {**entries, f"{U}/i@.service": "[Unit]\n", f"{U}/multi-user.target": "[Unit]\nWants=u5.service\n"})
+    program, count = bench.counting()
+    ran = bench.fleet("check", root, env={"FLEET_SHELL": program})
+    with open(count, encoding="utf-8") as file:
+        same(file.read(), "run\n")
+    # u-1.service has no file, and is nothing that a unit requires
+    same(ran.lines()[-2], f"{299 + 99 + 1 + 1} units, 0 things wrong")
+    more = bench.tree("b", {f"{U}/a@.service": "[Unit]\nRequires=b@%i.service\n", f"{U}/t.target": "[Unit]\nWants=a@1.service\n"})
+    ran = bench.fleet("check", more, "t.target", env={"FLEET_SHELL": program}, status=1)
+    same(ran.lines()[0], "a@1.service: Requires=b@1.service: P2 NotFound: it has no file")
+    with open(count, encoding="utf-8") as file:
+        same(file.read(), "run\n" * 3)
+
+
+def too_many_units(bench):
+    """More names than are loaded are refused."""
+    root = bench.tree("a", {f"{U}/u{number}.service": "[Unit]\n" for number in range(4_097)})
+    same(bench.fleet("check", root, status=1).told()[-1], "check: L2 TooManyUnits: more than 4,096 names must be loaded")
+
+
+def differences(bench):
+    """Units that differ between two trees are told field by field, with status 1; equal trees have nothing to tell."""
+    one = bench.tree("one", {
+        f"{U}/a.service": "[Unit]\nAfter=b.service c.service\nDescription=one\n[Service]\nE=1\nE=2\n", f"{U}/b.service": "[Unit]\n",
+        f"{U}/c.service": "[Unit]\n", f"{U}/same.service": "[Unit]\nDescription=same\n", f"{U}/only.service": "[Unit]\n",
+    })
+    other = bench.tree("other", {
+        f"{L}/a.service": "[Unit]\nAfter=b.service\nWants=n.service\nDescription=other\n[Service]\nE=2\nE=1\n", f"{E}/b.service": "",
+        f"{U}/c.service": "[Unit]\n", f"{U}/same.service": "\n[Unit]\nDescription = same\n", f"{R}/a.service.d/x.conf": "[X]\nY=Z\n",
+    })
+    same(bench.fleet("diff", one, other, status=1).lines(), [
+        "a.service", f"  - status: loaded {U}/a.service", f"  + status: loaded {L}/a.service", "  + drop-ins: " + f"{R}/a.service.d/x.conf",
+        "  - Unit.Description: one", "  + Unit.Description: other", "  - Service.E: 1, 2", "  + Service.E: 2, 1", "  + X.Y: Z",
+        "  - After: c.service", "  + Wants: n.service",
+        "b.service", f"  - status: loaded {U}/b.service", "  + status: masked",
+        "c.service", "  - Before: a.service",
+        "n.service", "  + status: not-found", "  + names: n.service", "  + WantedBy: a.service",
+        "only.service", f"  - status: loaded {U}/only.service", "  - names: only.service",
+    ])
+    same(bench.fleet("diff", one, one).out, b"")
+
+
+def words_that_are_no_words(bench):
+    """What the command line can't mean ends with status 2, and says why."""
+    for words, told in (
+        (["show", DEBIAN, "a b"], "a b: no unit's name"), (["show", DEBIAN, "x\ny"], "x\\x0ay: no unit's name"), (["frob"], "invalid choice"),
+        (["plan", DEBIAN], "required: UNIT"), (["show", DEBIAN, "x", "--host", "a_b"], "no host's name"),
+        (["import", DEBIAN, "--node", "a-b"], "no node's name"), (["import", DEBIAN, "--writer", "4294967296"], "over 4294967295"),
+        (["merge", "a-b=x"], "a-b: no node's name"), (["merge", "n=x", "n=y"], "n: two nodes of this name"),
+    ):
+        ran = bench.fleet(*words, status=2)
+        same((ran.out, told in ran.err.decode()), (b"", True), ran.err.decode())
+    same(bench.fleet("show", DEBIAN, "x", "--workers", "65", status=1).told()[-1], "show: --workers: L1 Workers")
+    for verb in ("import", "show", "cat", "list", "plan", "check", "export", "diff", "draw", "merge"):
+        same(bench.fleet(verb, "--help").out.startswith(b"usage: fleet " + verb.encode()), True)
+
+
+def without_the_program(bench):
+    """Where there is no program, it is told how to build it; one that fails is told too; a pipe that closes is quiet."""
+    ran = bench.fleet("show", DEBIAN, "x", status=2, env={"FLEET_SHELL": bench.path("none")})
+    same(ran.told(), [f"show: FLEET_SHELL={bench.path('none')}: no such file"])
+    with open(bench.path("fails"), "w", encoding="utf-8") as file:
+        file.write("#!/bin/sh\ncat > /dev/null\necho 'fleet: out of memory' >&2\nexit 2\n")
+    os.chmod(bench.path("fails"), 0o755)
+    ran = bench.fleet("show", DEBIAN, "x", status=2, env={"FLEET_SHELL": bench.path("fails")})
+    same(ran.told(), [f"show: {bench.path('fails')} ended with status 2: fleet: out of memory"])
+    # a copy of the tools in which nothing is built, as a fresh clone is
+    shutil.copytree(os.path.join(ROOT, "tools"), bench.path("clone/tools"))
+    bare = {name: value for name, value in os.environ.items() if name != "FLEET_SHELL"}
+    words = [bench.path("clone/tools/fleet"), "show", DEBIAN, "x"]
+    ran = subprocess.run(words, env=bare, stdout=subprocess.PIPE, stderr=subprocess.PIPE, check=False)
+    same((ran.returncode, [it in ran.stderr for it in (b"rt run", b"rt ci", b"--unproved")]), (2, [True] * 3), ran.stderr.decode())
+    reader, writer = os.pipe()
+    os.close(reader)
+    ran = subprocess.run([FLEET, "import", DEBIAN], stdout=writer, stderr=subprocess.PIPE, check=False)
+    os.close(writer)
+    same(ran.stderr, b"")
+
+
+def unproved(bench):
+    """With --unproved `rt try` is asked, which is told."""
+    os.makedirs(bench.path("bin"))
+    with open(bench.path("bin/rt"), "w", encoding="utf-8") as file:
+        file.write(f'#!/bin/sh\n[ "$1" = try ] && [ -f specs/../src/main.rt ] && exec "{bench.program}"\n')
+    os.chmod(bench.path("bin/rt"), 0o755)
+    ran = bench.fleet("list", DEBIAN, "cron", "--unproved", env={"FLEET_SHELL": "", "PATH": f"{bench.path('bin')}:{os.environ['PATH']}"})
+    same((ran.lines(), ran.told()), (["0 cron.service"], ["asking the unproved program by `rt try`, which takes a minute or two"]))
+    os.symlink(sys.executable, bench.path("python3"))
+    ran = bench.fleet("list", DEBIAN, "cron", "--unproved", env={"PATH": bench.room}, status=2)
+    same(ran.told(), ["list: --unproved needs Rattle's `rt` on the path"])
+
+
+CASES = [as_the_model_says, worked_by_hand, refusals, what_runs, wrong_units, nothing_wrong, asked_once, too_many_units, differences,
+         words_that_are_no_words, without_the_program, unproved]
