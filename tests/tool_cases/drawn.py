@@ -1,1 +1,119 @@
-CASES = []
+"""Pictures show each unit once, behind all for which it waits, and what is at fault."""
+import os
+import re
+import xml.etree.ElementTree as xml
+
+from .bench import TREES, U, same
+
+DEBIAN, BROKEN = (os.path.join(TREES, it) for it in ("debian", "broken"))
+SVG = "{http://www.w3.org/2000/svg}"
+
+
+def boxes_of(text):
+    """The boxes of an SVG: of each name its class, and where it stands, as left, top, right and bottom."""
+    found = {}
+    for group in xml.fromstring(text).iter(f"{SVG}g"):
+        rect, name = group.find(f"{SVG}rect"), group.find(f"{SVG}text")
+        if rect is not None:
+            x, y, wide, tall = (float(rect.get(it)) for it in ("x", "y", "width", "height"))
+            found[name.text] = group.get("class"), (x, y, x + wide, y + tall)
+    return found
+
+
+def lines_of(text):
+    """How many lines of each class an SVG has, without those of its legend."""
+    counts = {}
+    for group in xml.fromstring(text).iter(f"{SVG}g"):
+        for path in group.findall(f"{SVG}path"):
+            sort = path.get("class").split(" ")[0]
+            counts[sort] = counts.get(sort, 0) + 1
+    return counts
+
+
+def look(text):
+    """That no two boxes of an SVG meet, that all lie on it, and that names fit into them; the boxes."""
+    page, boxes = xml.fromstring(text), boxes_of(text)
+    wide, tall = float(page.get("width")), float(page.get("height"))
+    spots = sorted((spot, name) for name, (_, spot) in boxes.items())
+    for at, ((left, top, right, bottom), name) in enumerate(spots):
+        same((left >= 0, top >= 60, right <= wide, bottom <= tall, right - left >= 7.2 * len(name)), (True,) * 5, name)
+        for (other_left, other_top, _, other_bottom), other in spots[at + 1 :]:
+            same(other_left >= right or other_top >= bottom or other_bottom <= top, True, f"{name} and {other} meet")
+    return boxes
+
+
+def steps(bench):
+    """A plan of five units, worked by hand: three steps, a requirement, wishes, an order alone, and what stops."""
+    root = bench.tree("a", {
+        f"{U}/t.target": "[Unit]\nRequires=a.service\nWants=b.service c.service\nAfter=a.service c.service\n", f"{U}/a.service": "[Unit]\nAfter=b.service\n",
+        f"{U}/b.service": "[Unit]\nConflicts=old.service\n", f"{U}/c.service": "[Unit]\n", f"{U}/old.service": "[Unit]\n",
+    })
+    text = bench.fleet("draw", root, "t.target", "old.service").out.decode()
+    boxes = look(text)
+    same({name: sort for name, (sort, _) in boxes.items()},
+         {"old.service": "stops", "a.service": "starts", "b.service": "starts", "c.service": "starts", "t.target": "asked"})
+    left = {name: spot[0] for name, (_, spot) in boxes.items()}
+    same(sorted(left, key=lambda it: (left[it], it)), ["old.service", "b.service", "c.service", "a.service", "t.target"])
+    same(left["b.service"], left["c.service"])
+    same(lines_of(text), {"needs": 1, "wishes": 2, "order": 1, "conflict": 1})
+    same(bench.fleet("draw", root, "t.target", "old.service", "--dot").lines(), [
+        "digraph plan {", '  label="t.target: 4 to start, 1 to stop";', "  rankdir=LR;", "  node [shape=box, fontname=monospace];",
+        '  "old.service" [label="old.service", color=red, fontcolor=red];', '  { rank=same; "old.service"; }',
+        '  "b.service" [label="b.service"];', '  "c.service" [label="c.service"];', '  { rank=same; "b.service"; "c.service"; }',
+        '  "a.service" [label="a.service"];', '  { rank=same; "a.service"; }', '  "t.target" [label="t.target", penwidth=2];',
+        '  { rank=same; "t.target"; }', '  "t.target" -> "a.service" [color="#2c4a68", tooltip="requires"];',
+        '  "t.target" -> "b.service" [color="#5f8f5a", style=dashed, tooltip="wishes for"];',
+        '  "t.target" -> "c.service" [color="#5f8f5a", style=dashed, tooltip="wishes for"];',
+        '  "b.service" -> "a.service" [color="#9aa6b2", style=dotted, tooltip="starts before"];',
+        '  "b.service" -> "old.service" [color=red, dir=none, tooltip="conflicts with"];', "}",
+    ])
+
+
+def behind_all(bench):
+    """In the pictures of a tree and of 200 units each unit stands behind all for which it waits, in the order of the plan."""
+    entries = {f"{U}/u{number:03}.service": f"[Unit]\nWants=u{number // 3:03}.service\nAfter=u{number // 3:03}.service u{number * 7 // 11:03}.service\n"
+               for number in range(200)}
+    many = bench.tree("many", {**entries, f"{U}/t.target": f"[Unit]\nWants={' '.join(f'u{it:03}.service' for it in range(200))}\n"})
+    for root, target, count in ((DEBIAN, "multi-user.target", 38), (many, "t.target", 201)):
+        boxes = look(bench.fleet("draw", root, target).out.decode())
+        plan = [it.partition(" ")[2] for it in bench.fleet("plan", root, target).lines()]
+        same((sorted(boxes), len(boxes)), (sorted(plan), count))
+        for name in plan:
+            shown = bench.fleet("show", root, name).lines() if root == DEBIAN and name[0] in "anp" else []
+            waits = [it for line in shown if line.startswith("After: ") for it in line.split(" ")[1:] if it in boxes]
+            same([it for it in waits if boxes[it][1][2] >= boxes[name][1][0]], [], name)
+    for number in range(1, 200):
+        for other in {number // 3, number * 7 // 11} - {number}:
+            same(boxes[f"u{other:03}.service"][1][2] < boxes[f"u{number:03}.service"][1][0], True, f"{other} before {number}")
+
+
+def faults(bench):
+    """Where there is no plan, what is at fault is drawn: a cycle as a ring, a conflict with the ways that lead to it. Status 1."""
+    cycle = bench.fleet("draw", BROKEN, "multi-user.target", status=1).out.decode()
+    same({name: sort for name, (sort, _) in look(cycle).items()}, {f"{it}.service": "faulty" for it in ("first", "second", "third")})
+    same(lines_of(cycle), {"waited": 3, "needs": 1, "wishes": 1})
+    conflict = bench.fleet("draw", BROKEN, "both.target", "--output", bench.path("both.svg"), status=1)
+    with open(bench.path("both.svg"), encoding="utf-8") as file:
+        text = file.read()
+    same((conflict.out, {name: sort for name, (sort, _) in look(text).items()}),
+         (b"", {"both.target": "asked", "day.service": "faulty", "night.service": "faulty"}))
+    same(lines_of(text), {"needs": 2, "conflict": 1})
+    for name, boxes, lines in (
+        ("lacks", {"lacks.service": "asked", "gone.service": "faulty"}, {"needs": 1}), ("kind", {"kind.service": "faulty"}, {}),
+        ("escape@.service", {"escape@.service": "faulty"}, {}),
+    ):
+        text = bench.fleet("draw", BROKEN, name, status=1).out.decode()
+        same(({it: sort for it, (sort, _) in look(text).items()}, lines_of(text)), (boxes, lines), name)
+    text = bench.fleet("draw", DEBIAN, "example-broker", status=1).out.decode()
+    same((sorted(boxes_of(text)), lines_of(text)), (["dbus.service", "example-broker.service"], {"requisite": 1}))
+
+
+def spelled(bench):
+    """Names of any bytes stand in a picture as text."""
+    root = bench.tree("a", {f"{U}/a\\x2d&.service": "x", f"{U}/a\\x2db.service": "[Unit]\nDescription=<&>\n"})
+    text = bench.fleet("draw", root, "a\\x2db.service").out.decode()
+    same((list(boxes_of(text)), re.findall("<title>.*</title>", text)), (["a\\x2db.service"], ["<title>a\\x2db.service</title>"]))
+    same('"a\\\\x2db.service"' in bench.fleet("draw", root, "a\\x2db.service", "--dot").out.decode(), True)
+
+
+CASES = [steps, behind_all, faults, spelled]

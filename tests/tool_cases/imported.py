@@ -99,6 +99,15 @@ def links_that_lead_away(bench):
     same(b"not the tree's" in ran.out, False)
 
 
+def links_to_what_others_have(bench):
+    """A link to a directory that this tree lacks leads to where another tree, or the machine, has it: nothing is told."""
+    root = bench.tree("a", {f"{E}/a.service": Link(f"{U}/b.service"), f"{E}/b.service": Link("/lib/systemd/system/c.service")})
+    same(bench.fleet("import", root).err, b"")
+    os.makedirs(f"{root}/lib")
+    same(bench.fleet("import", root).told()[0],
+         f"{E}/b.service: taken, but: it leads out of the load path, to /lib/systemd/system/c.service, where nothing is read")
+
+
 def directories_that_are_one(bench):
     """A directory that stands under two names is read under the first, and one that is a link inside of the tree is read there."""
     root = bench.tree("a", {f"{U}/a.service": "A", "/usr/local/lib": Link("../lib"), "/etc": Link("/other"), "/other/systemd/system/b.service": "B"})
@@ -247,5 +256,5 @@ def own_tree_is_whole(bench):
     same((len(ran.lines()) - 1, ran.err), (held, b""))
 
 
-CASES = [text_and_order, hosts_behind_the_fleet, what_is_not_taken, links_that_lead_away, directories_that_are_one, no_tree, no_right_to_read,
+CASES = [text_and_order, hosts_behind_the_fleet, what_is_not_taken, links_that_lead_away, links_to_what_others_have, directories_that_are_one, no_tree, no_right_to_read,
          files_that_change, a_great_many, too_large, own_tree_is_whole]

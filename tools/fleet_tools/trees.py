@@ -7,6 +7,9 @@ from .faults import Fault, printable
 from .files import bytes_of, led_to
 from .places import DIRECTORIES, HOST, MOST_FILE_BYTES, MOST_NAME_BYTES, MOST_TARGET_BYTES, WORD, Link, Place, is_unit_name
 
+# What is /usr/lib/systemd/system where /lib is /usr/lib.
+OLD_DIRECTORY = "/lib/systemd/system"
+
 # Where a manager finds units that nobody wrote as files of the load path, and where old distributions have theirs.
 OTHER_DIRECTORIES = {
     "/run/systemd/generator": "units that generators made",
@@ -17,7 +20,7 @@ OTHER_DIRECTORIES = {
     "/run/systemd/system.control": "what `systemctl set-property` wrote",
     "/etc/systemd/system.attached": "units of attached images",
     "/run/systemd/system.attached": "units of attached images",
-    "/lib/systemd/system": "units of a system whose /lib isn't /usr/lib",
+    OLD_DIRECTORY: "units of a system whose /lib isn't /usr/lib",
 }
 
 NAME_RULE = f"its name isn't 1 to {MOST_NAME_BYTES} bytes of printable ASCII without spaces"
@@ -86,12 +89,15 @@ class Reader:
         self.base = root.rstrip("/")
         self.progress = progress
         self.homes = {}
+        # where aliases may lead: also to directories that this tree lacks, since another one has them
+        self.aliased = set(DIRECTORIES) if os.path.lexists(f"{self.base}/lib") else {*DIRECTORIES, OLD_DIRECTORY}
 
     def read(self):
         """Reads the whole tree."""
         if not os.path.isdir(self.tree.root):
             raise Fault(f"{printable(self.tree.root)}: no folder")
         spots = [it for it in map(self.spot_of, range(len(DIRECTORIES))) if it]
+        self.aliased.update(self.homes)
         read = [self.read_folder(it) for it in spots]
         if not any(read):
             causes = [f"; {it}" for it in self.tree.told[:1]]
@@ -202,7 +208,7 @@ class Reader:
             self.tell(path, Grade.TAKEN, f"a link to the folder {printable(where)}, which is read as if it stood here")
             self.read_subfolder(spot, name, where)
             return True
-        if is_unit_name(name) and where.rpartition("/")[0] not in self.homes:
+        if is_unit_name(name) and where.rpartition("/")[0] not in self.aliased:
             self.tell(path, Grade.TAKEN, f"it leads out of the load path, to {printable(where)}, where nothing is read")
         return False
 

@@ -153,26 +153,31 @@ def diff(asked, progress):
     return Status.WRONG if lines else Status.WELL
 
 
+def picture_of(asked, store):
+    """The picture of a plan, or of why there is none, and the status."""
+    planned = store.asked([("plan", asked.unit, *running_of(asked))]).plan()
+    if not isinstance(planned, Refusal):
+        return pictures.picture_of_plan(asked.unit, planned, store.units([*planned.stop, *planned.start])), Status.WELL
+    tell(f"plan of {asked.unit}: {planned}")
+    named = pictures.named_in(planned)
+    units = store.units([*dict.fromkeys([asked.unit, *named])]) if named else {}
+    if planned.code in pictures.ON_THE_WAY:
+        units = store.reached(units, [pictures.main_name(asked.unit, units), *named], pictures.NEEDING)
+    return pictures.picture_of_refusal(asked.unit, planned, units), Status.WRONG
+
+
 def draw(asked, progress):
     """`fleet draw`: a plan, or why there is none, as a picture."""
     store = store_of(asked, progress, [asked.root, *asked.more])
     tell_counts(store.trees)
-    planned = store.asked([("plan", asked.unit, *running_of(asked))]).plan()
-    if isinstance(planned, Refusal):
-        tell(f"plan of {asked.unit}: {planned}")
-        units = store.units([*dict.fromkeys([asked.unit, *pictures.named_in(planned)])])
-        if planned.code in pictures.ON_THE_WAY:
-            units = store.reached(units, [pictures.main_name(asked.unit, units)], pictures.NEEDING)
-        picture = pictures.picture_of_refusal(asked.unit, planned, units)
-    else:
-        picture = pictures.picture_of_plan(asked.unit, planned, store.units([*planned.stop, *planned.start]))
+    picture, status = picture_of(asked, store)
     text = drawings.dot(picture) if asked.dot else drawings.svg(picture)
     if asked.output:
-        with open(asked.output, "w", encoding="utf-8", errors="surrogateescape") as file:
+        with open(asked.output, "w", encoding="utf-8") as file:
             file.write(text)
     else:
         sys.stdout.write(text)
-    return Status.WRONG if isinstance(planned, Refusal) else Status.WELL
+    return status
 
 
 def merge(asked, progress):
