@@ -104,4 +104,19 @@ def nodes_meet(bench):
     same(bench.fleet("merge", one).lines()[-1], "4 places, at 0 of which nodes differed")
 
 
-CASES = [there_and_back, every_byte, what_a_node_shows, not_written, nodes_meet]
+def nodes_with_a_base(bench):
+    """With a tree that all held before, nodes edit what theirs have otherwise: what one alone changed stands, removals too, and only where two
+    changed a place did they differ."""
+    base = bench.tree("start", {f"{E}/a": "a", f"{E}/b": "b", f"{E}/c": "c", f"{E}/d": "d"})
+    one = bench.tree("one", {f"{E}/a": "a", f"{E}/b": "one", f"{E}/d": "one", f"{E}/n": "new"})
+    two = bench.tree("two", {f"{E}/a": "two", f"{E}/b": "b", f"{E}/c": "c", f"{E}/n": Link("new")})
+    # the base's counters are 1 to 4; then one: b 5, c gone 6, d 7, n 8; and two: a 5, d gone 6, n 7
+    same(bench.fleet("merge", "--base", base, f"one={one}", f"two={two}").lines(), [
+        f"{E}/a 5.2 two file 3", f"{E}/b 5.1 one file 3", f"{E}/c 6.1 one gone", f"{E}/d 7.1 one file 3", f"{E}/n 8.1 one file 3",
+        f"differed: {E}/d: one's 7.1 stands, over two's 6.2", f"differed: {E}/n: one's 8.1 stands, over two's 7.2",
+        "5 places, at 2 of which nodes differed",
+    ])
+    same(bench.fleet("merge", "--base", base, f"base={one}", status=2).told(), ["merge: base: two nodes of this name"])
+
+
+CASES = [there_and_back, every_byte, what_a_node_shows, not_written, nodes_meet, nodes_with_a_base]

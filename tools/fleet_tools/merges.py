@@ -6,19 +6,22 @@ from .faults import Fault
 from .places import Link, place_of
 from .scripts import edit_line
 
+BASE = "base"
+
 
 @dataclass(frozen=True)
 class Node:
-    """A node: its name in scripts, its writer's number, and its tree."""
+    """A node: its name in scripts, its writer's number, and what it edits in order: places with their new contents, nothing for a removal."""
 
     name: str
     writer: int
-    tree: object
+    edits: dict
 
 
 @dataclass(frozen=True)
 class Held:
-    """What all hold at a place: the version that stands there with its node, and of each node that had put something else there its version."""
+    """What all hold at a place: the version that stands there with its node and content, and the nodes that had edited it otherwise, with
+    their versions."""
 
     place: str
     version: str
@@ -27,24 +30,39 @@ class Held:
     others: tuple
 
 
+def nodes_of(trees, base):
+    """The nodes of some trees by name. Without a base each edits all that its tree holds. With one all hold the base's files first, as edits
+    of a node of its own, and each edits what its tree has otherwise: it puts what differs and removes what isn't there."""
+    before = base.entries if base else {}
+    found = [Node(BASE, 0, dict(base.ordered()))] if base else []
+    for writer, (name, tree) in enumerate(trees, 1):
+        places = sorted({*tree.entries, *before})
+        edits = {it: tree.entries.get(it) for it in places if tree.entries.get(it) != before.get(it)}
+        found.append(Node(name, writer, edits))
+    return found
+
+
 def script_lines(nodes):
-    """The script: each node puts its tree, and all exchange what they have."""
+    """The script: each node edits, what all held before first, and then all exchange what they have."""
     lines = [f"node {it.name} {it.writer}".encode("ascii") for it in nodes]
-    lines += [edit_line(it.name, place, content) for it in nodes for place, content in it.tree.ordered()]
+    for it in nodes:
+        if it.writer and not nodes[0].writer:
+            lines.append(f"merge {nodes[0].name} {it.name}".encode("ascii"))
+        lines += [edit_line(it.name, place, content) for place, content in it.edits.items()]
     return [*lines, b"sweep"]
 
 
 def merged(nodes, program):
     """What all nodes hold after they exchanged their edits, place by place."""
-    lines = script_lines(nodes)
     same = [f"same {nodes[0].name} {it.name}".encode("ascii") for it in nodes[1:]]
-    answers = Answers(program.answer([*lines, *same, f"files {nodes[0].name}".encode("ascii")]))
+    answers = Answers(program.answer([*script_lines(nodes), *same, f"files {nodes[0].name}".encode("ascii")]))
     for _ in nodes:
         answers.expect("ok")
     put = {}
     for node in nodes:
-        places = [place for place, _ in node.tree.ordered()]
-        put[node.name] = dict(zip(places, answers.versions(len(places))))
+        if node.writer and not nodes[0].writer:
+            answers.expect("changed ")
+        put[node.name] = dict(zip(node.edits, answers.versions(len(node.edits))))
     answers.expect("ok")
     for _ in same:
         answers.expect("same")
@@ -56,17 +74,23 @@ def held_at(line, nodes, put):
     text, version, _ = line.split(" ", 2)
     place, writer = place_of(text), int(version.partition(".")[2])
     winner = next(it for it in nodes if it.writer == writer)
-    content = winner.tree.entries[place]
-    others = [it for it in nodes if place in it.tree.entries and it.tree.entries[place] != content]
+    content = winner.edits[place]
+    others = [it for it in nodes if it.writer and place in it.edits and it.edits[place] != content]
     return Held(text, version, winner, content, tuple((it, put[it.name][place]) for it in others))
+
+
+def content_words(content):
+    """What stands at a place, as `files` of the program says it."""
+    if content is None:
+        return "gone"
+    return f"link {content.target}" if isinstance(content, Link) else f"file {len(content)}"
 
 
 def told(held):
     """The lines on what all hold: each place with its version, node and content, and behind them the places at which nodes differed."""
     wide = max([len(it.place) for it in held], default=0)
     for it in held:
-        content = f"link {it.content.target}" if isinstance(it.content, Link) else f"file {len(it.content)}"
-        yield f"{it.place:{wide}} {it.version} {it.node.name} {content}"
+        yield f"{it.place:{wide}} {it.version} {it.node.name} {content_words(it.content)}"
     differed = [it for it in held if it.others]
     for it in differed:
         lost = ", ".join(f"{node.name}'s {version}" for node, version in it.others)
@@ -74,13 +98,13 @@ def told(held):
     yield f"{len(held):,} places, at {len(differed):,} of which nodes differed"
 
 
-def named_nodes(words):
+def named_nodes(words, has_base):
     """The names of nodes for words that are `NAME=ROOT` or `ROOT`, with the roots."""
     found = []
     for at, word in enumerate(words, 1):
         name, equals, root = word.partition("=")
         found.append((name, root) if equals else (f"node{at}", word))
-    names = [name for name, _ in found]
+    names = [*[name for name, _ in found], *([BASE] if has_base else [])]
     for name in names:
         if not (name.isascii() and name.isalnum() and len(name) <= 32):
             raise Fault(f"{name}: no node's name: 1 to 32 ASCII letters and digits")

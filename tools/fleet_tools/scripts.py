@@ -27,7 +27,9 @@ def unspelled(text):
 
 
 def edit_line(node, place, content):
-    """The line that puts something at a place of a node."""
+    """The line that puts something at a place of a node, or removes what is there."""
+    if content is None:
+        return f"remove {node} {place}".encode("ascii")
     if isinstance(content, Link):
         return f"link {node} {place} {content.target}".encode("ascii")
     line = f"put {node} {place}".encode("ascii")

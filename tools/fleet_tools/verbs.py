@@ -182,16 +182,14 @@ def draw(asked, progress):
 
 def merge(asked, progress):
     """`fleet merge`: what the nodes of some trees hold after they met."""
-    nodes = []
-    for writer, (name, root) in enumerate(merges.named_nodes(asked.roots), 1):
-        nodes.append(merges.Node(name, writer, read_tree(root, progress, is_named=False)))
+    named = merges.named_nodes(asked.roots, bool(asked.base))
+    base = read_tree(asked.base, progress, is_named=False) if asked.base else None
+    trees = [(name, read_tree(root, progress, is_named=False)) for name, root in named]
     progress.end()
-    trees = [it.tree for it in nodes]
+    nodes = merges.nodes_of(trees, base)
+    tell_counts([*([base] if base else []), *(tree for _, tree in trees)])
     if asked.script:
         say_bytes(script_of(merges.script_lines(nodes)))
-        tell_each(trees)
-        return Status.WELL
-    program = program_of(asked.unproved)
-    tell_counts(trees)
-    say(merges.told(merges.merged(nodes, program)))
+    else:
+        say(merges.told(merges.merged(nodes, program_of(asked.unproved))))
     return Status.WELL
