@@ -1,5 +1,6 @@
 """What cases work with: a room for trees, and runs of `tools/fleet`."""
 import os
+import shutil
 import subprocess
 import sys
 from dataclasses import dataclass
@@ -11,6 +12,8 @@ TREES = os.path.join(ROOT, "tests", "trees")
 E, R, L, U = "/etc/systemd/system", "/run/systemd/system", "/usr/local/lib/systemd/system", "/usr/lib/systemd/system"
 
 sys.path.insert(0, os.path.join(ROOT, "tools"))
+
+LINKS = 20_000  # names of one file
 
 
 @dataclass(frozen=True)
@@ -61,6 +64,19 @@ class Bench:
             elif content is not None:
                 with open(at, "wb") as file:
                     file.write(content if isinstance(content, bytes) else content.encode())
+        return root
+
+    def many(self, name, count, text):
+        """Makes a tree of so many units in one folder, all with this text. Its root."""
+        root = self.tree(name, {f"{U}/u00000.service": text})
+        for number in range(1, count):
+            # a file has only so many names
+            same_as = f"{root}{U}/u{number // LINKS * LINKS:05}.service"
+            at = f"{root}{U}/u{number:05}.service"
+            if at == same_as:
+                shutil.copyfile(f"{root}{U}/u00000.service", at)
+            else:
+                os.link(same_as, at)
         return root
 
     def path(self, name):

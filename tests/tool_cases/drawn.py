@@ -3,7 +3,10 @@ import os
 import re
 import xml.etree.ElementTree as xml
 
+import unit_model as model
+
 from .bench import TREES, U, same
+from .told import store_of
 
 DEBIAN, BROKEN = (os.path.join(TREES, it) for it in ("debian", "broken"))
 SVG = "{http://www.w3.org/2000/svg}"
@@ -78,13 +81,9 @@ def behind_all(bench):
         boxes = look(bench.fleet("draw", root, target).out.decode())
         plan = [it.partition(" ")[2] for it in bench.fleet("plan", root, target).lines()]
         same((sorted(boxes), len(boxes)), (sorted(plan), count))
+        graph = model.asked_graph(store_of(root), None, [target])
         for name in plan:
-            shown = bench.fleet("show", root, name).lines() if root == DEBIAN and name[0] in "anp" else []
-            waits = [it for line in shown if line.startswith("After: ") for it in line.split(" ")[1:] if it in boxes]
-            same([it for it in waits if boxes[it][1][2] >= boxes[name][1][0]], [], name)
-    for number in range(1, 200):
-        for other in {number // 3, number * 7 // 11} - {number}:
-            same(boxes[f"u{other:03}.service"][1][2] < boxes[f"u{number:03}.service"][1][0], True, f"{other} before {number}")
+            same([it for it in graph.to(["After"], name) if it in boxes and boxes[it][1][2] >= boxes[name][1][0]], [], name)
 
 
 def faults(bench):

@@ -222,18 +222,13 @@ class Then:
 
 def a_great_many(bench):
     """A hundred thousand files are all read; 20,000 in two seconds of the processor."""
-    folder = f"{bench.tree('a', {U: None})}{U}"
-    for number in range(100_000):
-        at = os.open(f"{folder}/u{number:05}.service", os.O_WRONLY | os.O_CREAT)
-        os.write(at, b"[Unit]\nDescription=one of many\n[Service]\nExecStart=/bin/true\n")
-        os.close(at)
-    ran = bench.fleet("import", bench.path("a"))
+    text = "[Unit]\nDescription=one of many\n[Service]\nType=simple\nExecStart=/bin/true\nRestart=always\n[Install]\nWantedBy=multi-user.target\n"
+    ran = bench.fleet("import", bench.many("all", 100_000, "[Unit]\n"))
     lines = ran.lines()
     same((len(lines), lines[1].split(" ")[2], lines[-1].split(" ")[2], ran.err), (100_001, f"{U}/u00000.service", f"{U}/u99999.service", b""))
-    for number in range(20_000, 100_000):
-        os.unlink(f"{folder}/u{number:05}.service")
+    some = bench.many("some", 20_000, text)
     before = resource.getrusage(resource.RUSAGE_CHILDREN)
-    same(len(bench.fleet("import", bench.path("a")).lines()), 20_001)
+    same(len(bench.fleet("import", some).lines()), 20_001)
     after = resource.getrusage(resource.RUSAGE_CHILDREN)
     spent = after.ru_utime + after.ru_stime - before.ru_utime - before.ru_stime
     same(spent <= MOST_SECONDS, True, f"{spent:.2f} seconds")

@@ -40,13 +40,13 @@ def as_the_model_says(bench):
     """Each question about the tree of tests/trees is answered as the rules say, for the fleet and for a host."""
     store = {**store_of(DEBIAN), **store_of(WEB1, "web1:")}
     more = ["--with", f"web1={WEB1}"]
-    asked = ["nginx.service", "postgresql@15-main.service", "app-shop-web.service", "default.target", "autovt@tty2.service", "sshd.service"]
+    asked = {None: ["app-shop-web.service", "default.target", "sshd.service"], "web1": ["nginx.service", "autovt@tty2.service"]}
     for host, words in ((None, more), ("web1", [*more, "--host", "web1"])):
-        for name in asked:
+        for name in asked[host]:
             same(bench.fleet("show", DEBIAN, name, *words).lines(), modelled(model.show, store, host, name), f"show {name}")
             same(bench.fleet("cat", DEBIAN, name, *words).lines(), modelled(model.cat, store, host, name), f"cat {name}")
-        for name in ("default.target", "graphical.target", "cron.service"):
-            same(bench.fleet("list", DEBIAN, name, *words, "--workers", "4").lines(), modelled(model.list_pulled, store, host, name))
+        same(bench.fleet("list", DEBIAN, "graphical.target", *words, "--workers", "4").lines(),
+             modelled(model.list_pulled, store, host, "graphical.target"))
         for name, running in (("default.target", []), ("multi-user.target", ["rescue.service", "ssh.socket"]), ("app-wiki.service", ["postgresql.service"])):
             found = bench.fleet("plan", DEBIAN, name, *running, *words).lines()
             same(found, modelled(model.plan, store, host, name, running), f"plan {name}")
@@ -158,8 +158,7 @@ def asked_once(bench):
 
 def too_many_units(bench):
     """More names than are loaded are refused."""
-    root = bench.tree("a", {f"{U}/u{number}.service": "[Unit]\n" for number in range(4_097)})
-    same(bench.fleet("check", root, status=1).told()[-1], "check: L2 TooManyUnits: more than 4,096 names must be loaded")
+    same(bench.fleet("check", bench.many("a", 4_097, "[Unit]\n"), status=1).told()[-1], "check: L2 TooManyUnits: more than 4,096 names must be loaded")
 
 
 def differences(bench):

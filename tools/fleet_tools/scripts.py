@@ -8,7 +8,7 @@ MOST_SCRIPT_BYTES = 16_777_216
 
 # What a text can have as it is, and how the rest is spelled.
 PLAIN = bytes(range(32, 127))
-OTHER_BYTE = re.compile(rb"[^\x20-\x7e]")
+OTHERS = {it: f"\\x{it:02x}" for it in range(256) if it not in PLAIN}
 ESCAPE = re.compile(rb"\\(?:([nt\\])|x([0-9A-Fa-f]{2}))")
 LETTERS = {b"n": b"\n", b"t": b"\t", b"\\": b"\\"}
 
@@ -17,7 +17,7 @@ def spelled(content):
     """The bytes of a file as TEXT of a script, in printable ASCII."""
     text = content.replace(b"\\", b"\\\\").replace(b"\n", b"\\n").replace(b"\t", b"\\t")
     if text.translate(None, PLAIN):
-        text = OTHER_BYTE.sub(lambda it: b"\\x%02x" % it[0][0], text)
+        text = text.decode("latin-1").translate(OTHERS).encode("ascii")
     return text
 
 
