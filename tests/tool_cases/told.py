@@ -227,7 +227,7 @@ def unproved(bench):
         file.write(f'#!/bin/sh\n[ "$1" = try ] && [ -f specs/../src/main.rt ] && exec "{bench.program}"\n')
     os.chmod(bench.path("bin/rt"), 0o755)
     ran = bench.fleet("list", DEBIAN, "cron", "--unproved", env={"FLEET_SHELL": "", "PATH": f"{bench.path('bin')}:{os.environ['PATH']}"})
-    same((ran.lines(), ran.told()), (["0 cron.service"], ["asking the unproved program by `rt try`, which takes a minute or two"]))
+    same((ran.lines(), ran.told()), (["0 cron.service"], ["asking the unproved program by `rt try`, which takes some minutes"]))
     os.symlink(sys.executable, bench.path("python3"))
     ran = bench.fleet("list", DEBIAN, "cron", "--unproved", env={"PATH": bench.room}, status=2)
     same(ran.told(), ["list: --unproved needs Rattle's `rt` on the path"])

@@ -52,7 +52,7 @@ workers = matched("[0-9]{1,10}", "no number")
 def asking():
     """The words of all verbs that run the program."""
     made = argparse.ArgumentParser(add_help=False)
-    made.add_argument("--unproved", action="store_true", help="run the program without proofs, by `rt try`: a minute or two for each question")
+    made.add_argument("--unproved", action="store_true", help="run the program without proofs, by `rt try`, in some minutes")
     return made
 
 

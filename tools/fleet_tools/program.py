@@ -12,10 +12,13 @@ REPOSITORY = os.path.dirname(os.path.dirname(os.path.dirname(os.path.realpath(__
 CRATE = os.path.join(REPOSITORY, "crates", "fleet_shell")
 BUILT = os.path.join(CRATE, "out", "fleet_shell")
 
+# How long a run without proofs may take.
+MOST_SECONDS = "3600"
+
 HOW_TO_BUILD = f"""the proved program isn't built. Either of these builds it, with Rattle's `rt` on the path:
   (cd {CRATE} && rt run < /dev/null)    proves it and all below it, compiles it and runs it: about an hour, once
   (cd {REPOSITORY} && rt ci)    the same and all tests
-FLEET_SHELL=FILE names one that stands elsewhere. With --unproved the same program is run without proofs, a minute or two for each question."""
+FLEET_SHELL=FILE names one that stands elsewhere. With --unproved the same program is run without proofs, in some minutes for each call."""
 
 
 @dataclass(frozen=True)
@@ -30,7 +33,7 @@ class Program:
         """What it answers to a script of these lines."""
         script = script_of(lines)
         if not self.is_proved:
-            print("fleet: asking the unproved program by `rt try`, which takes a minute or two", file=sys.stderr, flush=True)
+            print("fleet: asking the unproved program by `rt try`, which takes some minutes", file=sys.stderr, flush=True)
         try:
             ran = subprocess.run(self.words, input=script, cwd=self.folder, stdout=subprocess.PIPE, stderr=subprocess.PIPE, check=False)
         except OSError as fault:
@@ -46,7 +49,7 @@ def program_of(is_unproved):
     if is_unproved:
         if not shutil.which("rt"):
             raise Fault("--unproved needs Rattle's `rt` on the path")
-        return Program(("rt", "try"), CRATE, False)
+        return Program(("rt", "try", "--seconds", MOST_SECONDS), CRATE, False)
     named = os.environ.get("FLEET_SHELL")
     built = os.path.abspath(named) if named else BUILT
     if not os.path.isfile(built):
