@@ -48,7 +48,8 @@ def look(text):
 def steps(bench):
     """A plan of five units, worked by hand: three steps, a requirement, wishes, an order alone, and what stops."""
     root = bench.tree("a", {
-        f"{U}/t.target": "[Unit]\nRequires=a.service\nWants=b.service c.service\nAfter=a.service c.service\n", f"{U}/a.service": "[Unit]\nAfter=b.service\n",
+        f"{U}/t.target": "[Unit]\nRequires=a.service\nWants=b.service c.service\nAfter=a.service c.service\n",
+        f"{U}/a.service": "[Unit]\nAfter=b.service\n",
         f"{U}/b.service": "[Unit]\nConflicts=old.service\n", f"{U}/c.service": "[Unit]\n", f"{U}/old.service": "[Unit]\n",
     })
     text = bench.fleet("draw", root, "t.target", "old.service").out.decode()
@@ -74,8 +75,8 @@ def steps(bench):
 
 def behind_all(bench):
     """In the pictures of a tree and of 200 units each unit stands behind all for which it waits, in the order of the plan."""
-    entries = {f"{U}/u{number:03}.service": f"[Unit]\nWants=u{number // 3:03}.service\nAfter=u{number // 3:03}.service u{number * 7 // 11:03}.service\n"
-               for number in range(200)}
+    text = "[Unit]\nWants=u{0:03}.service\nAfter=u{0:03}.service u{1:03}.service\n"
+    entries = {f"{U}/u{number:03}.service": text.format(number // 3, number * 7 // 11) for number in range(200)}
     many = bench.tree("many", {**entries, f"{U}/t.target": f"[Unit]\nWants={' '.join(f'u{it:03}.service' for it in range(200))}\n"})
     for root, target, count in ((DEBIAN, "multi-user.target", 38), (many, "t.target", 201)):
         boxes = look(bench.fleet("draw", root, target).out.decode())

@@ -82,7 +82,8 @@ def links_that_lead_away(bench):
         f"{E}/self.service": Link("self.service"), f"{E}/b.service": Link("/opt/b.service"), "/opt/b.service": "B",
         f"{E}/o.service": Link(f"{outside}/b.service"), f"{E}/up.service": Link("../" * 40 + outside[1:] + "/b.service"),
         f"{E}/a.service.d": Link("/usr/share/a.d"), "/usr/share/a.d/1.conf": "D", f"{E}/s.service.d": Link(f"{outside}/secret.d"),
-        f"{E}/gone.service": Link("nothing.service"), f"{E}/w.wants": Link("w.wants"),
+        f"{E}/gone.service": Link("nothing.service"), f"{E}/w.wants": Link("w.wants"), f"{E}/x.service": Link("/etc/alternatives/x"),
+        "/etc/alternatives/x": Link(f"{U}/a.service"),
     })
     away, loop = "where nothing is read", "taken, but: its way doesn't end: Too many levels of symbolic links"
     ran = bench.fleet("import", root)
@@ -91,7 +92,8 @@ def links_that_lead_away(bench):
         f"{E}/b.service: taken, but: it leads out of the load path, to /opt/b.service, {away}", f"{E}/loop1.service: {loop}",
         f"{E}/loop2.service: {loop}", f"{E}/o.service: taken, but: it leads out of the load path, to {outside}/b.service, {away}",
         f"{E}/self.service: {loop}", f"{E}/up.service: taken, but: it leads out of the load path, to {outside}/b.service, {away}",
-        f"{E}/w.wants: {loop}", f"{root}: 13 taken, 8 to be looked at",
+        f"{E}/w.wants: {loop}", f"{E}/x.service: taken, but: it leads out of the load path, to /etc/alternatives/x, {away}",
+        f"{root}: 14 taken, 9 to be looked at",
     ])
     same(ran.lines()[1:4], [f"link tree {E}/absolute.service {U}/a.service", f"link tree {E}/b.service /opt/b.service",
                             f"link tree {E}/gone.service nothing.service"])
@@ -137,7 +139,7 @@ def read_by_nobody(root):
                 os.setgroups([])
                 os.setgid(65_534)
                 os.setuid(65_534)
-            tree = read_tree(root, Progress())
+            tree = read_tree(root, "", Progress())
             os.write(writer, "\n".join([*map(str, tree.told), *map(str, sorted(tree.entries))]).encode())
         finally:
             os._exit(0)
@@ -194,12 +196,12 @@ def files_that_change(bench):
         grown.clear()
         files.os.read = meanwhile(kept, work)
         try:
-            found.append(read_tree(root, Progress()))
+            found.append(read_tree(root, "", Progress()))
         finally:
             files.os.read = kept
     scan, files.os.scandir = files.os.scandir, lambda at: Then(scan(at), go)
     try:
-        found.append(read_tree(root, Progress()))
+        found.append(read_tree(root, "", Progress()))
     finally:
         files.os.scandir = scan
     same([[*map(str, it.told)] for it in found], [[f"{E}/a.service: can't be read: it changes while it is read"], [],
@@ -251,5 +253,5 @@ def own_tree_is_whole(bench):
     same((len(ran.lines()) - 1, ran.err), (held, b""))
 
 
-CASES = [text_and_order, hosts_behind_the_fleet, what_is_not_taken, links_that_lead_away, links_to_what_others_have, directories_that_are_one, no_tree, no_right_to_read,
-         files_that_change, a_great_many, too_large, own_tree_is_whole]
+CASES = [text_and_order, hosts_behind_the_fleet, what_is_not_taken, links_that_lead_away, links_to_what_others_have, directories_that_are_one,
+         no_tree, no_right_to_read, files_that_change, a_great_many, too_large, own_tree_is_whole]

@@ -47,7 +47,8 @@ def as_the_model_says(bench):
             same(bench.fleet("cat", DEBIAN, name, *words).lines(), modelled(model.cat, store, host, name), f"cat {name}")
         same(bench.fleet("list", DEBIAN, "graphical.target", *words, "--workers", "4").lines(),
              modelled(model.list_pulled, store, host, "graphical.target"))
-        for name, running in (("default.target", []), ("multi-user.target", ["rescue.service", "ssh.socket"]), ("app-wiki.service", ["postgresql.service"])):
+        for name, running in (("default.target", []), ("multi-user.target", ["rescue.service", "ssh.socket"]),
+                              ("app-wiki.service", ["postgresql.service"])):
             found = bench.fleet("plan", DEBIAN, name, *running, *words).lines()
             same(found, modelled(model.plan, store, host, name, running), f"plan {name}")
 
@@ -66,7 +67,8 @@ def worked_by_hand(bench):
     same(bench.fleet("plan", DEBIAN, "ssh.service", "ssh.socket").lines(), ["stop ssh.socket", "start ssh.service"])
     starts = bench.fleet("plan", DEBIAN, "multi-user.target", *web1).lines()
     same([it in starts for it in ("start cron.service", "start app-shop-worker.service", "start app-shop-web.service")], [False, False, True])
-    same(bench.fleet("cat", DEBIAN, "autovt@tty2").lines()[-3:], [f"# {E}/getty@tty2.service.d/noclear.conf", "[Service]", "TTYVTDisallocate=no"])
+    same(bench.fleet("cat", DEBIAN, "autovt@tty2").lines()[-3:],
+         [f"# {E}/getty@tty2.service.d/noclear.conf", "[Service]", "TTYVTDisallocate=no"])
 
 
 def refusals(bench):
@@ -103,7 +105,8 @@ def what_runs(bench):
 
 def wrong_units(bench):
     """All that is wrong with a tree is told, a line each, with status 1."""
-    notes, cycle = f"{U}/notes.service", "first.service before third.service, third.service before second.service, second.service before first.service"
+    notes = f"{U}/notes.service"
+    cycle = "first.service before third.service, third.service before second.service, second.service before first.service"
     same(bench.fleet("check", BROKEN, status=1).lines(), [
         "away.service: B4 Target: the link leads to no unit name",
         "escape@a\\x2.service: Unit.Description: K5 BadEscape: a specifier for what can't be unescaped; the value is passed over",
@@ -186,7 +189,8 @@ def differences(bench):
 def words_that_are_no_words(bench):
     """What the command line can't mean ends with status 2, and says why."""
     for words, told in (
-        (["show", DEBIAN, "a b"], "a b: no unit's name"), (["show", DEBIAN, "x\ny"], "x\\x0ay: no unit's name"), (["frob"], "invalid choice"),
+        (["show", DEBIAN, "a b"], "a b: no unit's name"), (["show", DEBIAN, "x\ny"], "x\\x0ay: no unit's name"),
+        (["frob"], "invalid choice"),
         (["plan", DEBIAN], "required: UNIT"), (["show", DEBIAN, "x", "--host", "a_b"], "no host's name"),
         (["import", DEBIAN, "--node", "a-b"], "no node's name"), (["import", DEBIAN, "--writer", "4294967296"], "over 4294967295"),
         (["merge", "a-b=x"], "a-b: no node's name"), (["merge", "n=x", "n=y"], "n: two nodes of this name"),

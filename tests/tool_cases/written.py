@@ -73,7 +73,8 @@ def not_written(bench):
     same((ran.told(), os.listdir(full)), ([f"export: {full}: neither new nor an empty folder"], ["x"]))
     same(bench.fleet("export", at, "a", f"{full}/x", status=2).told(), [f"export: {full}/x: neither new nor an empty folder"])
     same(bench.fleet("export", at, "n", bench.path("n"), status=1).told(), ["export: n: X3 UnknownNode"])
-    same(bench.fleet("export", bench.path("none"), "a", bench.path("n"), status=2).told(), [f"export: {bench.path('none')}: No such file or directory"])
+    none = bench.path("none")
+    same(bench.fleet("export", none, "a", bench.path("n"), status=2).told(), [f"export: {none}: No such file or directory"])
     same(os.path.exists(bench.path("n")), False)
     os.makedirs(bench.path("outside"))
     both = script(bench, f"node a 1\nlink a {E}/x.service.d {bench.path('outside')}\nput a {E}/x.service.d/y.conf Y\nput a {E}/f F\n"

@@ -5,8 +5,9 @@ import re
 import sys
 
 from . import verbs
+from .checks import TARGETS
 from .faults import Fault, Status, printable
-from .places import HOST, WORD, unit_asked
+from .places import HOST, HOST_RULE, NODE, NODE_RULE, WORD, unit_asked
 from .progress import Progress
 
 ABOUT = """Reads the unit load path below each ROOT (/etc, /run, /usr/local/lib and /usr/lib/systemd/system), puts it into a store,
@@ -25,6 +26,7 @@ def matched(pattern, what):
     """A word that a pattern must match as a whole."""
 
     def read(word):
+        """The word, where it matches."""
         if not re.fullmatch(pattern, word):
             raise argparse.ArgumentTypeError(f"{printable(word)}: {what}")
         return word
@@ -38,14 +40,15 @@ def unit(word):
 
 
 def writer(word):
+    """A writer's number."""
     number = int(matched("[0-9]{1,10}", "no number")(word))
     if number > NUMBER_LIMIT:
         raise argparse.ArgumentTypeError(f"{word}: over {NUMBER_LIMIT}")
     return number
 
 
-host = matched(HOST, "no host's name: 1 to 64 ASCII letters, digits, dashes and dots")
-node = matched("[A-Za-z0-9]{1,32}", "no node's name: 1 to 32 ASCII letters and digits")
+host = matched(HOST, f"no host's name: {HOST_RULE}")
+node = matched(NODE, f"no node's name: {NODE_RULE}")
 workers = matched("[0-9]{1,10}", "no number")
 
 
@@ -68,7 +71,8 @@ def of_tree():
     """The words of verbs that ask about one tree, and trees of hosts beside it."""
     made = argparse.ArgumentParser(add_help=False, parents=[of_store()])
     made.add_argument("root", metavar="ROOT", help="the tree, as / or web1=ROOT")
-    made.add_argument("--with", dest="more", action="append", default=[], metavar="HOST=ROOT", help="the tree of a host beside it; again for others")
+    made.add_argument("--with", dest="more", action="append", default=[], metavar="HOST=ROOT",
+                      help="the tree of a host beside it; again for others")
     return made
 
 
@@ -88,7 +92,7 @@ def add(found, name, work, parents, about, more=""):
 def add_verbs_of_trees(found):
     """Adds the verbs that read trees and write trees."""
     made = add(found, "import", verbs.import_trees, [], "write the script that puts trees into a store",
-               "What the store doesn't take is told on standard error, a line each and a count at the end. Status 1 where something couldn't be read.")
+               "What the store doesn't take is told on standard error, a line each and a count at the end. Status 1 where something can't be read.")
     made.add_argument("roots", nargs="+", metavar="ROOT", help="trees, one for the fleet and one for each host, as web1=ROOT")
     made.add_argument("--node", type=node, default="tree", help="the node's name in the script (tree)")
     made.add_argument("--writer", type=writer, default=1, metavar="N", help="its writer's number (1)")
@@ -104,7 +108,7 @@ def add_verbs_of_trees(found):
                "For each place the version that stands there, with its node; then each place at which nodes differed, who won, and over which version. "
                "A tree has no history: a node edits the places of its tree in order, and each edit's version counts on from all that the node holds.")
     made.add_argument("roots", nargs="+", metavar="ROOT", help="trees; alice=ROOT is the tree of the node alice, ROOT alone is named by its place")
-    made.add_argument("--base", metavar="ROOT", help="the tree that all held before: a node then edits, or removes, only what its own has otherwise")
+    made.add_argument("--base", metavar="ROOT", help="the tree that all held before: a node then edits only what its own has otherwise")
     made.add_argument("--script", action="store_true", help="print the script of the nodes instead, without running it")
 
 
@@ -121,8 +125,9 @@ def add_verbs_of_units(found):
     add_running(made)
 
     made = add(found, "check", verbs.check, [of_tree(), asking()], "print what is wrong with a tree's units, a line each",
-               "Notes on files and settings, bad links, requirements that can't be met, and why a target has no plan; then what isn't modelled, counted.")
-    made.add_argument("target", nargs="?", type=unit, metavar="TARGET", help=f"the target whose plan is looked at ({', else '.join(verbs.checks.TARGETS)})")
+               "Notes on files and settings, bad links, requirements that can't be met, and why a target has no plan; "
+               "then what isn't modelled, counted.")
+    made.add_argument("target", nargs="?", type=unit, metavar="TARGET", help=f"whose plan is looked at ({', else '.join(TARGETS)})")
 
     made = add(found, "diff", verbs.diff, [of_store(), asking()], "print which units differ between two trees, field by field",
                "Status 1 where some do.")

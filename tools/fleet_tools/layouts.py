@@ -19,6 +19,7 @@ class Spot:
     width: float
 
     def middle(self):
+        """The middle of the box."""
         return self.x + self.width / 2, self.y + HEIGHT / 2
 
 
@@ -33,6 +34,7 @@ class Layout:
 
 
 def width_of(name):
+    """The width of a unit's box."""
     return LETTER * len(name) + 2 * PADDING
 
 
@@ -57,6 +59,7 @@ def rows_of(picture):
 
 
 def mean(numbers, default):
+    """The mean of numbers, if there are some."""
     return sum(numbers) / len(numbers) if numbers else default
 
 

@@ -2,9 +2,10 @@
 from dataclasses import dataclass
 
 from .answers import Answers
-from .faults import Fault
-from .places import Link, place_of
+from .faults import Fault, printable
+from .places import NODE, NODE_RULE, Link, place_of
 from .scripts import edit_line
+from .trees import named_root
 
 BASE = "base"
 
@@ -102,12 +103,12 @@ def named_nodes(words, has_base):
     """The names of nodes for words that are `NAME=ROOT` or `ROOT`, with the roots."""
     found = []
     for at, word in enumerate(words, 1):
-        name, equals, root = word.partition("=")
-        found.append((name, root) if equals else (f"node{at}", word))
+        name, root = named_root(word)
+        found.append((name or f"node{at}", root))
     names = [*[name for name, _ in found], *([BASE] if has_base else [])]
     for name in names:
-        if not (name.isascii() and name.isalnum() and len(name) <= 32):
-            raise Fault(f"{name}: no node's name: 1 to 32 ASCII letters and digits")
+        if not NODE.fullmatch(name):
+            raise Fault(f"{printable(name)}: no node's name: {NODE_RULE}")
         if names.count(name) > 1:
             raise Fault(f"{name}: two nodes of this name")
     return found

@@ -14,6 +14,9 @@ UNIT_NAME = r"[A-Za-z0-9:\-_.\\][A-Za-z0-9:\-_.\\@]*\.(?:" + "|".join(KINDS) + "
 
 WORD = re.compile("[!-~]+")
 HOST = re.compile(r"[A-Za-z0-9.\-]{1,64}")
+HOST_RULE = "1 to 64 ASCII letters, digits, dashes and dots"
+NODE = re.compile("[A-Za-z0-9]{1,32}")
+NODE_RULE = "1 to 32 ASCII letters and digits"
 
 
 @dataclass(frozen=True)

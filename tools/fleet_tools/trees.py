@@ -5,7 +5,7 @@ from enum import Enum
 
 from .faults import Fault, printable
 from .files import bytes_of, led_to
-from .places import DIRECTORIES, HOST, MOST_FILE_BYTES, MOST_NAME_BYTES, MOST_TARGET_BYTES, WORD, Link, Place, is_unit_name
+from .places import DIRECTORIES, MOST_FILE_BYTES, MOST_NAME_BYTES, MOST_TARGET_BYTES, WORD, Link, Place, is_unit_name
 
 # What is /usr/lib/systemd/system where /lib is /usr/lib.
 OLD_DIRECTORY = "/lib/systemd/system"
@@ -107,11 +107,12 @@ class Reader:
         return self.tree
 
     def tell(self, path, grade, why):
+        """Tells of an entry."""
         self.tree.told.append(Told(path, grade, why))
 
     def tell_unread(self, path, fault):
-        why = fault.strerror or str(fault)
-        self.tell(path, Grade.LEFT_OUT if isinstance(fault, IsADirectoryError) else Grade.UNREAD, why)
+        """Tells of an entry that couldn't be read."""
+        self.tell(path, Grade.UNREAD, fault.strerror or str(fault))
 
     def spot_of(self, rank):
         """Where a directory of the load path stands; nothing where there is none, or where it is another one under a second name."""
@@ -161,6 +162,7 @@ class Reader:
             self.tell(spot.shown(entry.name), Grade.LEFT_OUT, "neither a file nor a link nor a folder")
 
     def take(self, spot, name, content):
+        """Takes an entry."""
         self.tree.entries[Place(self.tree.host, spot.rank, spot.folder, name)] = content
         if len(self.tree.entries) % EVERY == 0:
             self.progress.tell(f"{self.tree.root}: {len(self.tree.entries):,} files and links")
@@ -175,6 +177,7 @@ class Reader:
         self.read_folder(Spot(spot.rank, name, where))
 
     def read_file(self, spot, entry):
+        """Takes a file, unless it is too large."""
         content = bytes_of(entry.path, MOST_FILE_BYTES)
         if len(content) > MOST_FILE_BYTES:
             self.tell(spot.shown(entry.name), Grade.LEFT_OUT, f"over {MOST_FILE_BYTES:,} bytes")
@@ -189,14 +192,14 @@ class Reader:
             if is_dropin and target != "/dev/null":
                 self.tell(path, Grade.LEFT_OUT, f"a drop-in that is a link, to {printable(target)}")
                 return
-        elif target != "/dev/null" and self.follow(spot, entry.name):
+        elif target != "/dev/null" and self.follow(spot, entry.name, target):
             return
         if not WORD.fullmatch(target) or len(target) > MOST_TARGET_BYTES:
             self.tell(path, Grade.LEFT_OUT, TARGET_RULE)
             return
         self.take(spot, entry.name, Link(target))
 
-    def follow(self, spot, name):
+    def follow(self, spot, name, target):
         """Looks where a link in a directory leads. True where that is a folder, which is then read in its place."""
         path = spot.shown(name)
         try:
@@ -208,8 +211,11 @@ class Reader:
             self.tell(path, Grade.TAKEN, f"a link to the folder {printable(where)}, which is read as if it stood here")
             self.read_subfolder(spot, name, where)
             return True
-        if is_unit_name(name) and where.rpartition("/")[0] not in self.aliased:
-            self.tell(path, Grade.TAKEN, f"it leads out of the load path, to {printable(where)}, where nothing is read")
+        # an alias is of what its own target names, wherever that leads
+        folder = led_to(self.base, os.path.join(spot.where, os.path.dirname(target)))
+        if is_unit_name(name) and folder not in self.aliased:
+            away = f"{folder}/{os.path.basename(target)}"
+            self.tell(path, Grade.TAKEN, f"it leads out of the load path, to {printable(away)}, where nothing is read")
         return False
 
     def look_at_other(self, path, what):
@@ -217,15 +223,21 @@ class Reader:
         try:
             where = led_to(self.base, path)
             names = [] if where in self.homes else os.listdir(self.base + where)
-        except OSError:
+        except (FileNotFoundError, NotADirectoryError):
+            return
+        except OSError as fault:
+            self.tell_unread(path, fault)
             return
         if names:
             self.tell(path, Grade.LEFT_OUT, f"{what}; {len(names)} there")
 
 
-def read_tree(word, progress, is_named=True):
-    """Reads the tree that a word names: `ROOT`, or, where trees can be named, `NAME=ROOT`."""
-    name, equals, root = word.partition("=") if is_named and not os.path.isdir(word) else ("", "", word)
-    if equals and not HOST.fullmatch(name):
-        raise Fault(f"{printable(name)}: no host's name: 1 to 64 ASCII letters, digits, dashes and dots")
-    return Reader(root if equals else word, name if equals else "", progress).read()
+def named_root(word):
+    """The name and the root of a word that is `NAME=ROOT`, or, without a name, `ROOT`."""
+    name, equals, root = word.partition("=")
+    return (name, root) if equals and not os.path.isdir(word) else ("", word)
+
+
+def read_tree(root, host, progress):
+    """Reads the tree below a root, for a host or, without one, for the fleet."""
+    return Reader(root, host, progress).read()

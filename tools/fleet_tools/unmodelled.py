@@ -37,10 +37,12 @@ def has_key(unit, keys):
 
 
 def is_triggering(unit):
+    """Whether a unit triggers another one."""
     return unit.name.endswith(TRIGGERING)
 
 
 def is_ordering_target(unit):
+    """Whether systemd would start a target after what it pulls."""
     return unit.name.endswith(".target") and has_defaults(unit) and any(unit.to(kind) for kind in ("Wants", "Requires"))
 
 
@@ -72,4 +74,5 @@ def counted(units, trees):
 
 
 def is_of_type(folder):
+    """Whether this is a folder of links for all units of a type."""
     return folder in {f"{kind}.{ending}" for kind in KINDS for ending in ("wants", "requires")}

@@ -4,10 +4,11 @@ import sys
 from . import checks, diffs, drawings, exports, merges, pictures
 from .asking import Store
 from .faults import Fault, Status, printable
+from .places import HOST, HOST_RULE
 from .program import program_of
 from .refusals import Refusal
 from .scripts import node_of, script_of
-from .trees import Grade, read_tree
+from .trees import Grade, named_root, read_tree
 
 COUNTS = {Grade.LEFT_OUT: "left out", Grade.UNREAD: "that can't be read", Grade.TAKEN: "to be looked at"}
 
@@ -23,6 +24,7 @@ def say(lines):
 
 
 def say_bytes(text):
+    """Prints these bytes."""
     sys.stdout.flush()
     sys.stdout.buffer.write(text)
     sys.stdout.buffer.flush()
@@ -30,12 +32,15 @@ def say_bytes(text):
 
 def read_trees(words, progress):
     """Reads trees, of which each is for the fleet or for a host of its own."""
-    trees = [read_tree(it, progress) for it in words]
-    progress.end()
-    hosts = [it.host for it in trees]
+    named = [named_root(it) for it in words]
+    hosts = [host for host, _ in named]
     for host in hosts:
+        if host and not HOST.fullmatch(host):
+            raise Fault(f"{printable(host)}: no host's name: {HOST_RULE}")
         if hosts.count(host) > 1:
             raise Fault(f"two trees for {f'the host {host}' if host else 'the whole fleet'}: `fleet merge` lets trees meet")
+    trees = [read_tree(root, host, progress) for host, root in named]
+    progress.end()
     return trees
 
 
@@ -183,8 +188,8 @@ def draw(asked, progress):
 def merge(asked, progress):
     """`fleet merge`: what the nodes of some trees hold after they met."""
     named = merges.named_nodes(asked.roots, bool(asked.base))
-    base = read_tree(asked.base, progress, is_named=False) if asked.base else None
-    trees = [(name, read_tree(root, progress, is_named=False)) for name, root in named]
+    base = read_tree(asked.base, "", progress) if asked.base else None
+    trees = [(name, read_tree(root, "", progress)) for name, root in named]
     progress.end()
     nodes = merges.nodes_of(trees, base)
     tell_counts([*([base] if base else []), *(tree for _, tree in trees)])
