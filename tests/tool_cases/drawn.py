@@ -105,7 +105,9 @@ def faults(bench):
         text = bench.fleet("draw", BROKEN, name, status=1).out.decode()
         same(({it: sort for it, (sort, _) in look(text).items()}, lines_of(text)), (boxes, lines), name)
     text = bench.fleet("draw", DEBIAN, "example-broker", status=1).out.decode()
-    same((sorted(boxes_of(text)), lines_of(text)), (["dbus.service", "example-broker.service"], {"requisite": 1}))
+    boxes = look(text)
+    same((sorted(boxes), lines_of(text)), (["dbus.service", "example-broker.service"], {"requisite": 1}))
+    same(boxes["dbus.service"][1][0] > boxes["example-broker.service"][1][2], True)
 
 
 def spelled(bench):
@@ -113,6 +115,7 @@ def spelled(bench):
     root = bench.tree("a", {f"{U}/a\\x2d&.service": "x", f"{U}/a\\x2db.service": "[Unit]\nDescription=<&>\n"})
     text = bench.fleet("draw", root, "a\\x2db.service").out.decode()
     same((list(boxes_of(text)), re.findall("<title>.*</title>", text)), (["a\\x2db.service"], ["<title>a\\x2db.service</title>"]))
+    same(list(boxes_of(bench.fleet("draw", root, "a<&b", status=1).out.decode())), ["a<&b.service"])
     same('"a\\\\x2db.service"' in bench.fleet("draw", root, "a\\x2db.service", "--dot").out.decode(), True)
 
 

@@ -7,7 +7,7 @@ import sys
 import unit_model as model
 from repository import ROOT
 
-from .bench import FLEET, TREES, E, L, R, U, same
+from .bench import FLEET, TREES, E, L, Link, R, U, same
 
 DEBIAN, WEB1, BROKEN = (os.path.join(TREES, it) for it in ("debian", "web1", "broken"))
 
@@ -136,7 +136,7 @@ def nothing_wrong(bench):
     same(counted["DefaultDependencies= never off"], "45 units")
     same(counted["specifiers of the machine, which stay as they are written"], "1 file")
     same(counted["what stands in .upholds folders"], "1 place")
-    plain = bench.tree("plain", {f"{U}/a.service": "[Unit]\nDefaultDependencies=no\nDescription=100%% %n\n"})
+    plain = bench.tree("plain", {f"{U}/a.service": "[Unit]\nDefaultDependencies=no\nDescription=100%%Hosts %n\n# %H\n"})
     ran = bench.fleet("check", plain)
     same((ran.lines(), ran.told()), (["1 unit, 0 things wrong"],
                                      ["neither default.target nor multi-user.target is there, and no target is named: no plan is looked at"]))
@@ -145,13 +145,14 @@ def nothing_wrong(bench):
 def asked_once(bench):
     """A check of 400 units, instances among them, runs the program once; units that only a specifier names take another run."""
     entries = {f"{U}/u{number}.service": f"[Unit]\nAfter=u{number - 1}.service\nWants=i@{number % 99}.service\n" for number in range(299)}
-    root = bench.tree("a", {**entries, f"{U}/i@.service": "[Unit]\n", f"{U}/multi-user.target": "[Unit]\nWants=u5.service\n"})
+    root = bench.tree("a", {**entries, f"{U}/i@.service": "[Unit]\n", f"{U}/multi-user.target": "[Unit]\nWants=u5.service\n",
+                            f"{E}/multi-user.target.wants/i@x.service": Link("../i@.service")})
     program, count = bench.counting()
     ran = bench.fleet("check", root, env={"FLEET_SHELL": program})
     with open(count, encoding="utf-8") as file:
         same(file.read(), "run\n")
     # u-1.service has no file, and is nothing that a unit requires
-    same(ran.lines()[-2], f"{299 + 99 + 1 + 1} units, 0 things wrong")
+    same(ran.lines()[-2], f"{299 + 99 + 1 + 1 + 1} units, 0 things wrong")
     more = bench.tree("b", {f"{U}/a@.service": "[Unit]\nRequires=b@%i.service\n", f"{U}/t.target": "[Unit]\nWants=a@1.service\n"})
     ran = bench.fleet("check", more, "t.target", env={"FLEET_SHELL": program}, status=1)
     same(ran.lines()[0], "a@1.service: Requires=b@1.service: P2 NotFound: it has no file")
@@ -161,7 +162,8 @@ def asked_once(bench):
 
 def too_many_units(bench):
     """More names than are loaded are refused."""
-    same(bench.fleet("check", bench.many("a", 4_097, "[Unit]\n"), status=1).told()[-1], "check: L2 TooManyUnits: more than 4,096 names must be loaded")
+    root = bench.many("a", 4_097, "[Unit]\n")
+    same(bench.fleet("check", root, status=1).told()[-1], "check: L2 TooManyUnits: more than 4,096 names must be loaded")
 
 
 def differences(bench):

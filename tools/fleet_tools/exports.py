@@ -50,8 +50,16 @@ def shown(script, node, program):
     files = answers.last_block()
     if isinstance(files, Refusal):
         raise Fault(f"{node}: {files}", Status.WRONG)
-    held = [it.split(" ")[:3] for it in files]
-    return {place_of(place): put[version] for place, version, what in held if what != "gone"}
+    return dict(held_at(line, put) for line in files if not line.endswith(" gone"))
+
+
+def held_at(line, put):
+    """The place and the content that a line of `files` tells, of what was put under each version."""
+    text, version, what, told = line.split(" ", 3)
+    content = put[version]
+    if told != (content.target if isinstance(content, Link) else str(len(content))):
+        raise Fault(f"{text}: the program holds a {what} of {told}, and the script was read otherwise")
+    return place_of(text), content
 
 
 def seen_by(entries, host):
@@ -73,7 +81,7 @@ class Writer:
         for place, content in sorted(entries.items()):
             base = os.path.join(self.root, HOSTS, place.host) if place.host else self.root
             path = base + place.path()
-            if place.host in (".", "..") or not self.make_folders(os.path.dirname(path)) or os.path.lexists(path):
+            if not self.make_folders(os.path.dirname(path)) or os.path.lexists(path):
                 self.blocked.append(str(place))
             elif isinstance(content, Link):
                 os.symlink(content.target, path)
