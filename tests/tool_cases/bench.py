@@ -48,7 +48,7 @@ class Bench:
     def fleet(self, *words, status=0, env=(), **more):
         """Runs `tools/fleet`, which must end with this status."""
         around = {**os.environ, "FLEET_SHELL": self.program, **dict(env)}
-        ran = subprocess.run([FLEET, *words], env=around, stdout=subprocess.PIPE, stderr=subprocess.PIPE, check=False, **more)
+        ran = subprocess.run([FLEET, *words], env=around, check=False, **{"stdout": subprocess.PIPE, "stderr": subprocess.PIPE, **more})
         found = Ran(ran.returncode, ran.stdout, ran.stderr)
         same(found.status, status, f"status of {words}: {found}")
         return found

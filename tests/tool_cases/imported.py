@@ -46,7 +46,7 @@ def what_is_not_taken(bench):
         f"{E}/a.service.d/10.conf": Link("../other.conf"), f"{E}/a.service.d/20.conf": Link("/dev/null"), f"{E}/a.service.d/readme": Link("x"),
         f"{E}/a.service.d/deep/x.conf": "x", f"{E}/a.service.wants/s.service": Link("with space"), f"{E}/empty.wants": None,
         f"{E}/long.service": Link("y" * 4_095), f"{U}/t.service/x": "x", b"/etc/systemd/system/\xff\xfe.service": "x",
-        f"{E}/b\nc.service": "x", "/run/systemd/generator/m.mount": "[Mount]\n", "/lib/systemd/system/old.service": "x",
+        f"{E}/b\nc.service": "x", f"{L}/{'n' * 247}.service": "N", f"{L}/{'f' * 255}/{'m' * 255}": "M", "/run/systemd/generator/m.mount": "[Mount]\n", "/lib/systemd/system/old.service": "x",
     })
     os.mkfifo(f"{root}{E}/pipe.service")
     with socket.socket(socket.AF_UNIX) as it:
@@ -65,10 +65,11 @@ def what_is_not_taken(bench):
         f"{U}/t.service: taken, but: a folder where a unit's file is expected: what it holds is of no unit",
         "/run/systemd/generator: left out: units that generators made; 1 there",
         "/lib/systemd/system: left out: units of a system whose /lib isn't /usr/lib; 1 there",
-        f"{root}: 6 taken, 11 left out, 1 to be looked at",
+        f"{root}: 8 taken, 11 left out, 1 to be looked at",
     ])
     same([it.split(" ")[2] for it in ran.lines()[1:]], [
-        f"{E}/a.service", f"{E}/full.service", f"{E}/long.service", f"{E}/a.service.d/20.conf", f"{E}/a.service.d/readme", f"{U}/t.service/x",
+        f"{E}/a.service", f"{E}/full.service", f"{E}/long.service", f"{E}/a.service.d/20.conf", f"{E}/a.service.d/readme",
+        f"{L}/{'n' * 247}.service", f"{L}/{'f' * 255}/{'m' * 255}", f"{U}/t.service/x",
     ])
     same(len(ran.lines()[2]), len(f"put tree {E}/full.service ") + 4 * 65_536)
 
@@ -236,6 +237,17 @@ def a_great_many(bench):
     same(spent <= MOST_SECONDS, True, f"{spent:.2f} seconds")
 
 
+def progress_on_a_terminal(bench):
+    """Where standard error is a terminal, a line there tells how far the reading is, and goes."""
+    root = bench.many("a", 1_200, "[Unit]\n")
+    terminal, end = os.openpty()
+    bench.fleet("import", root, stderr=end)
+    os.close(end)
+    shown = os.read(terminal, 100_000).decode()
+    os.close(terminal)
+    same((shown.startswith(f"\r\x1b[K{root}: 500 files and links"), shown.endswith("\r\x1b[K")), (True, True), repr(shown))
+
+
 def too_large(bench):
     """A tree whose script the program wouldn't read is refused, with its size; nothing is written."""
     root = bench.tree("a", {f"{U}/u{number}.service": b"\xff" * 65_536 for number in range(65)})
@@ -254,4 +266,4 @@ def own_tree_is_whole(bench):
 
 
 CASES = [text_and_order, hosts_behind_the_fleet, what_is_not_taken, links_that_lead_away, links_to_what_others_have, directories_that_are_one,
-         no_tree, no_right_to_read, files_that_change, a_great_many, too_large, own_tree_is_whole]
+         no_tree, no_right_to_read, files_that_change, a_great_many, progress_on_a_terminal, too_large, own_tree_is_whole]

@@ -136,10 +136,36 @@ def nothing_wrong(bench):
     same(counted["DefaultDependencies= never off"], "45 units")
     same(counted["specifiers of the machine, which stay as they are written"], "1 file")
     same(counted["what stands in .upholds folders"], "1 place")
+    made = {f"{U}/t.target": "[Unit]\nDefaultDependencies=no\nRequires=a.device\n", f"{U}/u.service": "[Unit]\nBindsTo=a.device b.slice\n"}
+    ran = bench.fleet("check", bench.tree("made", made), "t.target", status=1)
+    same(ran.lines()[:3], ["t.target: no plan: P2 NotFound a.device: it has no file", "not modelled: DefaultDependencies= never off: 1 unit",
+                           "not modelled: requirements of devices or slices without a file: 2 units"])
     plain = bench.tree("plain", {f"{U}/a.service": "[Unit]\nDefaultDependencies=no\nDescription=100%%Hosts %n\n# %H\n"})
     ran = bench.fleet("check", plain)
     same((ran.lines(), ran.told()), (["1 unit, 0 things wrong"],
                                      ["neither default.target nor multi-user.target is there, and no target is named: no plan is looked at"]))
+
+
+def what_is_counted(bench):
+    """Of each thing that isn't modelled it is told how many units, files or places have it."""
+    off = "[Unit]\nDefaultDependencies=off\n"
+    root = bench.tree("a", {
+        f"{U}/a.service": off + "Upholds=b.service\nDescription=%%H %n\n[Service]\nBusName=x\nWorkingDirectory=%S/x\n", f"{U}/b.service": off,
+        f"{U}/c.service": off + "# Wants='b.service'\nRequiresMountsFor=/x\nWants=b.service \\\n 'a.service'\n", f"{U}/d.timer": off,
+        f"{U}/e.target": "[Unit]\nRequires=b.service\n[Install]\nUpholds=x\nWantedBy=y\n", f"{U}/f.target": off + "Wants=b.service\n",
+        f"{E}/a.service.upholds/b.service": Link("../b.service"), f"{E}/service.wants/b.service": Link("../b.service"),
+        f"{E}/a.service.d/x.conf": Link("y.conf"), "/run/systemd/transient/t.service": "",
+    })
+    same(bench.fleet("check", root, "a", status=1).lines()[1:-2], [f"not modelled: {it}" for it in (
+        "DefaultDependencies= never off: 1 unit", "targets that systemd starts after all that they pull: 1 unit",
+        "settings that pull, stop or order and aren't read, as Upholds= or RequiresMountsFor=: 2 units",
+        "settings that imply dependencies, as Slice= or BusName=: 1 unit",
+        "sockets, timers, paths and automounts, whose trigger isn't followed: 1 unit",
+        "[Install], which says what `systemctl enable` would link: 1 unit",
+        "specifiers of the machine, which stay as they are written: 1 file", "quotes in dependency lists, which are read as part of a name: 1 file",
+        "what stands in .upholds folders: 1 place", "folders of links for a type, as service.wants: 1 link",
+        "left out of the store: 2 places",
+    )])
 
 
 def asked_once(bench):
@@ -239,5 +265,5 @@ def unproved(bench):
     same(ran.told(), ["list: --unproved needs Rattle's `rt` on the path"])
 
 
-CASES = [as_the_model_says, worked_by_hand, refusals, what_runs, wrong_units, nothing_wrong, asked_once, too_many_units, differences,
+CASES = [as_the_model_says, worked_by_hand, refusals, what_runs, wrong_units, nothing_wrong, what_is_counted, asked_once, too_many_units, differences,
          words_that_are_no_words, without_the_program, unproved]

@@ -4,7 +4,7 @@ from dataclasses import dataclass
 from .answers import NEEDING, UnitStatus
 from .refusals import BAD_LINKS, NOTES, Refusal
 from .trees import Grade
-from .unmodelled import PAGE, counted
+from .unmodelled import PAGE, counted, is_made
 
 # The target that is looked at where none is named, the first that a tree has.
 TARGETS = ("default.target", "multi-user.target")
@@ -50,7 +50,7 @@ def wrong_with(unit, units):
         yield f"{where}: {note.code} {name}: {words}"
     for kind in NEEDING:
         for other in unit.to(kind):
-            if units[other].status is not UnitStatus.LOADED:
+            if units[other].status is not UnitStatus.LOADED and not is_made(units[other]):
                 refusal, words = STATUS_REFUSALS[units[other].status]
                 yield f"{unit.name}: {kind}={other}: {refusal}: it {words}"
 

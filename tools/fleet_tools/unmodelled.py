@@ -1,7 +1,7 @@
 """What of a tree this store's rules leave out, counted; docs/SYSTEMD.md says what a reader of a plan must expect of each."""
 import re
 
-from .answers import UnitStatus
+from .answers import NEEDING, UnitStatus
 from .places import KINDS, Link
 
 PAGE = "docs/SYSTEMD.md"
@@ -16,8 +16,8 @@ IMPLYING = ("Slice", "BusName", "PAMName", "WorkingDirectory", "RootDirectory", 
 TRIGGERING = (".socket", ".timer", ".path", ".automount")
 
 OFF = ("0", "no", "false", "off")
-# Specifiers that are read, and those of the machine, which stay as they are written.
-MACHINE = re.compile(rb"(?<!%)(?:%%)*%[A-HK-Oa-hk-mo-z](?<!%[nNpPiIjJ])")
+# A specifier that isn't one of those that are read.
+MACHINE = re.compile(rb"(?<!%)(?:%%)*%(?![nNpPiIjJ])[A-Za-z]")
 DEPENDENCY = re.compile(
     rb"(?m)^[ \t]*(?:Before|After|Wants|Requires|Requisite|BindsTo|PartOf|Conflicts|OnFailure|PropagatesReloadTo|ReloadPropagatedFrom)"
     rb"[ \t]*=(?:[^\n]*\\\n)*[^\n]*[\"']"
@@ -61,12 +61,23 @@ OF_FILES = (
 )
 
 
+def is_made(unit):
+    """Whether no file stands for a unit that systemd makes without one."""
+    return unit.status is UnitStatus.NOT_FOUND and unit.name.endswith((".device", ".slice"))
+
+
+def needs_made(unit, units):
+    """Whether a unit requires one that systemd makes without a file."""
+    return any(is_made(units[it]) for kind in NEEDING for it in unit.to(kind))
+
+
 def counted(units, trees):
     """How often a tree uses each of these things, for those that it uses."""
     loaded = [it for it in units.values() if it.status is UnitStatus.LOADED]
     entries = [(place, content) for tree in trees for place, content in tree.entries.items()]
     files = [content for _, content in entries if not isinstance(content, Link)]
     rows = [(what, "unit", sum(map(test, loaded))) for what, test in OF_UNITS]
+    rows.append(("requirements of devices or slices without a file", "unit", sum(needs_made(it, units) for it in loaded)))
     rows += [(what, "file", sum(bool(test(it)) for it in files)) for what, test in OF_FILES]
     rows.append(("what stands in .upholds folders", "place", sum(place.folder.endswith(".upholds") for place, _ in entries)))
     rows.append(("folders of links for a type, as service.wants", "link", sum(is_of_type(place.folder) for place, _ in entries)))
