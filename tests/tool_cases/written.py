@@ -40,7 +40,7 @@ def there_and_back(bench):
 def every_byte(bench):
     """Files of all bytes come back as they were."""
     entries = {f"{E}/all.x": bytes(range(256)), f"{E}/empty.x": b"", f"{U}/d/end": b"end\r\nend\n", f"{U}/spaces": b"  a \\n \\\\x \\t\t ",
-               f"{R}/last": b"\r", f"{U}/l": Link("../\\x2f%i")}
+               f"{R}/last": b"\r", f"{U}/l": Link("../\\x2f%i"), f"{U}/m": Link("gone"), f"{U}/n": b"gone"}
     ran = bench.fleet("import", bench.tree("a", entries))
     bench.fleet("export", script(bench, ran.out), "tree", bench.path("out"))
     same(entries_of(bench.path("out")), entries)

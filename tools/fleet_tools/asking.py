@@ -100,4 +100,3 @@ class Store:
             found.update((it, known[it]) for it in row)
             row = sorted({it for name in row for kind in kinds for it in found[name].to(kind)} - found.keys())
         return found
-

@@ -2,6 +2,7 @@
 from dataclasses import dataclass
 
 from .answers import NEEDING, UnitStatus
+from .faults import printable
 from .refusals import BAD_LINKS, NOTES, Refusal
 from .trees import Grade
 from .unmodelled import PAGE, counted, is_made
@@ -21,14 +22,14 @@ class Check:
     unmodelled: list
 
 
-def check(store, target, trees):
-    """Looks through all units, and the plan of a target if there is one."""
+def check(store, target):
+    """Looks through all units of a store, and the plan of a target if there is one."""
     units, planned = store.all_units((target,) if target else None)
     wrong = list(dict.fromkeys(line for name in sorted(units) for line in wrong_with(units[name], units)))
     if isinstance(planned, Refusal):
         wrong.append(f"{target}: no plan: {planned}")
-    left_out = sum(tree.count(Grade.LEFT_OUT) + tree.count(Grade.UNREAD) for tree in trees)
-    rows = counted(units, trees) + ([("left out of the store", "place", left_out)] if left_out else [])
+    left_out = sum(tree.count(Grade.LEFT_OUT) + tree.count(Grade.UNREAD) for tree in store.trees)
+    rows = counted(units, store.trees) + ([("left out of the store", "place", left_out)] if left_out else [])
     return Check(len(units), wrong, [f"not modelled: {what}: {numbered(count, of)}" for what, of, count in rows])
 
 
@@ -46,7 +47,7 @@ def wrong_with(unit, units):
     for note in unit.notes:
         name, words = NOTES[note.code]
         # a note on a file's line is the same for all units that read the file
-        where = note.where if note.code in ("K1", "K2", "K3") else f"{unit.name}: {note.where}"
+        where = note.where if note.code in ("K1", "K2", "K3") else f"{unit.name}: {printable(note.where)}"
         yield f"{where}: {note.code} {name}: {words}"
     for kind in NEEDING:
         for other in unit.to(kind):
@@ -61,6 +62,6 @@ def numbered(count, thing):
 
 
 def summary(found):
-    """The last line of a check."""
+    """The last lines of a check."""
     told = [f"{numbered(found.units, 'unit')}, {numbered(len(found.wrong), 'thing')} wrong"]
     return told + ([f"what isn't modelled, and what to expect of it: {PAGE}"] if found.unmodelled else [])

@@ -50,12 +50,12 @@ def shown(script, node, program):
     files = answers.last_block()
     if isinstance(files, Refusal):
         raise Fault(f"{node}: {files}", Status.WRONG)
-    return dict(held_at(line, put) for line in files if not line.endswith(" gone"))
+    rows = [it.split(" ") for it in files]
+    return dict(held_at(*it, put) for it in rows if it[2] != "gone")
 
 
-def held_at(line, put):
-    """The place and the content that a line of `files` tells, of what was put under each version."""
-    text, version, what, told = line.split(" ", 3)
+def held_at(text, version, what, told, put):
+    """The place and the content that a row of `files` tells, of what was put under each version."""
     content = put[version]
     if told != (content.target if isinstance(content, Link) else str(len(content))):
         raise Fault(f"{text}: the program holds a {what} of {told}, and the script was read otherwise")
@@ -78,6 +78,7 @@ class Writer:
 
     def write(self, entries):
         """Writes all, in order; what can't stand beside what stands there already is kept for `blocked`."""
+        os.makedirs(self.root, exist_ok=True)
         for place, content in sorted(entries.items()):
             base = os.path.join(self.root, HOSTS, place.host) if place.host else self.root
             path = base + place.path()
@@ -102,8 +103,7 @@ class Writer:
         return True
 
 
-def new_folder(path):
-    """Makes a folder, or takes an empty one."""
+def refuse_full(path):
+    """Refuses a folder that is neither new nor empty."""
     if os.path.lexists(path) and not (os.path.isdir(path) and not os.listdir(path)):
         raise Fault(f"{printable(path)}: neither new nor an empty folder")
-    os.makedirs(path, exist_ok=True)

@@ -43,16 +43,18 @@ def rows_of(picture):
     steps = {}
     for box in picture.boxes:
         steps.setdefault(box.step, []).append(box.name)
+    step_of = {box.name: box.step for box in picture.boxes}
     near = {box.name: [] for box in picture.boxes}
     for line in picture.lines:
-        near[line.source].append(line.target)
-        near[line.target].append(line.source)
+        if step_of[line.source] != step_of[line.target]:
+            near[line.source].append(line.target)
+            near[line.target].append(line.source)
     height = {name: (at + 0.5) / len(names) for names in steps.values() for at, name in enumerate(names)}
     numbers = sorted(steps)
     for sweep in range(SWEEPS):
         for number in numbers if sweep % 2 == 0 else numbers[::-1]:
             names = steps[number]
-            means = {it: mean([height[other] for other in near[it] if other not in names], height[it]) for it in names}
+            means = {it: mean([height[other] for other in near[it]], height[it]) for it in names}
             names.sort(key=lambda it: (means[it], it))
             height.update({name: (at + 0.5) / len(names) for at, name in enumerate(names)})
     return {number: steps[number] for number in numbers}

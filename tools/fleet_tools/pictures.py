@@ -107,11 +107,6 @@ def lines_of(names, units):
     return list(found.values())
 
 
-def rivals(unit):
-    """The units with which a unit conflicts."""
-    return {*unit.to("Conflicts"), *unit.to("ConflictedBy")}
-
-
 def picture_of_plan(target, plan, units):
     """The picture of a plan."""
     asked, steps = main_name(target, units), steps_of(plan.start, units)
@@ -121,7 +116,8 @@ def picture_of_plan(target, plan, units):
     tied = {(it.source, it.target) for it in lines}
     lines += [Line(other, name, Tie.ORDER) for name, other in orders_of(plan.start, units) if not {(name, other), (other, name)} & tied]
     for name in plan.stop:
-        lines += [Line(it, name, Tie.CONFLICT) for it in plan.start if it in rivals(units[name])]
+        rivals = {*units[name].to("Conflicts"), *units[name].to("ConflictedBy")}
+        lines += [Line(it, name, Tie.CONFLICT) for it in plan.start if it in rivals]
         lines += [Line(name, it, Tie.NEEDS) for it in plan.stop if any(it in units[name].to(kind) for kind in TYING)]
     count = f"{len(plan.start)} to start" + (f", {len(plan.stop)} to stop" if plan.stop else "")
     return Picture(f"{target}: {count}", tuple(boxes), tuple(lines), Shape.STEPS)

@@ -69,8 +69,8 @@ def tell_each(trees):
 def import_trees(asked, progress):
     """`fleet import`: the script of some trees."""
     trees = read_trees(asked.roots, progress)
-    say_bytes(script_of(node_of(asked.node, trees, asked.writer)))
     tell_each(trees)
+    say_bytes(script_of(node_of(asked.node, trees, asked.writer)))
     return Status.WRONG if any(it.count(Grade.UNREAD) for it in trees) else Status.WELL
 
 
@@ -124,19 +124,19 @@ def check(asked, progress):
     target = asked.target or checks.default_target(store)
     if not target:
         tell(f"neither {' nor '.join(checks.TARGETS)} is there, and no target is named: no plan is looked at")
-    found = checks.check(store, target, store.trees)
+    found = checks.check(store, target)
     say([*found.wrong, *found.unmodelled, *checks.summary(found)])
     return Status.WRONG if found.wrong else Status.WELL
 
 
 def export(asked, _progress):
     """`fleet export`: a node's files as a tree."""
+    exports.refuse_full(asked.folder)
     with open(asked.script, "rb") as file:
         script = file.read()
     entries = exports.shown(script, asked.node, program_of(asked.unproved))
     if asked.host is not None:
         entries = exports.seen_by(entries, asked.host)
-    exports.new_folder(asked.folder)
     writer = exports.Writer(asked.folder)
     writer.write(entries)
     hosts = sorted({it.host for it in entries} - {""})
