@@ -110,6 +110,16 @@ def faults(bench):
     same(boxes["dbus.service"][1][0] > boxes["example-broker.service"][1][2], True)
 
 
+def rings(bench):
+    """Cycles of any length stand in a ring, apart from each other."""
+    for count in (2, 3, 4, 9, 40):
+        names = [f"unit-with-a-name-that-is-long-{number:02}.service" for number in range(count)]
+        before = zip(names, [names[-1], *names])
+        root = bench.tree(f"ring{count}", {f"{U}/{name}": f"[Unit]\nRequires={other}\nAfter={other}\n" for name, other in before})
+        text = bench.fleet("draw", root, names[0], status=1).out.decode()
+        same((sorted(look(text)), lines_of(text)), (names, {"waited": count, "needs": count}))
+
+
 def spelled(bench):
     """Names of any bytes stand in a picture as text."""
     root = bench.tree("a", {f"{U}/a\\x2d&.service": "x", f"{U}/a\\x2db.service": "[Unit]\nDescription=<&>\n"})
@@ -119,4 +129,4 @@ def spelled(bench):
     same('"a\\\\x2db.service"' in bench.fleet("draw", root, "a\\x2db.service", "--dot").out.decode(), True)
 
 
-CASES = [steps, behind_all, faults, spelled]
+CASES = [steps, behind_all, faults, rings, spelled]

@@ -46,7 +46,8 @@ def what_is_not_taken(bench):
         f"{E}/a.service.d/10.conf": Link("../other.conf"), f"{E}/a.service.d/20.conf": Link("/dev/null"), f"{E}/a.service.d/readme": Link("x"),
         f"{E}/a.service.d/deep/x.conf": "x", f"{E}/a.service.wants/s.service": Link("with space"), f"{E}/empty.wants": None,
         f"{E}/long.service": Link("y" * 4_095), f"{U}/t.service/x": "x", b"/etc/systemd/system/\xff\xfe.service": "x",
-        f"{E}/b\nc.service": "x", f"{L}/{'n' * 247}.service": "N", f"{L}/{'f' * 255}/{'m' * 255}": "M", "/run/systemd/generator/m.mount": "[Mount]\n", "/lib/systemd/system/old.service": "x",
+        f"{E}/b\nc.service": "x", f"{L}/{'n' * 247}.service": "N", f"{L}/{'f' * 255}/{'m' * 255}": "M",
+        "/run/systemd/generator/m.mount": "[Mount]\n", "/lib/systemd/system/old.service": "x",
     })
     os.mkfifo(f"{root}{E}/pipe.service")
     with socket.socket(socket.AF_UNIX) as it:

@@ -106,7 +106,8 @@ def add_verbs_of_trees(found):
 
     made = add(found, "merge", verbs.merge, [asking()], "let trees meet, each as a node, and print what all hold then",
                "For each place the version that stands there, with its node; then each place at which nodes differed, who won, and over "
-               "which version. A tree has no history: a node edits the places of its tree in order, and each edit's version counts on from all that the node holds.")
+               "which version. A tree has no history: a node edits the places of its tree in order, and each edit's version counts on from all "
+               "that the node holds.")
     made.add_argument("roots", nargs="+", metavar="ROOT", help="trees; alice=ROOT is the tree of the node alice, ROOT alone is named by its place")
     made.add_argument("--base", metavar="ROOT", help="the tree that all held before: a node then edits only what its own has otherwise")
     made.add_argument("--script", action="store_true", help="print the script of the nodes instead, without running it")

@@ -18,7 +18,7 @@ path { fill: none } .needs { stroke: #2c4a68; stroke-width: 1.3 } .wishes { stro
 """
 ARROWS = {Tie.NEEDS: "#2c4a68", Tie.WISHES: "#5f8f5a", Tie.ORDER: "#9aa6b2", Tie.WAITED: "#c62828", Tie.REQUISITE: "#c62828"}
 A_GREAT_MANY = 60  # lines: where a picture has more, all are paler
-BEND = 26  # of what a ring's units require and wish for, beside their order
+BEND = 26  # between the lines of two units in a ring
 MOST_WISHES = 12  # of one unit: where it has more, they are paler still
 
 DOT_STYLES = {
@@ -74,11 +74,13 @@ def arrow(tie):
             f'markerUnits="userSpaceOnUse"><path d="M0 0 L8 4 L0 8 z" style="fill:{ARROWS[tie]};stroke:none"/></marker>')
 
 
-def line_of(line, layout, shape, is_pale):
-    """A line between two boxes."""
+def path_of(line, picture, layout):
+    """The path of a line. In a ring the order goes straight, but for that of two units, which goes both ways; the rest is beside it."""
     ends = layout.spots[line.source], layout.spots[line.target]
-    path = across(*ends, 0 if line.tie is Tie.WAITED else BEND) if shape is Shape.RING else curve(*ends)
-    return f'<path class="{class_of(line.tie)}{" pale" if is_pale else ""}" d="{path}"{head_of(line.tie)}/>'
+    if picture.shape is not Shape.RING:
+        return curve(*ends)
+    bends = (len(picture.boxes) == 2) + (line.tie is not Tie.WAITED)
+    return across(*ends, BEND * bends)
 
 
 def head_of(tie):
@@ -90,7 +92,8 @@ def lines_of(picture, layout):
     """All lines between the boxes."""
     wishes = Counter(it.source for it in picture.lines if it.tie is Tie.WISHES)
     for it in picture.lines:
-        yield line_of(it, layout, picture.shape, it.tie is Tie.WISHES and wishes[it.source] > MOST_WISHES)
+        pale = " pale" if it.tie is Tie.WISHES and wishes[it.source] > MOST_WISHES else ""
+        yield f'<path class="{class_of(it.tie)}{pale}" d="{path_of(it, picture, layout)}"{head_of(it.tie)}/>'
 
 
 def hint(box, lines):

@@ -6,6 +6,7 @@ from .pictures import Shape
 
 LETTER, PADDING, HEIGHT = 7.3, 9, 22  # the width of a letter, the room beside a name, and the height of a box
 ROW, GAP, MARGIN, HEAD = 32, 90, 32, 96
+RING_ROW, MOST_RING = 72, 320  # the height of a ring's row, and the most that it is wide to each side
 MOST_ROWS = 32  # rows of a column; a step with more units has several
 SWEEPS = 12
 
@@ -90,18 +91,17 @@ def column_layout(picture):
 
 
 def ring_layout(picture):
-    """Units in a ring, in order, the first on top."""
+    """Units in a ring, in order: from the top down on the right, and up again on the left."""
     names = [it.name for it in picture.boxes]
-    widest = max(map(width_of, names))
-    tall = max(80.0, 24.0 * len(names))
-    wide = max(tall, widest * 0.9)
-    middle_x, middle_y = MARGIN + widest / 2 + wide, HEAD + tall
+    half, side = len(names) / 2, max(map(width_of, names)) / 2 + PADDING * 2
+    wide = max(side, min(RING_ROW * half / 2, MOST_RING))
     spots = {}
     for at, name in enumerate(names):
-        angle = 2 * math.pi * at / len(names)
-        x, y = middle_x + wide * math.sin(angle), middle_y - tall * math.cos(angle)
-        spots[name] = Spot(x - width_of(name) / 2, y, width_of(name))
-    return Layout(spots, {}, 2 * middle_x, middle_y + tall + HEIGHT + MARGIN)
+        level = min(at, len(names) - at)
+        out = 0 if level in (0, half) else max(wide * math.sin(math.pi * level / half), side)
+        x = MARGIN + wide + side + (out if at < half else -out)
+        spots[name] = Spot(x - width_of(name) / 2, HEAD + level * RING_ROW, width_of(name))
+    return Layout(spots, {}, 2 * (MARGIN + wide + side), HEAD + math.floor(half) * RING_ROW + HEIGHT + MARGIN)
 
 
 def layout_of(picture):
