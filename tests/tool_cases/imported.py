@@ -239,14 +239,15 @@ def a_great_many(bench):
 
 
 def progress_on_a_terminal(bench):
-    """Where standard error is a terminal, a line there tells how far the reading is, and goes."""
+    """Where standard error is a terminal, a line there tells how far the reading is, and goes before anything else is told."""
     root = bench.many("a", 1_200, "[Unit]\n")
+    os.makedirs(f"{root}{E}/a.wants")
     terminal, end = os.openpty()
     bench.fleet("import", root, stderr=end)
     os.close(end)
     shown = os.read(terminal, 100_000).decode()
     os.close(terminal)
-    same((shown.startswith(f"\r\x1b[K{root}: 500 files and links"), shown.endswith("\r\x1b[K")), (True, True), repr(shown))
+    same((shown.startswith(f"\r\x1b[K{root}: 500 files and links"), f"\r\x1b[Kfleet: {E}/a.wants: nothing" in shown), (True, True), repr(shown))
 
 
 def too_large(bench):
