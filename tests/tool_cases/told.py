@@ -65,6 +65,7 @@ def worked_by_hand(bench):
     same(bench.fleet("plan", DEBIAN, "app-wiki.service").lines(),
          ["start postgresql@15-main.service", "start postgresql.service", "start app-wiki.service"])
     same(bench.fleet("plan", DEBIAN, "ssh.service", "ssh.socket").lines(), ["stop ssh.socket", "start ssh.service"])
+    same(bench.fleet("cat", f"web1={WEB1}", "nginx").lines()[0], f"# web1:{E}/nginx.service")
     starts = bench.fleet("plan", DEBIAN, "multi-user.target", *web1).lines()
     same([it in starts for it in ("start cron.service", "start app-shop-worker.service", "start app-shop-web.service")], [False, False, True])
     same(bench.fleet("cat", DEBIAN, "autovt@tty2").lines()[-3:],

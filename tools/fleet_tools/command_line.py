@@ -62,7 +62,7 @@ def asking():
 def of_store():
     """The words of verbs that ask about a store made of trees."""
     made = argparse.ArgumentParser(add_help=False)
-    made.add_argument("--host", type=host, metavar="HOST", help="ask what the files come to on this host, instead of one with none of its own")
+    made.add_argument("--host", type=host, metavar="HOST", help="ask what the files come to on this host, not on one with none of its own")
     made.add_argument("--workers", type=workers, metavar="N", help="load by 1 to 64 threads, which changes no answer")
     return made
 
@@ -70,7 +70,7 @@ def of_store():
 def of_tree():
     """The words of verbs that ask about one tree, and trees of hosts beside it."""
     made = argparse.ArgumentParser(add_help=False, parents=[of_store()])
-    made.add_argument("root", metavar="ROOT", help="the tree, as / or web1=ROOT")
+    made.add_argument("root", metavar="ROOT", help="the tree; of web1=ROOT alone web1 is the host that is asked for")
     made.add_argument("--with", dest="more", action="append", default=[], metavar="HOST=ROOT",
                       help="the tree of a host beside it; again for others")
     return made

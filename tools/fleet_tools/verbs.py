@@ -75,10 +75,11 @@ def import_trees(asked, progress):
 
 
 def store_of(asked, progress, roots):
-    """The store of some trees, with which trees these are."""
+    """The store of some trees, asked for the host that is named, or else for that of a tree that stands alone."""
     program = program_of(asked.unproved)
     trees = read_trees(roots, progress)
-    return Store(program, progress, trees, asked.host, asked.workers)
+    host = asked.host or (trees[0].host if len(trees) == 1 else "")
+    return Store(program, progress, trees, host or None, asked.workers)
 
 
 def answered(asked, progress, words):
