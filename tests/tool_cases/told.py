@@ -1,5 +1,6 @@
 """What is asked of trees is answered as the rules say: units, plans, what is wrong, what differs."""
 import os
+import re
 import shutil
 import subprocess
 import sys
@@ -187,6 +188,19 @@ def asked_once(bench):
         same(file.read(), "run\n" * 3)
 
 
+def progress_of_answers(bench):
+    """Where standard error is a terminal, a line there tells how many questions are answered, and goes."""
+    root = bench.many("a", 300, "[Unit]\n" + "Description=a long line\n" * 20)
+    terminal, end = os.openpty()
+    ran = bench.fleet("check", root, "u00001", stderr=end)
+    os.close(end)
+    shown = os.read(terminal, 100_000).decode()
+    os.close(terminal)
+    same((ran.lines()[-2], shown.startswith("\r\x1b[Kasking the program: 301 questions"), shown.endswith("\r\x1b[K")),
+         ("300 units, 0 things wrong", True, True), repr(shown))
+    same(re.search("K[0-9]+ of 301 answers", shown) is not None, True, repr(shown))
+
+
 def too_many_units(bench):
     """More names than are loaded are refused."""
     root = bench.many("a", 4_097, "[Unit]\n")
@@ -266,5 +280,5 @@ def unproved(bench):
     same(ran.told(), ["list: --unproved needs Rattle's `rt` on the path"])
 
 
-CASES = [as_the_model_says, worked_by_hand, refusals, what_runs, wrong_units, nothing_wrong, what_is_counted, asked_once, too_many_units, differences,
-         words_that_are_no_words, without_the_program, unproved]
+CASES = [as_the_model_says, worked_by_hand, refusals, what_runs, wrong_units, nothing_wrong, what_is_counted, asked_once, progress_of_answers,
+         too_many_units, differences, words_that_are_no_words, without_the_program, unproved]

@@ -38,7 +38,8 @@ class Store:
         """The answers to questions, which are lists of words behind the node's."""
         lines = [" ".join([words[0], self.node, *words[1:]]).encode("utf-8", "surrogateescape") for words in questions]
         self.progress.tell(f"asking the program: {len(lines):,} questions")
-        answers = Answers(self.program.answer([*self.head, *lines]))
+        written = self.program.answer([*self.head, *lines], lambda ended: self.progress.tell(f"{ended:,} of {len(lines):,} answers"))
+        answers = Answers(written)
         self.progress.end()
         if self.has_workers:
             answered = answers.line()
@@ -70,9 +71,9 @@ class Store:
         """All units that are loaded, by name, and what a plan's question, if there is one, is answered; in one run, but where units are named
         that no file spells, as by a specifier."""
         names = self.own_names()
-        # where there are more than can be loaded, one question tells
-        asked = sorted({*names, *self.spelled_names()}) if len(names) <= MOST_NAMES else names[:1]
-        questions = [("show", it) for it in asked]
+        # names that are only spelled are left for a further run where all could be too many; where names are, one question tells it
+        choices = (sorted({*names, *self.spelled_names()}), names)
+        questions = [("show", it) for it in next((it for it in choices if len(it) <= MOST_NAMES), names[:1])]
         answers = self.asked([*questions, *([("plan", *plan)] if plan else [])])
         units = self.units_in(answers, len(questions))
         planned = answers.plan() if plan else None

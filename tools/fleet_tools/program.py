@@ -3,6 +3,7 @@ import os
 import shutil
 import subprocess
 import sys
+import tempfile
 from dataclasses import dataclass
 
 from .faults import Fault
@@ -12,6 +13,7 @@ REPOSITORY = os.path.dirname(os.path.dirname(os.path.dirname(os.path.realpath(__
 CRATE = os.path.join(REPOSITORY, "crates", "fleet_shell")
 BUILT = os.path.join(CRATE, "out", "fleet_shell")
 
+PIECE = 65_536  # bytes that are read at once
 # How long a run without proofs may take.
 MOST_SECONDS = "3600"
 
@@ -29,19 +31,33 @@ class Program:
     folder: str
     is_proved: bool
 
-    def answer(self, lines):
-        """What it answers to a script of these lines."""
-        script = script_of(lines)
+    def answer(self, lines, tell=lambda ended: None):
+        """What it answers to a script of these lines. Meanwhile `tell` is given about how many of its longer answers have ended."""
         if not self.is_proved:
             print("fleet: asking the unproved program by `rt try`, which takes some minutes", file=sys.stderr, flush=True)
-        try:
-            ran = subprocess.run(self.words, input=script, cwd=self.folder, stdout=subprocess.PIPE, stderr=subprocess.PIPE, check=False)
-        except OSError as fault:
-            raise Fault(f"{self.words[0]}: {fault.strerror}") from fault
-        if ran.returncode:
-            told = ran.stderr.decode("utf-8", "replace").strip()
-            raise Fault(f"{' '.join(self.words)} ended with status {ran.returncode}{': ' if told else ''}{told}")
-        return ran.stdout
+        with tempfile.TemporaryFile() as script, tempfile.TemporaryFile() as words:
+            script.write(script_of(lines))
+            script.seek(0)
+            try:
+                with subprocess.Popen(self.words, stdin=script, stdout=subprocess.PIPE, stderr=words, cwd=self.folder) as ran:
+                    found = all_of(ran.stdout, tell)
+            except OSError as fault:
+                raise Fault(f"{self.words[0]}: {fault.strerror}") from fault
+            if ran.returncode:
+                words.seek(0)
+                told = words.read().decode("utf-8", "replace").strip()
+                raise Fault(f"{' '.join(self.words)} ended with status {ran.returncode}{': ' if told else ''}{told}")
+        return found
+
+
+def all_of(stream, tell):
+    """All bytes of a stream of answers; after each piece it is told about how many of them have ended."""
+    parts, ended = [], 0
+    for part in iter(lambda: stream.read1(PIECE), b""):
+        parts.append(part)
+        ended += part.count(b"\nend\n")
+        tell(ended)
+    return b"".join(parts)
 
 
 def program_of(is_unproved):
