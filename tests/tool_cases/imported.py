@@ -81,7 +81,7 @@ def links_that_lead_away(bench):
     root = bench.tree("a", {
         f"{U}/a.service": "A", f"{E}/absolute.service": Link(f"{U}/a.service"), f"{E}/merged.service": Link("/lib/systemd/system/a.service"),
         "/lib": Link("usr/lib"), f"{E}/loop1.service": Link("loop2.service"), f"{E}/loop2.service": Link("loop1.service"),
-        f"{E}/self.service": Link("self.service"), f"{E}/b.service": Link("/opt/b.service"), "/opt/b.service": "B",
+        f"{E}/self.service": Link("self.service"), f"{E}/b.service": Link("/srv/b.service"), "/srv/b.service": "B",
         f"{E}/o.service": Link(f"{outside}/b.service"), f"{E}/up.service": Link("../" * 40 + outside[1:] + "/b.service"),
         f"{E}/a.service.d": Link("/usr/share/a.d"), "/usr/share/a.d/1.conf": "D", f"{E}/s.service.d": Link(f"{outside}/secret.d"),
         f"{E}/gone.service": Link("nothing.service"), f"{E}/w.wants": Link("w.wants"), f"{E}/x.service": Link("/etc/alternatives/x"),
@@ -91,13 +91,13 @@ def links_that_lead_away(bench):
     ran = bench.fleet("import", root)
     same(ran.told(), [
         f"{E}/a.service.d: taken, but: a link to the folder /usr/share/a.d, which is read as if it stood here",
-        f"{E}/b.service: taken, but: it leads out of the load path, to /opt/b.service, {away}", f"{E}/loop1.service: {loop}",
+        f"{E}/b.service: taken, but: it leads out of the load path, to /srv/b.service, {away}", f"{E}/loop1.service: {loop}",
         f"{E}/loop2.service: {loop}", f"{E}/o.service: taken, but: it leads out of the load path, to {outside}/b.service, {away}",
         f"{E}/self.service: {loop}", f"{E}/up.service: taken, but: it leads out of the load path, to {outside}/b.service, {away}",
         f"{E}/w.wants: {loop}", f"{E}/x.service: taken, but: it leads out of the load path, to /etc/alternatives/x, {away}",
         f"{root}: 14 taken, 9 to be looked at",
     ])
-    same(ran.lines()[1:4], [f"link tree {E}/absolute.service {U}/a.service", f"link tree {E}/b.service /opt/b.service",
+    same(ran.lines()[1:4], [f"link tree {E}/absolute.service {U}/a.service", f"link tree {E}/b.service /srv/b.service",
                             f"link tree {E}/gone.service nothing.service"])
     same(f"put tree {E}/a.service.d/1.conf D" in ran.lines(), True)
     same(b"not the tree's" in ran.out, False)

@@ -59,7 +59,7 @@ def worked_by_hand(bench):
     web1 = ["--with", f"web1={WEB1}", "--host", "web1"]
     same(bench.fleet("show", DEBIAN, "nginx", *web1).lines(), [
         "unit nginx.service", f"status loaded web1:{E}/nginx.service", "names nginx.service", f"dropin {E}/service.d/90-protect.conf",
-        f"dropin web1:{E}/nginx.service.d/limits.conf", "Unit.Description=Web server of this host", "Service.ExecStart=/opt/nginx/nginx",
+        f"dropin web1:{E}/nginx.service.d/limits.conf", "Unit.Description=Web server of this host", "Service.ExecStart=/srv/nginx/nginx",
         "Service.ProtectSystem=full", "Service.LimitNOFILE=262144", "After: network-online.target", "Wants: network-online.target",
         "WantedBy: multi-user.target",
     ])
