@@ -2,6 +2,7 @@
 import re
 from dataclasses import dataclass
 from enum import Enum
+from typing import Dict, Tuple
 
 from .faults import Fault
 from .refusals import Refusal, refusal_of
@@ -41,11 +42,11 @@ class Unit:
     name: str
     status: UnitStatus
     told: str
-    names: tuple
-    dropins: tuple
-    values: tuple
-    edges: dict
-    notes: tuple
+    names: Tuple[str, ...]
+    dropins: Tuple[str, ...]
+    values: Tuple[Tuple[str, str], ...]
+    edges: Dict[str, Tuple[str, ...]]
+    notes: Tuple[Note, ...]
 
     def to(self, kind):
         """The units to which it has an edge of this kind."""
@@ -67,8 +68,8 @@ class Unit:
 class Plan:
     """What stops and what starts, in order."""
 
-    stop: tuple
-    start: tuple
+    stop: Tuple[str, ...]
+    start: Tuple[str, ...]
 
 
 class Answers:

@@ -1,5 +1,6 @@
 """Looks through a tree for what is wrong with its units and with a target's plan."""
 from dataclasses import dataclass
+from typing import List
 
 from .answers import NEEDING, UnitStatus
 from .faults import printable
@@ -18,8 +19,8 @@ class Check:
     """What was looked through: how many units, the lines on what is wrong, and those on what isn't modelled."""
 
     units: int
-    wrong: list
-    unmodelled: list
+    wrong: List[str]
+    unmodelled: List[str]
 
 
 def check(store, target):

@@ -1,6 +1,7 @@
 """Where the units of a picture stand: a column for each step, or a ring."""
 import math
 from dataclasses import dataclass
+from typing import Dict, Tuple
 
 from .pictures import Shape
 
@@ -28,8 +29,8 @@ class Spot:
 class Layout:
     """Where all stands: spots by name, the left and the right of each step's columns, and the size of the whole."""
 
-    spots: dict
-    steps: dict
+    spots: Dict[str, Spot]
+    steps: Dict[int, Tuple[float, float]]
     width: float
     height: float
 

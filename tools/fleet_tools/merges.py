@@ -1,9 +1,10 @@
 """Lets the trees of some nodes meet in the program, and tells what all hold then."""
 from dataclasses import dataclass
+from typing import Dict, Optional, Tuple
 
 from .answers import Answers
 from .faults import Fault, printable
-from .places import NODE, NODE_RULE, Link, place_of
+from .places import NODE, NODE_RULE, Content, Link, Place, place_of
 from .scripts import edit_line
 from .trees import named_root
 
@@ -16,7 +17,7 @@ class Node:
 
     name: str
     writer: int
-    edits: dict
+    edits: Dict[Place, Optional[Content]]
 
 
 @dataclass(frozen=True)
@@ -27,8 +28,8 @@ class Held:
     place: str
     version: str
     node: Node
-    content: object
-    others: tuple
+    content: Optional[Content]
+    others: Tuple[Tuple[Node, str], ...]
 
 
 def nodes_of(trees, base):

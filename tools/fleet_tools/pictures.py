@@ -1,6 +1,7 @@
 """What a picture of a plan shows: units in steps, and the lines between them."""
 from dataclasses import dataclass
 from enum import Enum
+from typing import Tuple
 
 from .answers import NEEDING
 
@@ -60,8 +61,8 @@ class Picture:
     """A picture: its title, its units in order, its lines, and how the units stand."""
 
     title: str
-    boxes: tuple
-    lines: tuple
+    boxes: Tuple[Box, ...]
+    lines: Tuple[Line, ...]
     shape: Shape
 
 

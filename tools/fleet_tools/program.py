@@ -5,6 +5,7 @@ import subprocess
 import sys
 import tempfile
 from dataclasses import dataclass
+from typing import Tuple
 
 from .faults import Fault
 from .scripts import script_of
@@ -27,7 +28,7 @@ FLEET_SHELL=FILE names one that stands elsewhere. With --unproved the same progr
 class Program:
     """How the program is run."""
 
-    words: tuple
+    words: Tuple[str, ...]
     folder: str
     is_proved: bool
 

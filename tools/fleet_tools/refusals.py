@@ -1,5 +1,6 @@
 """What the program refuses, in words."""
 from dataclasses import dataclass
+from typing import Tuple
 
 
 @dataclass(frozen=True)
@@ -8,7 +9,7 @@ class Refusal:
 
     code: str
     name: str
-    told: tuple
+    told: Tuple[str, ...]
 
     def __str__(self):
         words = SENTENCES.get(self.code)

@@ -2,10 +2,11 @@
 import os
 from dataclasses import dataclass, field
 from enum import Enum
+from typing import Dict, List
 
 from .faults import Fault, printable
 from .files import bytes_of, led_to
-from .places import DIRECTORIES, MOST_FILE_BYTES, MOST_NAME_BYTES, MOST_TARGET_BYTES, WORD, Link, Place, is_unit_name
+from .places import DIRECTORIES, MOST_FILE_BYTES, MOST_NAME_BYTES, MOST_TARGET_BYTES, WORD, Content, Link, Place, is_unit_name
 
 # What is /usr/lib/systemd/system where /lib is /usr/lib.
 OLD_DIRECTORY = "/lib/systemd/system"
@@ -55,8 +56,8 @@ class Tree:
 
     root: str
     host: str = ""
-    entries: dict = field(default_factory=dict)
-    told: list = field(default_factory=list)
+    entries: Dict[Place, Content] = field(default_factory=dict)
+    told: List[Told] = field(default_factory=list)
 
     def ordered(self):
         """The places with their contents, in the order of the store."""
