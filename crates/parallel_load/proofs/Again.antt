@@ -1,8 +1,9 @@
 -- A load of rows of which some were read again, where each unit names what it named.
-use Rattle.std.proofs.Common.{◌≡◌, ◌<◌, ◌≤◌, ℕ, zero, suc, List, [], ◌∷◌, ◌++◌, take, get_or, length, map, refl, ap, sym, ◌∙◌, subst, inl, inr, arith}
-use Rattle.std.specs.List.{All}
+use Rattle.std.proofs.Common.{◌≡◌, ◌<◌, ◌≤◌, ◌+◌, ℕ, zero, suc, List, [], ◌∷◌, ◌++◌, take, get_or, length, map, refl, ap, sym, ◌∙◌, subst, inl, inr, arith}
+use Rattle.std.specs.Prelude.{◌⊎◌}
+use Rattle.std.specs.List.{All, flat_map}
 use Rattle.std.specs.Map.{keys_of}
-use Rattle.std.proofs.lemmas.List.{take_all}
+use Rattle.std.proofs.lemmas.List.{take_more}
 use Rattle.std.proofs.lemmas.List.Elements.{All-nil, All-cons, All-head, All-tail}
 use Rattle.list_laws.specs.Members.{IsAmong}
 use Rattle.load_places.specs.Levels.{Looker}
@@ -19,6 +20,7 @@ use Rattle.fragment_choice.specs.UnitNames.{AreNames}
 use Rattle.name_closure.specs.Loading.{AreLoaded}
 use Rattle.unit_loads.specs.declared.units.Unit.{Unit as LoadedUnit}
 use Rattle.unit_loads.specs.NamedUnits.{IsListed}
+use Rattle.unit_loads.specs.Units.{IsUnit}
 use Rattle.parallel_load.specs.declared.loaded.Dependency.{Dependency}
 use Rattle.parallel_load.specs.declared.loaded.NameLoad.{NameLoad}
 use Rattle.parallel_load.specs.declared.loaded.NameLoad.TheVariants.{Unit as OfUnit, Alias as OfAlias}
@@ -27,11 +29,11 @@ use Rattle.parallel_load.specs.Alone.{IsLoadAlone}
 use Rattle.parallel_load.specs.Found.{IsFound}
 use Rattle.parallel_load.specs.KeptLoadLaws.{KeepsItsNames, same_names_keep_the_universe, words_keep_visible_names}
 use Rattle.parallel_load.specs.KeyLaws.{keys_length}
-use Rattle.parallel_load.specs.LoadRows.{AreRows, AreRowsAgain, IsKept, IsOwnUnit, IsRowAgain, IsSettledRow, row_alone}
+use Rattle.parallel_load.specs.LoadRows.{AreLoadsAgain, AreRows, IsKept, IsLoadAgain, IsOwnUnit, IsSettledRow, row_alone}
 use Rattle.parallel_load.specs.Loads.{AreNamedAlone, IsLoad, LoadMap, with_lists}
 use Rattle.parallel_load.specs.Numbering.{AreNumbered, IsMainNumber, main_name}
 use Rattle.parallel_load.specs.Refreshes.{IsBefore, IsMissed}
-use Rattle.parallel_load.specs.Settled.{AreSettled, name_lists, name_loads, name_numbers, settled_name}
+use Rattle.parallel_load.specs.Settled.{AreSettled, list_numbers, load_numbers, name_lists, name_loads, name_numbers, settled_name}
 use Rattle.parallel_load.specs.Touched.{HasFolder, IsInFolder}
 use Rattle.parallel_load.specs.Universe.{AreUniverse, IsTooLarge}
 use Rattle.parallel_load.specs.UniverseLaws.{sorted_from}
@@ -77,65 +79,35 @@ main_alone : (n : Name) (one : NameLoad) (lists : List DependencyList) → main_
 main_alone n (OfUnit u) lists = refl
 main_alone n (OfAlias m) lists = refl
 
--- rows are what they show
-same_rows : (xs ys : List Settled) → name_loads xs ≡ name_loads ys → name_lists xs ≡ name_lists ys → name_numbers xs ≡ name_numbers ys → xs ≡ ys
-same_rows [] [] e f g = refl
-same_rows [] (y ∷ ys) e f g = cc (e)
-same_rows (x ∷ xs) [] e f g = cc (e)
-same_rows (x ∷ xs) (y ∷ ys) e f g =
-    let pair : (let p : Name × NameLoad = (x.name, x.load) in p) ≡ (y.name, y.load) = cc (e) in
-    let lists : x.lists ≡ y.lists = cc (f) in
-    let deps : x.deps ≡ y.deps = cc (g) in
-    let first : x ≡ y = (λ i. record { name = (pair i).0; load = (pair i).1; lists = lists i; deps = deps i }) in
-    ap (λ (r : Settled). r ∷ xs) first ∙ ap (λ (rs : List Settled). y ∷ rs) (same_rows xs ys (cc (e)) (cc (f)) (cc (g)))
-
-loads_length : (rows : List Settled) → length (name_loads rows) ≡ length rows
-loads_length [] = refl
-loads_length (r ∷ rows) = ap suc (loads_length rows)
-
-lists_length : (rows : List Settled) → length (name_lists rows) ≡ length rows
-lists_length [] = refl
-lists_length (r ∷ rows) = ap suc (lists_length rows)
-
-numbers_length : (rows : List Settled) → length (name_numbers rows) ≡ length rows
-numbers_length [] = refl
-numbers_length (r ∷ rows) = ap suc (numbers_length rows)
-
--- the rows that a load keeps are those that show what it keeps
-pub rows_are : (names : List (Name × NameLoad)) (named : List (List DependencyList)) (table : List (List Dependency)) (ms mains : List (Name × ℕ)) (k : IsKept names named table ms)
-    (rows : List Settled) (i : ℕ) → length names ≤ i → name_loads rows ≡ take i names → name_lists rows ≡ take i named → name_numbers rows ≡ take i table → mains ≡ ms → AreRows names named mains rows
-rows_are names named table ms mains k rows i l e f g h =
-    let count : length names ≡ length k.all = ap length k.are_rows.names_are ∙ loads_length k.all in
-    let lists : length named ≡ length k.all = ap length k.are_rows.named_are ∙ lists_length k.all in
-    let numbers : length table ≡ length k.all = ap length k.table_is ∙ numbers_length k.all in
-    let P : ℕ → Type 0 = λ n. n ≤ i in
-    let within : length k.all ≤ i = subst P count l in
-    let same : rows ≡ k.all =
-    same_rows rows k.all (e ∙ take_all i names l ∙ k.are_rows.names_are) (f ∙ take_all i named (subst P (sym lists) within) ∙ k.are_rows.named_are)
-    (g ∙ take_all i table (subst P (sym numbers) within) ∙ k.table_is) in
-    let Q : List Settled → Type 0 = λ rs. AreRows names named mains rs in
-    let R : List (Name × ℕ) → Type 0 = λ ns. AreRows names named ns k.all in
-    subst Q (sym same) (subst R (sym h) k.are_rows)
-
-pub item_among : (rows : List Settled) (i : ℕ) (row : Settled) → i < length rows → row ≡ get_or rows i row → IsAmong row rows
-item_among rows i row l e = subst (λ (r : Settled). IsAmong r rows) (sym e) (among rows i l)
+pub item_among : {X : Type 0} (xs : List X) (i : ℕ) (x : X) → i < length xs → x ≡ get_or xs i x → IsAmong x xs
+item_among {X} xs i x l e = subst (λ (y : X). IsAmong y xs) (sym e) (among xs i l)
   where
-    among : (xs : List Settled) (k : ℕ) → k < length xs → IsAmong (get_or xs k row) xs
+    among : (ys : List X) (k : ℕ) → k < length ys → IsAmong (get_or ys k x) ys
     among [] k h = absurd (omega arith)
-    among (x ∷ xs) zero h = inl refl
-    among (x ∷ xs) (suc k) h = inr (among xs k (omega arith))
+    among (y ∷ ys) zero h = inl refl
+    among (y ∷ ys) (suc k) h = inr (among ys k (omega arith))
 
 -- ---- rows of which some were read again
 
-pub again_none : (t : View) (folders : List (List ℕ)) (ms : List (Name × ℕ)) (news : List Settled) → news ≡ [] → AreRowsAgain t folders ms [] news
-again_none t folders ms news e = let P : List Settled → Type 0 = λ ws. AreRowsAgain t folders ms [] ws in subst P (sym e) tt
+-- the row of a unit that is read again, which names what it named
+record IsRereadRow (t : View) (mains : List (Name × ℕ)) (old new : Settled) : Type 0 where
+  was : LoadedUnit
+  load_is : old.load ≡ OfUnit was
+  unit : LoadedUnit
+  is_unit : IsUnit t old.name unit
+  names_stay : unit.deps ≡ old.lists
+  is : new ≡ settled_name mains (old.name, OfUnit unit)
 
-pub again_more : (t : View) (folders : List (List ℕ)) (ms : List (Name × ℕ)) (olds news : List Settled) (old new : Settled) → AreRowsAgain t folders ms olds news → IsRowAgain t folders ms old new
-    → AreRowsAgain t folders ms (olds ++ old ∷ []) (news ++ new ∷ [])
-again_more t folders ms [] [] old new h r = (r, tt)
-again_more t folders ms [] (w ∷ news) old new h r = absurd h
-again_more t folders ms (o ∷ olds) [] old new h r = absurd h
-again_more t folders ms (o ∷ olds) (w ∷ news) old new h r = (h.0, again_more t folders ms olds news old new h.1 r)
+-- the row stays, as these folders miss it, or its unit is read again
+abbrev IsRowAgain : View → List (List ℕ) → List (Name × ℕ) → Settled → Settled → Type 0
+IsRowAgain t folders mains old new = ((new ≡ old) × IsMissed folders old.name old.load) ⊎ IsRereadRow t mains old new
+
+-- the same of all rows
+abbrev AreRowsAgain : View → List (List ℕ) → List (Name × ℕ) → List Settled → List Settled → Type 0
+AreRowsAgain t folders mains [] [] = Unit {0}
+AreRowsAgain t folders mains [] (new ∷ news) = ⊥
+AreRowsAgain t folders mains (old ∷ olds) [] = ⊥
+AreRowsAgain t folders mains (old ∷ olds) (new ∷ news) = IsRowAgain t folders mains old new × AreRowsAgain t folders mains olds news
 
 module _ (t : View) (folders : List (List ℕ)) (ms : List (Name × ℕ)) where
   name_again : (old new : Settled) → IsRowAgain t folders ms old new → new.name ≡ old.name
@@ -189,24 +161,134 @@ module _ (t : View) (folders : List (List ℕ)) (ms : List (Name × ℕ)) where
       numbers_again olds news ks h.1 n.2,
     )
 
--- they are that of equal rows for an equal host
-pub again_as : (store : EntryMap) (h k : Looker) (folders : List (List ℕ)) (ms ns : List (Name × ℕ)) (olds rows news : List Settled) → h ≡ k → ms ≡ ns → olds ≡ rows
-    → AreRowsAgain (view_of store h) folders ms olds news → AreRowsAgain (view_of store k) folders ns rows news
-again_as store h k folders ms ns olds rows news e f g a =
-    let P : Looker → Type 0 = λ x. AreRowsAgain (view_of store x) folders ns rows news in
-    let Q : List (Name × ℕ) → Type 0 = λ x. AreRowsAgain (view_of store h) folders x rows news in
-    let R : List Settled → Type 0 = λ x. AreRowsAgain (view_of store h) folders ms x news in
-    subst P e (subst Q f (subst R g a))
+-- ---- what names stand for, of which some were read again
+
+-- each name has its lists
+lists_length : (rows : List Settled) → length (name_lists rows) ≡ length (name_loads rows)
+lists_length [] = refl
+lists_length (r ∷ rows) = ap suc (lists_length rows)
+
+pub one_each : (names : List (Name × NameLoad)) (named : List (List DependencyList)) (table : List (List Dependency)) (ms : List (Name × ℕ)) → IsKept names named table ms → length named ≡ length names
+one_each names named table ms k = ap length k.are_rows.named_are ∙ lists_length k.all ∙ sym (ap length k.are_rows.names_are)
+
+pub again_none : (t : View) (folders : List (List ℕ)) (ms : List (Name × ℕ)) (named : List (List DependencyList)) (news : List (Name × NameLoad)) → news ≡ [] → AreLoadsAgain t folders ms [] named news
+again_none t folders ms named news e = let P : List (Name × NameLoad) → Type 0 = λ ws. AreLoadsAgain t folders ms [] named ws in subst P (sym e) tt
+
+-- one name more
+pub again_more : (t : View) (folders : List (List ℕ)) (ms : List (Name × ℕ)) (olds : List (Name × NameLoad)) (named : List (List DependencyList)) (news : List (Name × NameLoad))
+    (old : Name × NameLoad) (lists : List DependencyList) (new : Name × NameLoad) → length olds < length named → lists ≡ get_or named (length olds) lists → new.0 ≡ old.0
+    → IsLoadAgain t folders ms old lists new.1 → AreLoadsAgain t folders ms olds named news → AreLoadsAgain t folders ms (olds ++ old ∷ []) named (news ++ new ∷ [])
+again_more t folders ms [] [] [] old lists new l e n r h = absurd (omega (arith, l))
+again_more t folders ms [] (x ∷ named) [] old lists new l e n r h =
+    let P : List DependencyList → Type 0 = λ ls. IsLoadAgain t folders ms old ls new.1 in
+    (n, subst P e r, tt)
+again_more t folders ms [] named (w ∷ news) old lists new l e n r h = absurd h
+again_more t folders ms (o ∷ olds) named [] old lists new l e n r h = absurd h
+again_more t folders ms (o ∷ olds) [] (w ∷ news) old lists new l e n r h = absurd h
+again_more t folders ms (o ∷ olds) (x ∷ named) (w ∷ news) old lists new l e n r h =
+    (h.0, h.1, again_more t folders ms olds named news old lists new (omega (arith, l)) e n r h.2)
+
+pub again_next : (t : View) (folders : List (List ℕ)) (ms : List (Name × ℕ)) (names : List (Name × NameLoad)) (named : List (List DependencyList)) (i : ℕ) (news : List (Name × NameLoad))
+    (old : Name × NameLoad) (lists : List DependencyList) (new : Name × NameLoad) → i < length names → length named ≡ length names → old ≡ get_or names i old → lists ≡ get_or named i lists
+    → new.0 ≡ old.0 → IsLoadAgain t folders ms old lists new.1 → AreLoadsAgain t folders ms (take i names) named news → AreLoadsAgain t folders ms (take (i + 1) names) named (news ++ new ∷ [])
+again_next t folders ms names named i news old lists new l each o e n r h =
+    let P : List (Name × NameLoad) → Type 0 = λ olds. AreLoadsAgain t folders ms olds named (news ++ new ∷ []) in
+    let count : length (take i names) ≡ i = taken names i l in
+    subst P (sym (take_more names i old l ∙ ap (λ (y : Name × NameLoad). take i names ++ y ∷ []) (sym o)))
+    (again_more t folders ms (take i names) named news old lists new (omega (arith, count, l, each)) (e ∙ ap (λ (k : ℕ). get_or named k lists) (sym count)) n r h)
+  where
+    taken : (xs : List (Name × NameLoad)) (k : ℕ) → k < length xs → length (take k xs) ≡ k
+    taken xs zero h = refl
+    taken [] (suc k) h = absurd (omega arith)
+    taken (x ∷ xs) (suc k) h = ap suc (taken xs k (omega arith))
+
+-- they are that for an equal host
+pub again_as : (store : EntryMap) (h k : Looker) (folders : List (List ℕ)) (ms ns : List (Name × ℕ)) (olds names : List (Name × NameLoad)) (lists named : List (List DependencyList))
+    (news : List (Name × NameLoad)) → h ≡ k → ms ≡ ns → olds ≡ names → lists ≡ named → AreLoadsAgain (view_of store h) folders ms olds lists news → AreLoadsAgain (view_of store k) folders ns names named news
+again_as store h k folders ms ns olds names lists named news e f g d a =
+    let P : Looker → Type 0 = λ x. AreLoadsAgain (view_of store x) folders ns names named news in
+    let Q : List (Name × ℕ) → Type 0 = λ x. AreLoadsAgain (view_of store h) folders x names named news in
+    let R : List (Name × NameLoad) → Type 0 = λ x. AreLoadsAgain (view_of store h) folders ms x named news in
+    let S : List (List DependencyList) → Type 0 = λ x. AreLoadsAgain (view_of store h) folders ms olds x news in
+    subst P e (subst Q f (subst R g (subst S d a)))
+
+-- rows with what their names stand for now
+abbrev rows_with : List Settled → List (Name × NameLoad) → List Settled
+rows_with [] news = []
+rows_with (o ∷ olds) [] = []
+rows_with (o ∷ olds) (w ∷ news) = record o { load = w.1 } ∷ rows_with olds news
+
+module _ (s t : View) (folders : List (List ℕ)) (ms : List (Name × ℕ)) where
+  -- a unit that names what it named has the numbers that it had
+  numbers_stay : (o : Settled) (was unit : LoadedUnit) → IsSettledRow ms o → IsAloneRow s o → o.load ≡ OfUnit was → IsUnit t o.name unit → unit.deps ≡ o.lists
+      → o.deps ≡ load_numbers ms (OfUnit unit)
+  numbers_stay o was unit made alone e is stay =
+      let P : NameLoad → Type 0 = λ one. IsLoadAlone s o.name (with_lists one o.lists) in
+      let named : was.name ≡ o.name = (subst P e alone).name_is in
+      ap (λ (x : Settled). x.deps) made
+      ∙ ap (λ (one : NameLoad). load_numbers ms (with_lists one o.lists)) e
+      ∙ ap (λ (n : Name). flat_map (list_numbers ms n) o.lists) (named ∙ sym is.name_is)
+      ∙ ap (λ (ls : List DependencyList). flat_map (list_numbers ms unit.name) ls) (sym stay)
+
+  row_with : (o : Settled) (new : NameLoad) → IsSettledRow ms o → IsAloneRow s o → IsLoadAgain t folders ms (o.name, o.load) o.lists new → IsRowAgain t folders ms o (record o { load = new })
+  row_with o new made alone (inl k) = inl ((λ i. record { name = o.name; load = k.0 i; lists = o.lists; deps = o.deps }), k.1)
+  row_with o new made alone (inr r) =
+      let deps = numbers_stay o r.was r.unit made alone r.load_is r.is_unit r.names_stay in
+      let lists : o.lists ≡ r.unit.deps = sym r.names_stay in
+      inr (record {
+        was = r.was;
+        load_is = r.load_is;
+        unit = r.unit;
+        is_unit = r.is_unit;
+        names_stay = r.names_stay;
+        is = λ i. record { name = o.name; load = r.is i; lists = lists i; deps = deps i };
+      })
+
+  rows_again : (olds : List Settled) (news : List (Name × NameLoad)) → All (IsSettledRow ms) olds → All (IsAloneRow s) olds → AreLoadsAgain t folders ms (name_loads olds) (name_lists olds) news
+      → AreRowsAgain t folders ms olds (rows_with olds news)
+  rows_again [] [] made alone h = tt
+  rows_again [] (w ∷ news) made alone h = absurd h
+  rows_again (o ∷ olds) [] made alone h = absurd h
+  rows_again (o ∷ olds) (w ∷ news) made alone h = (
+    row_with o w.1 (All-head (IsSettledRow ms) o olds made) (All-head (IsAloneRow s) o olds alone) h.1,
+    rows_again olds news (All-tail (IsSettledRow ms) o olds made) (All-tail (IsAloneRow s) o olds alone) h.2,
+  )
+
+  loads_with : (olds : List Settled) (news : List (Name × NameLoad)) → AreLoadsAgain t folders ms (name_loads olds) (name_lists olds) news → name_loads (rows_with olds news) ≡ news
+  loads_with [] [] h = refl
+  loads_with [] (w ∷ news) h = absurd h
+  loads_with (o ∷ olds) [] h = absurd h
+  loads_with (o ∷ olds) (w ∷ news) h =
+      ap (λ (n : Name). let p : Name × NameLoad = (n, w.1) in p ∷ name_loads (rows_with olds news)) (sym h.0)
+      ∙ ap (λ (ps : List (Name × NameLoad)). w ∷ ps) (loads_with olds news h.2)
+
+  lists_with : (olds : List Settled) (news : List (Name × NameLoad)) → AreLoadsAgain t folders ms (name_loads olds) (name_lists olds) news → name_lists (rows_with olds news) ≡ name_lists olds
+  lists_with [] [] h = refl
+  lists_with [] (w ∷ news) h = absurd h
+  lists_with (o ∷ olds) [] h = absurd h
+  lists_with (o ∷ olds) (w ∷ news) h = ap (λ (ls : List (List DependencyList)). o.lists ∷ ls) (lists_with olds news h.2)
+
+  numbers_with : (olds : List Settled) (news : List (Name × NameLoad)) → AreLoadsAgain t folders ms (name_loads olds) (name_lists olds) news → name_numbers (rows_with olds news) ≡ name_numbers olds
+  numbers_with [] [] h = refl
+  numbers_with [] (w ∷ news) h = absurd h
+  numbers_with (o ∷ olds) [] h = absurd h
+  numbers_with (o ∷ olds) (w ∷ news) h = ap (λ (ds : List (List Dependency)). o.deps ∷ ds) (numbers_with olds news h.2)
 
 -- ---- the load
 
 module _ (load : LoadMap) (now : EntryMap) (touched : List PlaceParts) (b : IsBefore load now touched) (inside : All (IsInFolder load.host) touched)
-    (folders : List (List ℕ)) (has : All (HasFolder load.host folders) touched) (ms : List (Name × ℕ)) (olds : List Settled) (rows : AreRows load.names load.named ms olds) where
+    (folders : List (List ℕ)) (has : All (HasFolder load.host folders) touched) (table : List (List Dependency)) (ms : List (Name × ℕ)) (kept : IsKept load.names load.named table ms) where
   abbrev s : View
   s = view_of b.before load.host
 
   abbrev t : View
   t = view_of now load.host
+
+  abbrev olds : List Settled
+  olds = kept.all
+
+  abbrev rows : AreRows load.names load.named ms olds
+  rows = kept.are_rows
 
   olds_alone : All (IsAloneRow s) olds
   olds_alone =
@@ -224,13 +306,13 @@ module _ (load : LoadMap) (now : EntryMap) (touched : List PlaceParts) (b : IsBe
       (sym (mains n) ∙ p.main_is, subst P same (mains_decide s t mains n v.names p.names_are))
   own_by n (OfAlias m) lists p u e = cc (e)
 
-  own_rows : (some : List Settled) → All (IsAloneRow s) some → All (IsOwnUnit t) some
-  own_rows [] h = All-nil (IsOwnUnit t)
-  own_rows (r ∷ some) h =
-      All-cons (IsOwnUnit t) r some (λ u e. own_by r.name r.load r.lists (All-head (IsAloneRow s) r some h) u e) (own_rows some (All-tail (IsAloneRow s) r some h))
+  own_all : (names : List (Name × NameLoad)) (named : List (List DependencyList)) → AreNamedAlone s names named → All (IsOwnUnit t) names
+  own_all [] named h = All-nil (IsOwnUnit t)
+  own_all (p ∷ names) [] h = absurd h
+  own_all (p ∷ names) (l ∷ named) h = All-cons (IsOwnUnit t) p names (λ u e. own_by p.0 p.1 l h.0.alone u e) (own_all names named h.1)
 
-  pub owns : All (IsOwnUnit t) olds
-  owns = own_rows olds olds_alone
+  pub owns : All (IsOwnUnit t) load.names
+  owns = own_all load.names load.named b.load_is.named
 
   -- what stands for each name in the new store
   alone_again : (old new : Settled) → IsAloneRow s old → IsRowAgain t folders ms old new → IsAloneRow t new
@@ -306,18 +388,50 @@ module _ (load : LoadMap) (now : EntryMap) (touched : List PlaceParts) (b : IsBe
         let P : List (Name × NameLoad) → Type 0 = λ ps. AreNumbered load.names ps ms in
         numbers_again t folders ms load.names (map row_alone news) keys_again olds news ms again (subst P rows.names_are rows.numbered)
 
-    pub ready_again : IsReady (map row_alone news) ms news
+    ready_again : IsReady (map row_alone news) ms news
     ready_again =
         is_ready (map row_alone news) (map row_alone news) ms news (sorted_from (map row_alone news) universe_again.rising) (whole_found t load.extra (map row_alone news) found_again)
         (let P : ℕ → Type 0 = λ k. k ≤ 4096 in subst P (keys_length (map row_alone news)) few_again)
         numbered_again refl (made_of ms news (all_settled t folders ms olds news again rows.settled))
 
-    pub load_again : (new : LoadMap) → new.host ≡ load.host → new.extra ≡ load.extra → new.names ≡ name_loads news → new.named ≡ name_lists news → IsLoad t load.extra new
-    load_again new host extra names named =
+    rows_load : (new : LoadMap) → new.host ≡ load.host → new.extra ≡ load.extra → new.names ≡ name_loads news → new.named ≡ name_lists news → IsLoad t load.extra new
+    rows_load new host extra names named =
         let P : List (Name × NameLoad) → Type 0 = λ ps. AreSettled (map row_alone news) ps new.named in
         let Q : List (List DependencyList) → Type 0 = λ ls. AreSettled (map row_alone news) (name_loads news) ls in
         load_is t load.extra (map row_alone news) found_again new (host ∙ sym (one_looker now load.host)) extra
         (subst P (sym names) (subst Q (sym named) ready_again.settled))
 
+    rows_few : ¬ IsTooLarge t load.extra
+    rows_few = not_too_large t load.extra (map row_alone news) found_again
+
+  module _ (news : List (Name × NameLoad)) (again : AreLoadsAgain t folders ms load.names load.named news) where
+    again_here : AreLoadsAgain t folders ms (name_loads olds) (name_lists olds) news
+    again_here =
+        let P : List (Name × NameLoad) → Type 0 = λ ps. AreLoadsAgain t folders ms ps (name_lists olds) news in
+        let Q : List (List DependencyList) → Type 0 = λ ls. AreLoadsAgain t folders ms load.names ls news in
+        subst P rows.names_are (subst Q rows.named_are again)
+
+    abbrev all : List Settled
+    all = rows_with olds news
+
+    all_again : AreRowsAgain t folders ms olds all
+    all_again = rows_again s t folders ms olds news rows.settled olds_alone again_here
+
+    loads_are : name_loads all ≡ news
+    loads_are = loads_with s t folders ms olds news again_here
+
+    lists_are : name_lists all ≡ load.named
+    lists_are = lists_with s t folders ms olds news again_here ∙ sym rows.named_are
+
+    pub kept_again : IsKept news load.named table ms
+    kept_again =
+        let P : List (Name × NameLoad) → Type 0 = λ ps. IsKept ps load.named table ms in
+        let Q : List (List DependencyList) → Type 0 = λ ls. IsKept (name_loads all) ls table ms in
+        let R : List (List Dependency) → Type 0 = λ ds. IsKept (name_loads all) (name_lists all) ds ms in
+        subst P loads_are (subst Q lists_are (subst R (numbers_with s t folders ms olds news again_here ∙ sym kept.table_is) (ready_again all all_again).kept))
+
+    pub load_again : (new : LoadMap) → new.host ≡ load.host → new.extra ≡ load.extra → new.names ≡ news → new.named ≡ load.named → IsLoad t load.extra new
+    load_again new host extra names named = rows_load all all_again new host extra (names ∙ sym loads_are) (named ∙ sym lists_are)
+
     pub few_is : ¬ IsTooLarge t load.extra
-    few_is = not_too_large t load.extra (map row_alone news) found_again
+    few_is = rows_few all all_again

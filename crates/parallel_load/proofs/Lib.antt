@@ -1,4 +1,5 @@
 mod Again
+mod Begins
 mod Closing
 mod Keeping
 mod Numbering

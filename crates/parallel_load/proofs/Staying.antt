@@ -28,6 +28,7 @@ use Rattle.unit_loads.specs.Footprints.StartsIn.{alone, within}
 use Rattle.parallel_load.specs.declared.loaded.NameLoad.{NameLoad}
 use Rattle.parallel_load.specs.declared.loaded.NameLoad.TheVariants.{Unit as OfUnit, Alias as OfAlias}
 use Rattle.parallel_load.specs.Alone.{IsAliasOf, IsLoadAlone}
+use Rattle.parallel_load.specs.Apart.{IsMissedBy}
 use Rattle.parallel_load.specs.Footprints.{IsNone}
 use Rattle.parallel_load.specs.KeyLaws.{sorted_by_keys}
 use Rattle.parallel_load.specs.Loads.{AreNamedAlone, IsNamedAlone, LoadMap, with_lists}
@@ -135,6 +136,12 @@ pub missed_by : (folders : List (List ℕ)) (n : Name) (u : LoadedUnit) (load : 
 missed_by folders n u load parts e f h =
     let P : List (List ℕ) → Type 0 = λ ps. All (IsNone ps) folders in
     subst (IsMissed folders n) (sym e) (λ folder a. all_among (IsNone (footprint n u.names)) folders folder (subst P f h) a)
+
+-- or that none can be in, as first bytes tell
+pub missed_far : (folders : List (List ℕ)) (n : Name) (u : LoadedUnit) (load : NameLoad) (names : List Name) → load ≡ OfUnit u → names ≡ u.names → All (IsMissedBy n names) folders → IsMissed folders n load
+missed_far folders n u load names e f h =
+    let P : List Name → Type 0 = λ ns. All (IsMissedBy n ns) folders in
+    subst (IsMissed folders n) (sym e) (λ folder a. all_among (IsMissedBy n u.names) folders folder (subst P f h) a)
 
 -- one more folder, of one more place
 pub folder_more : (host : Looker) (folders : List (List ℕ)) (folder : List ℕ) (touched : List PlaceParts) (i : ℕ) (d x : PlaceParts) → i < length touched → x ≡ get_or touched i d

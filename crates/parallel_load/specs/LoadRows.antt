@@ -18,7 +18,7 @@ use Rattle.parallel_load.specs.Loads.{with_lists}
 use Rattle.parallel_load.specs.Numbering.{AreNumbered}
 use Rattle.parallel_load.specs.Numbers.{AreDependencyRows}
 use Rattle.parallel_load.specs.Refreshes.{IsMissed}
-use Rattle.parallel_load.specs.Settled.{name_lists, name_loads, name_numbers, settled_name}
+use Rattle.parallel_load.specs.Settled.{load_settled, name_lists, name_loads, name_numbers, settled_name}
 
 -- a row's name with what stands for it before main names are put in
 abbrev pub row_alone : Settled → Name × NameLoad
@@ -44,28 +44,30 @@ pub record IsKept (names : List (Name × NameLoad)) (named : List (List Dependen
   pub sorted : IsTrue (is_sorted name_cmp names)
   pub rows : AreDependencyRows names table
 
--- ---- rows that are read again
+-- ---- what names stand for, where units are read again
 
--- where a unit stands for the row's name, that is its main name, and the unit has its names
-abbrev pub IsOwnUnit : View → Settled → Type 0
-IsOwnUnit t row = (unit : LoadedUnit) → row.load ≡ OfUnit unit → (main t row.name ≡ row.name) × AreNames t row.name unit.names
+-- where a unit stands for the name, that is its main name, and the unit has its names
+abbrev pub IsOwnUnit : View → Name × NameLoad → Type 0
+IsOwnUnit t p = (unit : LoadedUnit) → p.1 ≡ OfUnit unit → (main t p.0 ≡ p.0) × AreNames t p.0 unit.names
 
 -- a unit is read again that names what it named
-pub record IsReadAgain (t : View) (mains : List (Name × ℕ)) (old new : Settled) : Type 0 where
+pub record IsReadAgain (t : View) (mains : List (Name × ℕ)) (old : Name × NameLoad) (lists : List DependencyList) (new : NameLoad) : Type 0 where
   pub was : LoadedUnit
-  pub load_is : old.load ≡ OfUnit was
+  pub load_is : old.1 ≡ OfUnit was
   pub unit : LoadedUnit
-  pub is_unit : IsUnit t old.name unit
-  pub names_stay : unit.deps ≡ old.lists
-  pub is : new ≡ settled_name mains (old.name, OfUnit unit)
+  pub is_unit : IsUnit t old.0 unit
+  pub names_stay : unit.deps ≡ lists
+  pub is : new ≡ load_settled mains (OfUnit unit)
 
--- the row stays, as these folders miss it, or its unit is read again
-abbrev pub IsRowAgain : View → List (List ℕ) → List (Name × ℕ) → Settled → Settled → Type 0
-IsRowAgain t folders mains old new = ((new ≡ old) × IsMissed folders old.name old.load) ⊎ IsReadAgain t mains old new
+-- what stands for the name stays, as these folders miss it, or its unit is read again
+abbrev pub IsLoadAgain : View → List (List ℕ) → List (Name × ℕ) → Name × NameLoad → List DependencyList → NameLoad → Type 0
+IsLoadAgain t folders mains old lists new = ((new ≡ old.1) × IsMissed folders old.0 old.1) ⊎ IsReadAgain t mains old lists new
 
--- the same of all rows
-abbrev pub AreRowsAgain : View → List (List ℕ) → List (Name × ℕ) → List Settled → List Settled → Type 0
-AreRowsAgain t folders mains [] [] = Unit {0}
-AreRowsAgain t folders mains [] (new ∷ news) = ⊥
-AreRowsAgain t folders mains (old ∷ olds) [] = ⊥
-AreRowsAgain t folders mains (old ∷ olds) (new ∷ news) = IsRowAgain t folders mains old new × AreRowsAgain t folders mains olds news
+-- the same of all names, each with its lists
+abbrev pub AreLoadsAgain : View → List (List ℕ) → List (Name × ℕ) → List (Name × NameLoad) → List (List DependencyList) → List (Name × NameLoad) → Type 0
+AreLoadsAgain t folders mains [] named [] = Unit {0}
+AreLoadsAgain t folders mains [] named (new ∷ news) = ⊥
+AreLoadsAgain t folders mains (old ∷ olds) named [] = ⊥
+AreLoadsAgain t folders mains (old ∷ olds) [] (new ∷ news) = ⊥
+AreLoadsAgain t folders mains (old ∷ olds) (lists ∷ named) (new ∷ news) =
+    (new.0 ≡ old.0) × IsLoadAgain t folders mains old lists new.1 × AreLoadsAgain t folders mains olds named news

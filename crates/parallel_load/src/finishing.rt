@@ -38,8 +38,7 @@ pub(crate) fn settled(
     let Found { pairs, mains } = found_of(alloc, found)?;
     let fresh = fresh_among(&pairs);
     let names = mains.settle_all(alloc, pairs)?;
-    let numbers = Shared::new(alloc, mains)?;
-    load_of(alloc, host, extra, names, numbers, fresh)
+    load_of(alloc, host, extra, names, mains, fresh)
 }
 
 /// The same, where so many workers put the main names in, each for a share of the names. It may wait for threads.
@@ -62,8 +61,7 @@ pub(crate) fn settled_by_workers<R: Threads + Sync>(
     let Found { pairs, mains } = found_of(alloc, found)?;
     let fresh = fresh_among(&pairs);
     let names = settle_by_workers(rt, alloc, &mains, pairs, workers)?;
-    let numbers = Shared::new(alloc, mains)?;
-    load_of(alloc, host, extra, names, numbers, fresh)
+    load_of(alloc, host, extra, names, mains, fresh)
 }
 
 // What was found, in order, and the numbers of main names.
@@ -129,13 +127,13 @@ fn settle_by_workers<R: Threads + Sync>(
     work_by_shares(rt, alloc, pairs, workers, &settle)
 }
 
-/// The load of these names, which are in byte order, with the numbers of their main names. It fails for want of memory alone.
-pub(crate) fn load_of(
+// The load of these names, which are in byte order, with the numbers of their main names.
+fn load_of(
     alloc: Global,
     host: Option<&HostName>,
     extra: &[UnitName],
     settled: Vec<Settled>,
-    mains: Shared<Mains>,
+    mains: Mains,
     fresh: u64,
 ) -> Result<Loaded, AllocError>
     requires kept { IsKept (name_loads settled.items) (name_lists settled.items) (name_numbers settled.items) mains }
@@ -144,11 +142,29 @@ pub(crate) fn load_of(
     ensures names { IfOk result (λ load. load.names ≡ name_loads settled.items) }
     ensures named { IfOk result (λ load. load.named ≡ name_lists settled.items) }
 {
+    let Parts { names, named, deps } = parts_of(alloc, settled)?;
+    let kept = Shared::new(alloc, KeptRows { named, deps, mains })?;
+    load_with(alloc, host, extra, names, kept, fresh)
+}
+
+/// The load of these names, which are in byte order, with what is kept beside them. It fails for want of memory alone.
+pub(crate) fn load_with(
+    alloc: Global,
+    host: Option<&HostName>,
+    extra: &[UnitName],
+    names: Vec<(UnitName, NameLoad)>,
+    kept: Shared<KeptRows>,
+    fresh: u64,
+) -> Result<Loaded, AllocError>
+    requires kept { IsKept names.items kept.named.items kept.deps.items kept.mains }
+    ensures host { IfOk result (λ load. load.host ≡ option_copied host.entry) }
+    ensures extra { IfOk result (λ load. load.extra ≡ extra.now) }
+    ensures names { IfOk result (λ load. load.names ≡ names.items) }
+    ensures named { IfOk result (λ load. load.named ≡ kept.named.items) }
+{
     let host = copy_of(host)?;
     let mut asked = Vec::new(alloc);
     add_names(&mut asked, extra)?;
-    let Parts { names, named, deps } = parts_of(alloc, settled)?;
-    let kept = KeptRows { named, deps, mains };
     let extra = Items::from_vec(asked);
     Ok(Loaded::new(host, extra, names, kept, fresh))
 }

@@ -7,6 +7,7 @@ ghost use Rattle.unit_loads.specs.Footprints.{footprint};
 ghost use Rattle.parallel_load.specs.Footprints.{IsFootprintIn, IsNone};
 ghost use Rattle.parallel_load.specs.Loads.{unit_in};
 
+use crate::apart::TouchedPart;
 use crate::loaded::Loaded;
 use dropins::{folders, name_dirs, type_dirs};
 use plain_values::Bytes;
@@ -53,11 +54,11 @@ pub(crate) fn parts_of(
 }
 
 /// Whether one of these folders is one of a footprint.
-pub(crate) fn meets(parts: &[Bytes], folders: &[Bytes]) -> bool
+pub(crate) fn meets(parts: &[Bytes], folders: &[TouchedPart]) -> bool
     ensures none { result ≡ false → All (IsNone parts.now) folders.now }
 {
     for folder in folders {
-        if parts.contains(folder) {
+        if parts.contains(folder.bytes()) {
             return true;
         }
     }

@@ -7,12 +7,13 @@ ghost use Rattle.parallel_load.specs.Alone.{IsLoadAlone};
 ghost use Rattle.parallel_load.specs.Loads.{with_lists};
 ghost use Rattle.parallel_load.specs.Refreshes.{AreStill, IsHeldOn, IsMissed};
 
+use crate::apart::{TouchedPart, are_missed};
 use crate::footprints::{meets, parts_of};
 use crate::kept::{Kept, NamedLists};
 use crate::loaded::{Loaded, NameLoad};
 use crate::loader::{UnitLoader, kept_names};
 use name_closure::Loads;
-use plain_values::{Bytes, TryClone};
+use plain_values::TryClone;
 use sorted_pairs::seek;
 use std::alloc::{AllocError, Global};
 use std::marker::Model;
@@ -23,7 +24,7 @@ use unit_name::UnitName;
 pub(crate) fn still_of(
     alloc: Global,
     loaded: &Loaded,
-    folders: &[Bytes],
+    folders: &[TouchedPart],
 ) -> Result<Vec<(UnitName, Option<Kept>)>, AllocError>
     ensures still { IfOk result (λ still. AreStill folders.now loaded.now.names loaded.now.named still.items) }
 {
@@ -43,7 +44,7 @@ fn kept_still(
     name: &UnitName,
     load: &NameLoad,
     lists: &NamedLists,
-    folders: &[Bytes],
+    folders: &[TouchedPart],
 ) -> Result<Option<Kept>, AllocError>
     ensures same { IfOk result (λ kept. IfSome kept (λ one. one ≡ with_lists load.now lists.now)) }
     ensures missed { IfOk result (λ kept. IfSome kept (λ _. IsMissed folders.now name.now load.now)) }
@@ -54,18 +55,23 @@ fn kept_still(
     Ok(Some(Kept::again(load, lists)?))
 }
 
-/// Whether one of these folders is in the footprint of what stands for a name: an alias has none.
+/// Whether one of these folders is in the footprint of what stands for a name: an alias has none. No footprint is made where
+/// first bytes tell that it isn't.
 pub(crate) fn is_hit(
     alloc: Global,
     name: &UnitName,
     load: &NameLoad,
-    folders: &[Bytes],
+    folders: &[TouchedPart],
 ) -> Result<bool, AllocError>
     ensures missed { IfOk result (λ hit. hit ≡ false → IsMissed folders.now name.now load.now) }
 {
     match load {
         NameLoad::Unit(unit) => {
-            let parts = parts_of(alloc, name, unit.get().names.as_slice())?;
+            let names = unit.get().names.as_slice();
+            if are_missed(folders, name, names) {
+                return Ok(false);
+            }
+            let parts = parts_of(alloc, name, names)?;
             Ok(meets(&parts, folders))
         }
         NameLoad::Alias(_) => Ok(false),

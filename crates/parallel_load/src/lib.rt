@@ -8,6 +8,7 @@
 //! it is an alias.
 #![tactic(auto)]
 
+mod apart;
 mod faults;
 mod finishing;
 mod footprints;

@@ -5,10 +5,10 @@ ghost use Rattle.std.specs.Option.{option_copied};
 ghost use Rattle.unit_name.specs.Names.{name_cmp};
 ghost use Rattle.parallel_load.specs.Loads.{load_at, main_in, unit_in, units_in};
 ghost use Rattle.parallel_load.specs.Numbers.{AreDependencyRows};
-ghost use Rattle.parallel_load.specs.LoadRows.{AreRows, IsKept};
+ghost use Rattle.parallel_load.specs.LoadRows.{IsKept};
 
 use crate::kept::NamedLists;
-use crate::mains::{Mains, Settled};
+use crate::mains::Mains;
 use plain_values::{Items, Shared, TryClone};
 use replica_store::HostName;
 use setting_rules::DepKind;
@@ -53,11 +53,11 @@ pub struct Loaded {
     host: Option<HostName>,
     extra: Items<UnitName>,
     names: Vec<(UnitName, NameLoad)>,
-    kept: KeptRows,
+    kept: Shared<KeptRows>,
     fresh: u64,
 }
 
-/// What a load keeps beside its names, so that another can be made from it.
+/// What a load keeps beside its names, so that another can be made from it. Loads share it whose units name the same.
 #[derive(Debug, Drop)]
 pub(crate) struct KeptRows {
     /// For each name what it names itself, before main names are put in.
@@ -65,7 +65,7 @@ pub(crate) struct KeptRows {
     /// For each name the dependencies of what it stands for.
     pub deps: Vec<Shared<Items<Dependency>>>,
     /// The number of each name's main name.
-    pub mains: Shared<Mains>,
+    pub mains: Mains,
 }
 
 impl Model for Loaded {
@@ -87,7 +87,7 @@ impl Loaded {
         host: Option<HostName>,
         extra: Items<UnitName>,
         names: Vec<(UnitName, NameLoad)>,
-        kept: KeptRows,
+        kept: Shared<KeptRows>,
         fresh: u64,
     ) -> Loaded
         requires kept { IsKept names.items kept.named.items kept.deps.items kept.mains }
@@ -140,7 +140,7 @@ impl Loaded {
     pub fn dependencies(&self) -> &[Shared<Items<Dependency>>]
         ensures rows { AreDependencyRows self.now.names result.now }
     {
-        self.kept.deps.as_slice()
+        self.kept.get().deps.as_slice()
     }
 
     /// For each name, in the same order, what it names itself, before main names are put in.
@@ -148,26 +148,15 @@ impl Loaded {
         ensures named { result.now ≡ self.now.named }
         ensures each { length result.now ≡ length self.now.names }
     {
-        self.kept.named.as_slice()
+        self.kept.get().named.as_slice()
     }
 
-    /// Its rows again, shared, with the numbers of main names. It fails for want of memory alone.
-    pub(crate) fn rows(&self) -> Result<(Vec<Settled>, Shared<Mains>), AllocError>
-        ensures rows { IfOk result (λ again. AreRows self.now.names self.now.named again.1 again.0.items) }
+    /// What it keeps, shared. It fails for want of memory alone.
+    pub(crate) fn kept(&self) -> Result<Shared<KeptRows>, AllocError>
+        ensures kept { IfOk result (λ kept. IsKept self.now.names self.now.named kept.deps.items kept.mains) }
+        ensures named { IfOk result (λ kept. kept.named.items ≡ self.now.named) }
     {
-        let names = self.names.as_slice();
-        let named = self.kept.named.as_slice();
-        let deps = self.kept.deps.as_slice();
-        let mut rows = Vec::with_capacity(self.allocator(), names.len())?;
-        for (number, (name, load)) in names.iter().enumerate() {
-            rows.push(Settled {
-                name: name.try_clone()?,
-                load: load.try_clone()?,
-                lists: named[number].try_clone()?,
-                deps: deps[number].try_clone()?,
-            })?;
-        }
-        Ok((rows, self.kept.mains.try_clone()?))
+        self.kept.try_clone()
     }
 
     /// The unit of a main name. None for an alias, and for a name that isn't in the universe. O(log n), without memory.

@@ -48,18 +48,6 @@ pub(crate) struct Settled {
     pub deps: Shared<Items<Dependency>>,
 }
 
-/// The same again: all is shared.
-impl TryClone for Settled {
-    fn try_clone(&self) -> Result<Settled, AllocError> {
-        Ok(Settled {
-            name: self.name.try_clone()?,
-            load: self.load.try_clone()?,
-            lists: self.lists.try_clone()?,
-            deps: self.deps.try_clone()?,
-        })
-    }
-}
-
 impl Mains {
     /// Those of names in byte order. It fails for want of memory alone. One search for each alias.
     pub fn of(alloc: Global, names: &[(UnitName, Kept)]) -> Result<Mains, AllocError>

@@ -1,24 +1,25 @@
 //! Loads in which units are read again that name what they named, so that no name comes or goes.
-ghost use Rattle.std.specs.Prelude.{◌≡◌, IfOk};
+ghost use Rattle.std.specs.Prelude.{◌≡◌, IfOk, length};
 ghost use Rattle.std.specs.List.{All};
 ghost use Rattle.std.specs.Option.{IfSome, option_copied};
 ghost use Rattle.path_maps.specs.Views.{view_of};
 ghost use Rattle.fragment_choice.specs.Resolutions.{main};
 ghost use Rattle.fragment_choice.specs.UnitNames.{AreNames};
 ghost use Rattle.unit_loads.specs.Units.{IsUnit};
-ghost use Rattle.parallel_load.specs.LoadRows.{AreRowsAgain, IsOwnUnit, IsReadAgain, IsRowAgain};
+ghost use Rattle.parallel_load.specs.LoadRows.{AreLoadsAgain, IsLoadAgain, IsOwnUnit, IsReadAgain};
 ghost use Rattle.parallel_load.specs.Loads.{IsLoad};
 ghost use Rattle.parallel_load.specs.Refreshes.{IsBefore};
 ghost use Rattle.parallel_load.specs.Touched.{HasFolder, IsInFolder};
 ghost use Rattle.parallel_load.specs.Universe.{IsTooLarge};
 
-use crate::finishing::load_of;
+use crate::apart::TouchedPart;
+use crate::finishing::load_with;
 use crate::held::is_hit;
-use crate::kept::Kept;
-use crate::loaded::{Loaded, NameLoad};
-use crate::mains::{Mains, Settled};
+use crate::kept::{Kept, NamedLists};
+use crate::loaded::{KeptRows, Loaded, NameLoad};
+use crate::mains::Mains;
 use fragment_choice::resolve;
-use plain_values::{Bytes, TryClone};
+use plain_values::TryClone;
 use replica_store::{HostName, Place, Store};
 use std::alloc::{AllocError, Global};
 use unit_loads::{Unit, load_named};
@@ -30,7 +31,7 @@ pub(crate) fn patched(
     loaded: &Loaded,
     store: &Store,
     touched: &[Place],
-    folders: &[Bytes],
+    folders: &[TouchedPart],
 ) -> Result<Option<Loaded>, AllocError>
     requires before { IsBefore loaded.now store.now touched.now }
     requires within { All (IsInFolder loaded.now.host) touched.now }
@@ -40,97 +41,113 @@ pub(crate) fn patched(
 {
     let alloc = loaded.allocator();
     let host = loaded.host();
-    let (rows, mains) = loaded.rows()?;
-    let Some(again) = rows_again(alloc, store, host, mains.get(), &rows, folders)? else {
+    let kept = loaded.kept()?;
+    let Some(again) = loads_again(alloc, store, host, loaded.names(), kept.get(), folders)? else {
         return Ok(None);
     };
-    let RowsAgain { rows, fresh } = again;
-    let load = load_of(alloc, host, loaded.extra(), rows, mains, fresh)?;
+    let LoadsAgain { names, fresh } = again;
+    let load = load_with(alloc, host, loaded.extra(), names, kept, fresh)?;
     Ok(Some(load))
 }
 
-// Rows, and how many of them were read again.
+// Names with what they stand for, and how many units of them were read again.
 #[derive(Drop)]
-struct RowsAgain {
-    rows: Vec<Settled>,
+struct LoadsAgain {
+    names: Vec<(UnitName, NameLoad)>,
     fresh: u64,
 }
 
-// Rows in which each unit is read again whose footprint has one of these folders, where each names what it named.
-fn rows_again(
+// Names in which each unit is read again whose footprint has one of these folders, where each names what it named.
+fn loads_again(
     alloc: Global,
     store: &Store,
     host: Option<&HostName>,
-    mains: &Mains,
-    rows: &[Settled],
-    folders: &[Bytes],
-) -> Result<Option<RowsAgain>, AllocError>
-    requires own { All (IsOwnUnit (view_of store.now (option_copied host))) rows.now }
-    ensures again { IfOk result (λ again. IfSome again (λ all. AreRowsAgain (view_of store.now (option_copied host.entry))
-        folders.now mains.now rows.now all.rows.items)) }
+    names: &[(UnitName, NameLoad)],
+    kept: &KeptRows,
+    folders: &[TouchedPart],
+) -> Result<Option<LoadsAgain>, AllocError>
+    requires each { length kept.now.named.items ≡ length names.now }
+    requires own { All (IsOwnUnit (view_of store.now (option_copied host))) names.now }
+    ensures again { IfOk result (λ again. IfSome again (λ all. AreLoadsAgain (view_of store.now (option_copied host.entry))
+        folders.now kept.now.mains names.now kept.now.named.items all.names.items)) }
 {
-    let mut again = Vec::with_capacity(alloc, rows.len())?;
+    let named = kept.named.as_slice();
+    let mut again = Vec::with_capacity(alloc, names.len())?;
     let mut fresh: u64 = 0;
-    for row in rows {
-        let Some(one) = row_again(alloc, store, host, mains, row, folders)? else {
+    for (number, one) in names.iter().enumerate() {
+        let lists = &named[number];
+        let Some(read) = load_again(alloc, store, host, &kept.mains, one, lists, folders)? else {
             return Ok(None);
         };
-        again.push(one.row)?;
-        if one.read {
+        again.push((one.0.try_clone()?, read.load))?;
+        if read.is_fresh {
             fresh = fresh.saturating_add(1);
         }
     }
-    Ok(Some(RowsAgain { rows: again, fresh }))
+    let names = again;
+    Ok(Some(LoadsAgain { names, fresh }))
 }
 
-// A row, and whether it was read again.
+// What a name stands for, and whether it is a unit that was read again.
 #[derive(Drop)]
-struct RowAgain {
-    row: Settled,
-    read: bool,
+struct LoadAgain {
+    load: NameLoad,
+    is_fresh: bool,
 }
 
-// A row that stays, or that is read again where one of these folders is in its unit's footprint.
-fn row_again(
+// What a name stands for: as it was, or read again where one of these folders is in its unit's footprint.
+fn load_again(
     alloc: Global,
     store: &Store,
     host: Option<&HostName>,
     mains: &Mains,
-    row: &Settled,
-    folders: &[Bytes],
-) -> Result<Option<RowAgain>, AllocError>
-    requires own { IsOwnUnit (view_of store.now (option_copied host)) row.now }
-    ensures again { IfOk result (λ again. IfSome again (λ one. IsRowAgain (view_of store.now (option_copied host.entry))
-        folders.now mains.now row.now one.row)) }
+    one: &(UnitName, NameLoad),
+    lists: &NamedLists,
+    folders: &[TouchedPart],
+) -> Result<Option<LoadAgain>, AllocError>
+    requires own { IsOwnUnit (view_of store.now (option_copied host)) one.now }
+    ensures again { IfOk result (λ again. IfSome again (λ read. IsLoadAgain (view_of store.now (option_copied host.entry))
+        folders.now mains.now one.now lists.now read.load)) }
 {
-    if !is_hit(alloc, &row.name, &row.load, folders)? {
-        let row = row.try_clone()?;
-        return Ok(Some(RowAgain { row, read: false }));
+    let (name, load) = one;
+    if !is_hit(alloc, name, load, folders)? {
+        let load = load.try_clone()?;
+        return Ok(Some(LoadAgain {
+            load,
+            is_fresh: false,
+        }));
     }
-    match read_again(alloc, store, host, mains, row)? {
-        Some(row) => Ok(Some(RowAgain { row, read: true })),
+    match read_again(alloc, store, host, mains, one, lists)? {
+        Some(load) => Ok(Some(LoadAgain {
+            load,
+            is_fresh: true,
+        })),
         None => Ok(None),
     }
 }
 
-// The row of a unit that is read again, where it names what it named.
+// A unit that is read again, where it names what it named.
 fn read_again(
     alloc: Global,
     store: &Store,
     host: Option<&HostName>,
     mains: &Mains,
-    row: &Settled,
-) -> Result<Option<Settled>, AllocError>
-    requires own { IsOwnUnit (view_of store.now (option_copied host)) row.now }
-    ensures again { IfOk result (λ again. IfSome again (IsReadAgain (view_of store.now (option_copied host.entry)) mains.now row.now)) }
+    one: &(UnitName, NameLoad),
+    lists: &NamedLists,
+) -> Result<Option<NameLoad>, AllocError>
+    requires own { IsOwnUnit (view_of store.now (option_copied host)) one.now }
+    ensures again { IfOk result (λ again. IfSome again (IsReadAgain (view_of store.now (option_copied host.entry))
+        mains.now one.now lists.now)) }
 {
-    let NameLoad::Unit(was) = &row.load else {
+    let (name, load) = one;
+    let NameLoad::Unit(was) = load else {
         return Ok(None);
     };
-    let unit = read_unit(alloc, store, host, &row.name, was.get())?;
-    if unit.deps.as_slice() == row.lists.as_slice() {
+    let unit = read_unit(alloc, store, host, name, was.get())?;
+    if unit.deps.as_slice() == lists.as_slice() {
         let kept = Kept::fresh(alloc, unit)?;
-        Ok(Some(mains.settle(alloc, row.name.try_clone()?, kept)?))
+        let settled = mains.settle(alloc, name.try_clone()?, kept)?;
+        Ok(Some(settled.load))
     } else {
         Ok(None)
     }

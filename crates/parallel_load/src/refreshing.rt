@@ -8,6 +8,7 @@ ghost use Rattle.parallel_load.specs.Refusals.{OnTooMany, OnWorkers};
 ghost use Rattle.parallel_load.specs.Touched.{HasFolder, IsInFolder};
 ghost use Rattle.parallel_load.specs.Universe.{IsTooLarge};
 
+use crate::apart::TouchedPart;
 use crate::faults::LoadFault;
 use crate::finishing::settled;
 use crate::held::{HeldLoader, still_of};
@@ -18,7 +19,6 @@ use crate::patching::patched;
 use crate::sources::sources;
 use crate::touched::{folders_of, touches_names};
 use name_closure::close_loaded;
-use plain_values::Bytes;
 use replica_store::{Place, Store};
 
 /// The load of a store, made from the load of another, where these places are all at which the two show otherwise: what
@@ -50,7 +50,7 @@ fn close_again(
     loaded: &Loaded,
     store: &Store,
     touched: &[Place],
-    folders: &[Bytes],
+    folders: &[TouchedPart],
 ) -> Result<Loaded, LoadFault>
     requires before { IsBefore loaded.now store.now touched.now }
     requires within { All (IsInFolder loaded.now.host) touched.now }

@@ -5,7 +5,7 @@ ghost use Rattle.std.specs.Option.{option_copied};
 ghost use Rattle.load_places.specs.Levels.{level_for};
 ghost use Rattle.parallel_load.specs.Touched.{HasFolder, IsInFolder};
 
-use plain_values::Bytes;
+use crate::apart::TouchedPart;
 use replica_store::{HostName, Place, Scope};
 use std::alloc::{AllocError, Global};
 
@@ -27,13 +27,13 @@ pub(crate) fn folders_of(
     alloc: Global,
     host: Option<&HostName>,
     touched: &[Place],
-) -> Result<Vec<Bytes>, AllocError>
+) -> Result<Vec<TouchedPart>, AllocError>
     ensures folders { IfOk result (λ folders. All (HasFolder (option_copied host.entry) folders.items) touched.now) }
 {
     let mut folders = Vec::new(alloc);
     for place in touched {
         if is_seen(host, place) {
-            folders.push(Bytes::from_slice(alloc, place.path.folder())?)?;
+            folders.push(TouchedPart::of(alloc, place.path.folder())?)?;
         }
     }
     Ok(folders)

@@ -1,7 +1,3 @@
-use Rattle.std.proofs.Common.{ℕ, List, subst, sym}
-use Rattle.unit_name.specs.Names.{Name}
-use Rattle.parallel_load.specs.LoadRows.{IsKept}
-use Rattle.parallel_load.specs.Settled.{name_lists, name_loads, name_numbers}
 use Rattle.parallel_load.specs.UniverseLaws.{sorted_from}
 use Rattle.parallel_load.proofs.Numbering.{is_ready, settled_load}
 use Rattle.parallel_load.proofs.finishing.settled_by_workers.Goals as goal
@@ -9,8 +5,7 @@ use Rattle.parallel_load.proofs.finishing.settled_by_workers.Goals as goal
 pub load_of-requires : goal.load_of-requires
 load_of-requires g c =
     let ready = is_ready c.args.found.entries _ _ c.in_ok-names.names.items (sorted_from c.args.found.entries c.requires.rising) c.requires.whole c.requires.few c.in_ok-pairs.ensures.mains c.in_ok-pairs.ensures.pairs c.in_ok-names.ensures.names in
-    let P : List (Name × ℕ) → Type 0 = λ ms. IsKept (name_loads c.in_ok-names.names.items) (name_lists c.in_ok-names.names.items) (name_numbers c.in_ok-names.names.items) ms in
-    record { kept = subst P (sym c.in_ok-numbers.ensures.value) ready.kept }
+    record { kept = ready.kept }
 
 pub returns-clause-names : goal.returns-clause-names
 returns-clause-names g c =
