@@ -1,5 +1,6 @@
 pub mod Alone
 pub mod AloneLaws
+pub mod AskedLaws
 pub mod Footprints
 pub mod Found
 pub mod Indexes
