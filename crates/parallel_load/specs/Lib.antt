@@ -1,6 +1,7 @@
 pub mod Alone
 pub mod AloneLaws
 pub mod Apart
+pub mod AskedLaws
 pub mod Footprints
 pub mod Found
 pub mod Indexes

@@ -1,4 +1,5 @@
 //! What is true of all loads: laws, each the contract of a function that does nothing.
+ghost use Rattle.parallel_load.specs.AskedLaws.{SourcesMakeTheLoad, SourcesMakeTheSize};
 ghost use Rattle.parallel_load.specs.KeptLoadLaws.{NameLoadsStay, SameNamesKeepTheUniverse, UniverseStays, WordsKeepVisibleNames};
 ghost use Rattle.parallel_load.specs.LoadLaws.{OneLoad};
 ghost use Rattle.parallel_load.specs.TouchedLaws.{TouchedWordsDecide, UntouchedAgree};
@@ -7,6 +8,13 @@ ghost use Rattle.parallel_load.specs.UniverseLaws.{DependenciesAreLoaded, Depend
 /// A store and names that are asked for have one load.
 pub fn one_load()
     ensures one { OneLoad }
+{}
+
+/// Of the names that are asked for only those count at which nothing is visible: two lists of which each name is visible or
+/// stands in the other have the same load, but for the list itself, and are too large alike.
+pub fn asked_laws()
+    ensures load { SourcesMakeTheLoad }
+    ensures size { SourcesMakeTheSize }
 {}
 
 /// The names of a load are those of the universe: each has its main name there, and that has its unit. A unit's

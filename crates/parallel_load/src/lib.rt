@@ -26,7 +26,7 @@ mod touched;
 
 pub use faults::LoadFault;
 pub use footprints::footprint;
-pub use laws::{kept_load_laws, load_laws, one_load, touched_laws};
+pub use laws::{asked_laws, kept_load_laws, load_laws, one_load, touched_laws};
 pub use loaded::{Dependency, Loaded, NameLoad};
 pub use loads::{MOST_NAMES, load_fleet, load_here};
 pub use refreshing::refresh;

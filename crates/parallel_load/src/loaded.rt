@@ -3,6 +3,7 @@ ghost use Rattle.std.specs.Prelude.{◌≡◌, IfOk, IsTrue, length, map};
 ghost use Rattle.std.specs.FinMap.{is_sorted};
 ghost use Rattle.std.specs.Option.{option_copied};
 ghost use Rattle.unit_name.specs.Names.{name_cmp};
+ghost use Rattle.parallel_load.specs.AskedLaws.{asked_for};
 ghost use Rattle.parallel_load.specs.Loads.{load_at, main_in, unit_in, units_in};
 ghost use Rattle.parallel_load.specs.Numbers.{AreDependencyRows};
 ghost use Rattle.parallel_load.specs.LoadRows.{IsKept};
@@ -125,6 +126,13 @@ impl Loaded {
         ensures extra { result.now ≡ self.now.extra }
     {
         self.extra.as_slice()
+    }
+
+    /// The same, as if these names had been asked for in place of those that were. It takes no memory.
+    pub fn asked_for(self, extra: Items<UnitName>) -> Loaded
+        ensures load { result ≡ asked_for extra self }
+    {
+        Loaded { extra, ..self }
     }
 
     /// All names of the universe in byte order, each with what it stands for. It takes no memory.

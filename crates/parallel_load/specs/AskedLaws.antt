@@ -1,0 +1,68 @@
+-- Which names are asked for counts only for those at which nothing is visible: lists that make the same sources have the same load.
+-- Source: this project's own.
+use Rattle.std.proofs.Common.{◌≡◌, List, refl, inl, inr}
+use Rattle.std.specs.Prelude.{◌↔◌, ◌⊎◌}
+use Rattle.list_laws.specs.Members.{IsAmong}
+use Rattle.name_closure.specs.SourceLaws.{same_closure, same_reached}
+use Rattle.path_maps.specs.Views.{View}
+use Rattle.unit_name.specs.Names.{Name, name_cmp}
+use Rattle.parallel_load.specs.Loads.{IsLoad, LoadMap}
+use Rattle.parallel_load.specs.Universe.{AreUniverse, IsSource, IsTooLarge, IsVisibleName, LeadsTo}
+
+-- each of the names is visible, or is one of the others
+abbrev pub AreSources : View → List Name → List Name → Type 0
+AreSources s others names = (n : Name) → IsAmong n names → IsSource s others n
+
+-- a load in which these names were asked for in place of those that were
+abbrev pub asked_for : List Name → LoadMap → LoadMap
+asked_for extra load = record load { extra = extra }
+
+-- lists of names each of which is visible, or is in the other list, have the same load, but for themselves
+abbrev pub SourcesMakeTheLoad : Type 0
+SourcesMakeTheLoad =
+    (s : View) (a b : List Name) (load : LoadMap) → AreSources s a b → AreSources s b a → IsLoad s a load → IsLoad s b (asked_for b load)
+
+-- and are too large alike
+abbrev pub SourcesMakeTheSize : Type 0
+SourcesMakeTheSize = (s : View) (a b : List Name) → AreSources s a b → AreSources s b a → IsTooLarge s a → IsTooLarge s b
+
+module _ (s : View) (a b : List Name) (there : AreSources s a b) (back : AreSources s b a) where
+  same_sources : (n : Name) → IsSource s a n ↔ IsSource s b n
+  same_sources n = (to, from)
+    where
+      to : IsSource s a n → IsSource s b n
+      to (inl h) = back n h
+      to (inr v) = inr v
+
+      from : IsSource s b n → IsSource s a n
+      from (inl h) = there n h
+      from (inr v) = inr v
+
+  same_steps : (n m : Name) → LeadsTo s n m ↔ LeadsTo s n m
+  same_steps n m = (λ h. h, λ h. h)
+
+  same_universe : (names : List Name) → AreUniverse s a names → AreUniverse s b names
+  same_universe names u = same_closure (IsSource s a) (IsSource s b) (LeadsTo s) (LeadsTo s) same_sources same_steps name_cmp names u
+
+  same_size : IsTooLarge s a → IsTooLarge s b
+  same_size h = record {
+    nodes = h.nodes;
+    rising = h.rising;
+    reached = λ n among. (same_reached (IsSource s a) (IsSource s b) (LeadsTo s) (LeadsTo s) same_sources same_steps n).0 (h.reached n among);
+    over = h.over;
+  }
+
+  same_load : (load : LoadMap) → IsLoad s a load → IsLoad s b (asked_for b load)
+  same_load load l = record {
+    host_is = l.host_is;
+    extra_is = refl;
+    universe = same_universe _ l.universe;
+    loaded = l.loaded;
+    named = l.named;
+  }
+
+pub sources_make_the_load : SourcesMakeTheLoad
+sources_make_the_load s a b load there back l = same_load s a b there back load l
+
+pub sources_make_the_size : SourcesMakeTheSize
+sources_make_the_size s a b there back h = same_size s a b there back h
