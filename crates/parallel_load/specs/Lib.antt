@@ -13,6 +13,8 @@ pub mod LoadRows
 pub mod Loads
 pub mod Numbering
 pub mod Numbers
+pub mod OwnWordLaws
+pub mod OwnWords
 pub mod PairLaws
 pub mod Refreshes
 pub mod Refusals
@@ -22,3 +24,4 @@ pub mod Touched
 pub mod TouchedLaws
 pub mod Universe
 pub mod UniverseLaws
+pub mod Words
