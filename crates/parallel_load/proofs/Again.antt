@@ -32,14 +32,15 @@ use Rattle.parallel_load.specs.KeyLaws.{keys_length}
 use Rattle.parallel_load.specs.LoadRows.{AreLoadsAgain, AreRows, IsKept, IsLoadAgain, IsOwnUnit, IsSettledRow, row_alone}
 use Rattle.parallel_load.specs.Loads.{AreNamedAlone, IsLoad, LoadMap, with_lists}
 use Rattle.parallel_load.specs.Numbering.{AreNumbered, IsMainNumber, main_name}
+use Rattle.parallel_load.specs.OwnWords.{AreOwnWords}
 use Rattle.parallel_load.specs.Refreshes.{IsBefore, IsMissed}
 use Rattle.parallel_load.specs.Settled.{AreSettled, list_numbers, load_numbers, name_lists, name_loads, name_numbers, settled_name}
-use Rattle.parallel_load.specs.Touched.{HasFolder, IsInFolder}
+use Rattle.parallel_load.specs.Touched.{HasParts, KeepsWords}
 use Rattle.parallel_load.specs.Universe.{AreUniverse, IsTooLarge}
 use Rattle.parallel_load.specs.UniverseLaws.{sorted_from}
 use Rattle.parallel_load.proofs.Numbering.{IsReady, is_ready, row_settled}
 use Rattle.parallel_load.proofs.Settling.{load_is, not_too_large, whole_found}
-use Rattle.parallel_load.proofs.Staying.{one_stays, same_leads, same_mains, same_words}
+use Rattle.parallel_load.proofs.Staying.{one_stays, same_leads, same_mains, same_words, words_stay}
 
 -- ---- rows
 
@@ -276,8 +277,8 @@ module _ (s t : View) (folders : List (List ℕ)) (ms : List (Name × ℕ)) wher
 
 -- ---- the load
 
-module _ (load : LoadMap) (now : EntryMap) (touched : List PlaceParts) (b : IsBefore load now touched) (inside : All (IsInFolder load.host) touched)
-    (folders : List (List ℕ)) (has : All (HasFolder load.host folders) touched) (table : List (List Dependency)) (ms : List (Name × ℕ)) (kept : IsKept load.names load.named table ms) where
+module _ (load : LoadMap) (now : EntryMap) (touched : List PlaceParts) (b : IsBefore load now touched) (keep : All (KeepsWords load.host load.words (view_of now load.host)) touched)
+    (folders : List (List ℕ)) (has : All (HasParts load.host folders) touched) (table : List (List Dependency)) (ms : List (Name × ℕ)) (kept : IsKept load.names load.named table ms) where
   abbrev s : View
   s = view_of b.before load.host
 
@@ -302,7 +303,7 @@ module _ (load : LoadMap) (now : EntryMap) (touched : List PlaceParts) (b : IsBe
   own_by n (OfUnit v) lists p u e =
       let same : v ≡ u = cc (e) in
       let P : LoadedUnit → Type 0 = λ w. AreNames t n w.names in
-      let mains = same_mains load now touched b inside in
+      let mains = same_mains load now touched b keep in
       (sym (mains n) ∙ p.main_is, subst P same (mains_decide s t mains n v.names p.names_are))
   own_by n (OfAlias m) lists p u e = cc (e)
 
@@ -317,7 +318,7 @@ module _ (load : LoadMap) (now : EntryMap) (touched : List PlaceParts) (b : IsBe
   -- what stands for each name in the new store
   alone_again : (old new : Settled) → IsAloneRow s old → IsRowAgain t folders ms old new → IsAloneRow t new
   alone_again old new p (inl k) =
-      subst (IsAloneRow t) (sym k.0) (one_stays load now touched b inside folders has old.name old.load old.lists k.1 p)
+      subst (IsAloneRow t) (sym k.0) (one_stays load now touched b keep folders has old.name old.load old.lists k.1 p)
   alone_again old new p (inr r) = subst (IsAloneRow t) (sym r.is) r.is_unit
 
   all_alone : (some news : List Settled) → All (IsAloneRow s) some → AreRowsAgain t folders ms some news → All (IsAloneRow t) news
@@ -345,7 +346,7 @@ module _ (load : LoadMap) (now : EntryMap) (touched : List PlaceParts) (b : IsBe
   keeps_row old new n (OfUnit u) e own p (inl k) =
       let P : NameLoad → Type 0 = λ one. IsMissed folders old.name one in
       keeps_unit old.name u old.lists p (record u { deps = old.lists })
-      (one_stays load now touched b inside folders has old.name (OfUnit u) old.lists (subst P e k.1) p) refl
+      (one_stays load now touched b keep folders has old.name (OfUnit u) old.lists (subst P e k.1) p) refl
   keeps_row old new n (OfUnit u) e own p (inr r) = keeps_unit old.name u old.lists p r.unit r.is_unit r.names_stay
   keeps_row old new n (OfAlias m) e own p h = absurd (p.other (sym p.main_is ∙ own))
 
@@ -366,8 +367,8 @@ module _ (load : LoadMap) (now : EntryMap) (touched : List PlaceParts) (b : IsBe
     universe_again =
         let names : names_of olds ≡ keys_of load.names = sym (loads_keys olds) ∙ sym (ap (λ (ps : List (Name × NameLoad)). keys_of ps) rows.names_are) in
         subst (AreUniverse t load.extra) keys_again
-        (same_names_keep_the_universe s t load.extra (keys_of load.names) (same_leads load now touched b inside)
-        (words_keep_visible_names s t (same_words load now touched b inside))
+        (same_names_keep_the_universe s t load.extra (keys_of load.names) (same_leads load now touched b keep)
+        (words_keep_visible_names s t (same_words load now touched b keep))
         (λ n r own. keeps olds news olds_alone again n own (let P : List Name → Type 0 = λ ks. IsAmong n ks in subst P (sym names) ((b.load_is.universe.members n).1 r)))
         b.load_is.universe)
 
@@ -394,12 +395,14 @@ module _ (load : LoadMap) (now : EntryMap) (touched : List PlaceParts) (b : IsBe
         (let P : ℕ → Type 0 = λ k. k ≤ 4096 in subst P (keys_length (map row_alone news)) few_again)
         numbered_again refl (made_of ms news (all_settled t folders ms olds news again rows.settled))
 
-    rows_load : (new : LoadMap) → new.host ≡ load.host → new.extra ≡ load.extra → new.names ≡ name_loads news → new.named ≡ name_lists news → IsLoad t load.extra new
-    rows_load new host extra names named =
+    rows_load : (new : LoadMap) → new.host ≡ load.host → new.extra ≡ load.extra → new.names ≡ name_loads news → new.named ≡ name_lists news → new.words ≡ load.words
+        → IsLoad t load.extra new
+    rows_load new host extra names named words =
         let P : List (Name × NameLoad) → Type 0 = λ ps. AreSettled (map row_alone news) ps new.named in
         let Q : List (List DependencyList) → Type 0 = λ ls. AreSettled (map row_alone news) (name_loads news) ls in
         load_is t load.extra (map row_alone news) found_again new (host ∙ sym (one_looker now load.host)) extra
         (subst P (sym names) (subst Q (sym named) ready_again.settled))
+        (subst (AreOwnWords t) (sym words) (words_stay load now touched b keep))
 
     rows_few : ¬ IsTooLarge t load.extra
     rows_few = not_too_large t load.extra (map row_alone news) found_again
@@ -430,8 +433,8 @@ module _ (load : LoadMap) (now : EntryMap) (touched : List PlaceParts) (b : IsBe
         let R : List (List Dependency) → Type 0 = λ ds. IsKept (name_loads all) (name_lists all) ds ms in
         subst P loads_are (subst Q lists_are (subst R (numbers_with s t folders ms olds news again_here ∙ sym kept.table_is) (ready_again all all_again).kept))
 
-    pub load_again : (new : LoadMap) → new.host ≡ load.host → new.extra ≡ load.extra → new.names ≡ news → new.named ≡ load.named → IsLoad t load.extra new
-    load_again new host extra names named = rows_load all all_again new host extra (names ∙ sym loads_are) (named ∙ sym lists_are)
+    pub load_again : (new : LoadMap) → new.host ≡ load.host → new.extra ≡ load.extra → new.names ≡ news → new.named ≡ load.named → new.words ≡ load.words → IsLoad t load.extra new
+    load_again new host extra names named words = rows_load all all_again new host extra (names ∙ sym loads_are) (named ∙ sym lists_are) words
 
     pub few_is : ¬ IsTooLarge t load.extra
     few_is = rows_few all all_again

@@ -35,7 +35,7 @@ second_true true b h = h
 second_true false b h = cc (h)
 
 -- what a test of all elements has told
-same_by : {X : Type 0} (E : X → X → Bool) → ((x y : X) → E x y ≡ true → x ≡ y) → (xs ys : List X) → pointwise E xs ys ≡ true → xs ≡ ys
+pub same_by : {X : Type 0} (E : X → X → Bool) → ((x y : X) → E x y ≡ true → x ≡ y) → (xs ys : List X) → pointwise E xs ys ≡ true → xs ≡ ys
 same_by E f [] [] h = refl
 same_by E f [] (y ∷ ys) h = cc (h)
 same_by E f (x ∷ xs) [] h = cc (h)

@@ -1,6 +1,7 @@
 mod Again
 mod Begins
 mod Closing
+mod Gathering
 mod Keeping
 mod Numbering
 mod Pieces

@@ -39,6 +39,7 @@ use Rattle.parallel_load.specs.Found.{IsFound}
 use Rattle.parallel_load.specs.Indexes.{key_at}
 use Rattle.parallel_load.specs.Loads.{AreNamedAlone, IsLoad, IsNameLoad, IsNamedAlone, LoadMap, by_mains, list_by_mains, lists_in}
 use Rattle.parallel_load.specs.Numbering.{AreNumbered, main_name}
+use Rattle.parallel_load.specs.OwnWords.{AreOwnWords, NamedWords}
 use Rattle.parallel_load.specs.Settled.{AreSettled, IsWhole, list_settled, load_settled, name_lists, name_loads, other_mains, other_numbers, settled_name, unit_settled, unless_unit}
 use Rattle.parallel_load.specs.Universe.{AreUniverse, IsSource, IsTooLarge, LeadsTo}
 use Rattle.parallel_load.specs.UniverseLaws.{all_among, sorted_from}
@@ -171,8 +172,8 @@ module _ (s : View) (extra : List Name) (found : List (Name × NameLoad)) (f : I
   whole_found = whole_from s found f.loaded next
 
   -- and is the load, with main names put in
-  pub load_is : (load : LoadMap) → load.host ≡ looker_of s → load.extra ≡ extra → AreSettled found load.names load.named → IsLoad s extra load
-  load_is load host asked settled = record {
+  pub load_is : (load : LoadMap) → load.host ≡ looker_of s → load.extra ≡ extra → AreSettled found load.names load.named → AreOwnWords s load.words → IsLoad s extra load
+  load_is load host asked settled words = record {
     host_is = host;
     extra_is = asked;
     universe = subst (AreUniverse s extra)
@@ -180,6 +181,7 @@ module _ (s : View) (extra : List Name) (found : List (Name × NameLoad)) (f : I
     loaded = subst (AreLoaded (IsNameLoad s)) (sym settled.names_are)
         (settled_loaded s found f.loaded (sorted_from found f.universe.rising) whole_found settled.mains settled.numbered);
     named = named_is s _ load.names _ load.named (sym settled.names_are) (sym settled.named_are) (named_all s settled.mains found f.loaded);
+    words = words;
   }
 
   -- which isn't too large
@@ -226,9 +228,9 @@ module _ (s index : View) (is : index ≡ s) (extra sources names : List Name)
   over_there there.TooMany over = over_from over
   over_there there.Memory over = tt
 
--- the sources of what is seen
-pub seen_sources : (v w : View) (extra names : List Name) → v ≡ w → ((n : Name) → IsAmong n names ↔ IsSource v extra n) → (n : Name) → IsAmong n names ↔ IsSource w extra n
-seen_sources v w extra names e h = subst (λ (u : View). (n : Name) → IsAmong n names ↔ IsSource u extra n) e h
+-- the words of what is seen
+pub seen_words : (v w : View) (now words : NamedWords) → v ≡ w → now ≡ words → AreOwnWords v words → AreOwnWords w now
+seen_words v w now words e f h = both AreOwnWords v w words now e (sym f) h
 
 -- the refusal of a closure is told of the load
 pub refused_over : {T : Type 0} (r : Result T LoadFault) (f : LoadFault) (P : Type 0) → IsErrAnd r (λ e. e ≡ f) → OnTooMany f P

@@ -11,14 +11,12 @@ use Rattle.list_laws.specs.Members.{IsAmong, IsAmong-append_left, IsAmong-append
 use Rattle.load_places.specs.Levels.{Looker, level_for}
 use Rattle.load_places.specs.Places.{PlaceParts}
 use Rattle.edit_sums.specs.Sums.{EntryMap, visible_at}
-use Rattle.path_maps.specs.SeenLaws.{places_decide_sights}
 use Rattle.path_maps.specs.Views.{View, view_of}
 use Rattle.sorted_pairs.specs.PlaceLaws.{find_at}
 use Rattle.sorted_pairs.specs.Places.{IsAt}
 use Rattle.unit_name.specs.Names.{Name, name_cmp}
 use Rattle.setting_rules.specs.declared.dependency_lists.DependencyList.{DependencyList}
-use Rattle.fragment_choice.specs.AliasWordLaws.{SameWords, alias_words_decide, sights_decide_words}
-use Rattle.fragment_choice.specs.Choices.{own_path}
+use Rattle.fragment_choice.specs.AliasWordLaws.{SameWords, alias_words_decide}
 use Rattle.fragment_choice.specs.LeadsLaws.{SameLeads, leads_decide_mains}
 use Rattle.fragment_choice.specs.Resolutions.{main}
 use Rattle.unit_loads.specs.declared.units.Unit.{Unit as LoadedUnit}
@@ -32,13 +30,16 @@ use Rattle.parallel_load.specs.Apart.{IsMissedBy}
 use Rattle.parallel_load.specs.Footprints.{IsNone}
 use Rattle.parallel_load.specs.KeyLaws.{sorted_by_keys}
 use Rattle.parallel_load.specs.Loads.{AreNamedAlone, IsNamedAlone, LoadMap, with_lists}
+use Rattle.parallel_load.specs.OwnWordLaws.{words_again, words_are}
+use Rattle.parallel_load.specs.OwnWords.{AreOwnWords, NamedWords}
 use Rattle.parallel_load.specs.PairLaws.{find_among}
 use Rattle.parallel_load.specs.Refreshes.{AreStill, IsBefore, IsHeldOn, IsMissed, IsStill}
-use Rattle.parallel_load.specs.Touched.{HasFolder, IsInFolder}
+use Rattle.parallel_load.specs.Touched.{AddsParts, HasParts, KeepsWords}
+use Rattle.parallel_load.specs.Sources.{AreSourcesBy}
+use Rattle.parallel_load.specs.TouchedLaws.{touched_words_decide}
 use Rattle.parallel_load.specs.Universe.{IsSource}
 use Rattle.parallel_load.specs.UniverseLaws.{all_among}
 use Rattle.parallel_load.proofs.Keeping.{all_more}
-use Rattle.parallel_load.proofs.Settling.{seen_sources}
 
 -- what is named alone by the name that has a number
 named_at : (s : View) (names : List (Name × NameLoad)) (named : List (List DependencyList)) (i : ℕ) (p : Name × NameLoad) → AreNamedAlone s names named → i < length names
@@ -49,7 +50,7 @@ named_at s (q ∷ names) [] i p h l = absurd h
 named_at s (q ∷ names) (x ∷ named) zero p h l = h.0
 named_at s (q ∷ names) (x ∷ named) (suc i) p h l = named_at s names named i p h.1 (omega arith)
 
-module _ (load : LoadMap) (now : EntryMap) (touched : List PlaceParts) (b : IsBefore load now touched) (inside : All (IsInFolder load.host) touched) where
+module _ (load : LoadMap) (now : EntryMap) (touched : List PlaceParts) (b : IsBefore load now touched) (keep : All (KeepsWords load.host load.words (view_of now load.host)) touched) where
   abbrev s : View
   s = view_of b.before load.host
 
@@ -64,17 +65,15 @@ module _ (load : LoadMap) (now : EntryMap) (touched : List PlaceParts) (b : IsBe
       by (inl a) = absurd (spared a)
       by (inr e) = e
 
-  own_same : (p : PlaceParts) → IsSome (level_for load.host p) → p.path.folder ≡ [] → visible_at b.before p ≡ visible_at now p
-  own_same p l e = untouched p (λ a. all_among (IsInFolder load.host) touched p inside a l e)
-
-  some_level : (p : PlaceParts) (level : ℕ) → level_for load.host p ≡ Some level → IsSome (level_for load.host p)
-  some_level p level e = let P : Option ℕ → Type 0 = λ o. IsSome o in subst P (sym e) refl
-
-  -- so the words of all names stay
+  -- the words of all names stay
   pub same_words : SameWords s t
-  same_words n =
-      sights_decide_words s t n (λ level l.
-      places_decide_sights b.before now load.host (own_path n level) (λ place lvl folder name. own_same place (some_level place _ lvl) folder))
+  same_words =
+      touched_words_decide b.before now load.host touched b.rest
+      (λ p a e l. sym (words_are s load.words b.load_is.words p.path.name) ∙ all_among (KeepsWords load.host load.words t) touched p keep a l e)
+
+  -- and what is kept of them
+  pub words_stay : AreOwnWords t load.words
+  words_stay = words_again s t load.words same_words b.load_is.words
 
   -- and what leads to what
   pub same_leads : SameLeads s t
@@ -83,11 +82,11 @@ module _ (load : LoadMap) (now : EntryMap) (touched : List PlaceParts) (b : IsBe
   pub same_mains : (n : Name) → main s n ≡ main t n
   same_mains = leads_decide_mains s t same_leads
 
-  module _ (folders : List (List ℕ)) (has : All (HasFolder load.host folders) touched) where
-    -- what misses the folders shows the same
+  module _ (folders : List (List ℕ)) (has : All (HasParts load.host folders) touched) where
+    -- what misses the touched parts shows the same
     agree : (parts : List (List ℕ)) → ((f : List ℕ) → IsAmong f folders → ¬ IsAmong f parts) → StoresAgreeIn b.before now load.host parts
-    agree parts missed p (alone e a) l = own_same p l e
-    agree parts missed p (within a) l = untouched p (λ h. missed p.path.folder (all_among (HasFolder load.host folders) touched p has h l) a)
+    agree parts missed p (alone e a) l = untouched p (λ h. missed p.path.name ((all_among (HasParts load.host folders) touched p has h l).1 e) a)
+    agree parts missed p (within a) l = untouched p (λ h. missed p.path.folder (all_among (HasParts load.host folders) touched p has h l).0 a)
 
     unit_stays : (n : Name) (u : LoadedUnit) → IsMissed folders n (OfUnit u) → IsLoadAlone s n (OfUnit u) → IsLoadAlone t n (OfUnit u)
     unit_stays n u missed is = store_footprints_decide b.before now load.host n u same_leads (agree (footprint n u.names) missed) is
@@ -143,19 +142,21 @@ missed_far folders n u load names e f h =
     let P : List Name → Type 0 = λ ns. All (IsMissedBy n ns) folders in
     subst (IsMissed folders n) (sym e) (λ folder a. all_among (IsMissedBy n u.names) folders folder (subst P f h) a)
 
--- one more folder, of one more place
-pub folder_more : (host : Looker) (folders : List (List ℕ)) (folder : List ℕ) (touched : List PlaceParts) (i : ℕ) (d x : PlaceParts) → i < length touched → x ≡ get_or touched i d
-    → folder ≡ x.path.folder → All (HasFolder host folders) (take i touched) → All (HasFolder host (folders ++ folder ∷ [])) (take (i + 1) touched)
-folder_more host folders folder touched i d x l e f h =
-    all_more (HasFolder host (folders ++ folder ∷ [])) touched i d x l e
-    (All-weaker (HasFolder host folders) (HasFolder host (folders ++ folder ∷ [])) (λ p k s. IsAmong-append_left p.path.folder folders (folder ∷ []) (k s)) (take i touched) h)
-    (λ s. IsAmong-append_right x.path.folder folders (folder ∷ []) (inl f))
+-- the parts of one more place
+pub parts_more : (host : Looker) (old new : List (List ℕ)) (touched : List PlaceParts) (i : ℕ) (d x : PlaceParts) → i < length touched → x ≡ get_or touched i d
+    → AddsParts x.path old new → All (HasParts host old) (take i touched) → All (HasParts host new) (take (i + 1) touched)
+parts_more host old new touched i d x l e adds h =
+    let there : (f : List ℕ) → IsAmong f (old ++ adds.more) → IsAmong f new = λ f a. subst (λ (fs : List (List ℕ)). IsAmong f fs) (sym adds.added) a in
+    all_more (HasParts host new) touched i d x l e
+    (All-weaker (HasParts host old) (HasParts host new)
+    (λ p k s. (there p.path.folder (IsAmong-append_left p.path.folder old adds.more (k s).0), λ z. there p.path.name (IsAmong-append_left p.path.name old adds.more ((k s).1 z)))) (take i touched) h)
+    (λ s. (there x.path.folder (IsAmong-append_right x.path.folder old adds.more adds.folder), λ z. there x.path.name (IsAmong-append_right x.path.name old adds.more (adds.name z))))
 
 -- or of one that isn't looked at
-pub folder_same : (host : Looker) (folders : List (List ℕ)) (touched : List PlaceParts) (i : ℕ) (d x : PlaceParts) → i < length touched → x ≡ get_or touched i d
-    → is_some (level_for host x) ≡ false → All (HasFolder host folders) (take i touched) → All (HasFolder host folders) (take (i + 1) touched)
-folder_same host folders touched i d x l e f h =
-    all_more (HasFolder host folders) touched i d x l e h (λ s. absurd (let wrong : false ≡ true = sym f ∙ s in cc (wrong)))
+pub parts_same : (host : Looker) (parts : List (List ℕ)) (touched : List PlaceParts) (i : ℕ) (d x : PlaceParts) → i < length touched → x ≡ get_or touched i d
+    → is_some (level_for host x) ≡ false → All (HasParts host parts) (take i touched) → All (HasParts host parts) (take (i + 1) touched)
+parts_same host parts touched i d x l e f h =
+    all_more (HasParts host parts) touched i d x l e h (λ s. absurd (let wrong : false ≡ true = sym f ∙ s in cc (wrong)))
 
 same_default : {X : Type 0} (xs : List X) (i : ℕ) (d e : X) → i < length xs → get_or xs i d ≡ get_or xs i e
 same_default [] i d e l = absurd (omega arith)
@@ -208,9 +209,9 @@ still_all folders names names' named named' i now e f l h =
     let Q : List (List DependencyList) → Type 0 = λ ls. AreStill folders names ls now in
     subst P e (subst Q f (record { keys_are = h.0 ∙ ap (λ (ps : List (Name × NameLoad)). keys_of ps) (take_all i names l); each = h.1 }))
 
--- the sources of a store for a host, of what is asked for
-pub same_sources : (store : EntryMap) (own host : Looker) (seen : View) (asked extra sources : List Name) → own ≡ host → seen ≡ view_of store own → asked ≡ extra
-    → ((n : Name) → IsAmong n sources ↔ IsSource seen asked n) → (n : Name) → IsAmong n sources ↔ IsSource (view_of store host) extra n
-same_sources store own host seen asked extra sources e f g h =
-    let P : List Name → Type 0 = λ ns. (n : Name) → IsAmong n sources ↔ IsSource (view_of store host) ns n in
-    subst P g (seen_sources seen (view_of store host) asked sources (f ∙ ap (view_of store) e) h)
+-- the sources of what is asked for, where the words that are kept are those of the view
+pub same_sources : (v : View) (words kept : NamedWords) (asked extra sources : List Name) → kept ≡ words → asked ≡ extra → AreOwnWords v words → AreSourcesBy kept asked sources
+    → (n : Name) → IsAmong n sources ↔ IsSource v extra n
+same_sources v words kept asked extra sources e f own h =
+    let P : List Name → Type 0 = λ ns. (n : Name) → IsAmong n sources ↔ IsSource v ns n in
+    subst P f (h v (subst (AreOwnWords v) (sym e) own))

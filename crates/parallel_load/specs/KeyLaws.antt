@@ -7,7 +7,10 @@ use Rattle.std.specs.FinMap.Entries.{find, is_sorted, below_all}
 use Rattle.std.specs.Ordering.{is_eq, is_lt}
 use Rattle.std.specs.declared.cmp.Ordering.{Ordering}
 use Rattle.std.specs.declared.cmp.Ordering.TheVariants.{Less, Equal, Greater}
-use Rattle.std.proofs.lemmas.Bool.{and_parts}
+use Rattle.std.specs.List.{AllByRecursion}
+use Rattle.std.specs.List.Sorted.{IsStrictlySortedBy}
+use Rattle.std.proofs.lemmas.Bool.{and_from, and_parts}
+use Rattle.std.proofs.lemmas.Map.Keys.{sorted_head, sorted_tail}
 use Rattle.std.proofs.lemmas.Cmp.{tied_itself}
 use Rattle.std.proofs.lemmas.Option.{none-some}
 use Rattle.list_laws.specs.Orderings.{is_less, turned}
@@ -83,6 +86,16 @@ module _ {K V W : Type 0} (R : K → K → Ordering) where
       let below : below_all R e.0 es ≡ below_all R f.0 fs = ap (λ k. below_all R k es) first ∙ below_by_keys f.0 es fs keys in
       let rest : is_sorted R es ≡ is_sorted R fs = sorted_by_keys es fs keys in
       ap (λ b. b && is_sorted R es) below ∙ ap (λ b. below_all R f.0 fs && b) rest
+
+-- so are pairs whose keys rise
+module _ {K V : Type 0} (R : K → K → Ordering) where
+  below_from : (x : K) (es : List (K × V)) → AllByRecursion (λ y. R x y ≡ Less) (keys_of es) → IsTrue (below_all R x es)
+  below_from x [] h = refl
+  below_from x (e ∷ es) h = and_from _ _ (ap is_lt h.0) (below_from x es h.1)
+
+  pub sorted_from_keys : (es : List (K × V)) → IsStrictlySortedBy R (keys_of es) → IsTrue (is_sorted R es)
+  sorted_from_keys [] h = refl
+  sorted_from_keys (e ∷ es) h = and_from _ _ (below_from e.0 es (sorted_head R e.0 (keys_of es) h)) (sorted_from_keys es (sorted_tail R e.0 (keys_of es) h))
 
 -- the key that a search finds stands at the place
 pub key_found : {K V : Type 0} (R : K → K → Ordering) → IsAntisymmetric R → (k : K) (es : List (K × V)) (i : ℕ) (d : K) → IsAt R k es i → get_or (keys_of es) i d ≡ k

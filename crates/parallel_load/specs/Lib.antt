@@ -14,6 +14,8 @@ pub mod LoadRows
 pub mod Loads
 pub mod Numbering
 pub mod Numbers
+pub mod OwnWordLaws
+pub mod OwnWords
 pub mod PairLaws
 pub mod Refreshes
 pub mod Refusals
@@ -23,3 +25,4 @@ pub mod Touched
 pub mod TouchedLaws
 pub mod Universe
 pub mod UniverseLaws
+pub mod Words

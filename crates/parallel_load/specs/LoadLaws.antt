@@ -14,6 +14,7 @@ use Rattle.parallel_load.specs.declared.loaded.NameLoad.{NameLoad}
 use Rattle.parallel_load.specs.declared.loaded.NameLoad.TheVariants.{Unit as OfUnit, Alias as OfAlias}
 use Rattle.parallel_load.specs.AloneLaws.{one_of_name}
 use Rattle.parallel_load.specs.Loads.{AreNamedAlone, IsLoad, IsNameLoad, IsNamedAlone, LoadMap, by_mains, lists_in, with_lists}
+use Rattle.parallel_load.specs.OwnWordLaws.{one_list_of_words}
 use Rattle.parallel_load.specs.Universe.{IsSource, LeadsTo}
 
 -- A store and names that are asked for have one load.
@@ -48,4 +49,5 @@ one_load s extra a b p q =
     let host = p.host_is ∙ sym q.host_is in
     let asked = p.extra_is ∙ sym q.extra_is in
     let named = one_named s a.names a.named b.named p.named (subst (λ (ps : List (Name × NameLoad)). AreNamedAlone s ps b.named) (sym names) q.named) in
-    (λ i. record { host = host i; extra = asked i; names = names i; named = named i })
+    let words = one_list_of_words s a.words b.words p.words q.words in
+    (λ i. record { host = host i; extra = asked i; names = names i; named = named i; words = words i })

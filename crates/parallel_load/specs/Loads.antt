@@ -21,6 +21,7 @@ use Rattle.parallel_load.specs.contracts.loaded.NameLoad as one
 use Rattle.parallel_load.specs.declared.loaded.NameLoad.{NameLoad}
 use Rattle.parallel_load.specs.declared.loaded.NameLoad.TheVariants.{Unit as OfUnit, Alias as OfAlias}
 use Rattle.parallel_load.specs.Alone.{IsAliasOf, IsLoadAlone}
+use Rattle.parallel_load.specs.OwnWords.{AreOwnWords, NamedWords, coded_named_words}
 use Rattle.parallel_load.specs.Universe.{AreUniverse}
 
 -- ---- dependencies by main names
@@ -76,22 +77,24 @@ AreNamedAlone s (p ∷ ps) (l ∷ ls) = IsNamedAlone s p.0 p.1 l × AreNamedAlon
 -- ---- the load
 
 -- What is loaded: for which host, if for one, the names that were asked for, all names in byte order, each with what it stands for, and for each name the
--- lists of what that names itself, before main names are put in.
+-- lists of what that names itself, before main names are put in; beside it what the places of one component say of aliases.
 pub record LoadMap : Type 0 where
   pub host : Looker
   pub extra : List Name
   pub names : List (Name × NameLoad)
   pub named : List (List DependencyList)
+  pub words : NamedWords
 
 abbrev pub coded_name_load : Coded NameLoad
 coded_name_load = (one.the_row).coded
 
 abbrev pub coded_load : Coded LoadMap
 coded_load =
-    code_by (Looker × (List Name × (List (Name × NameLoad) × List (List DependencyList))))
+    code_by (Looker × (List Name × (List (Name × NameLoad) × (List (List DependencyList) × NamedWords))))
     (coded× (coded_option (coded_list coded_ℕ))
-    (coded× (coded_list (coded_list coded_ℕ)) (coded× (coded_list (coded× (coded_list coded_ℕ) (one.the_row).coded)) (coded_list (coded_list (list.the_row).coded)))))
-    (λ l. (l.host, (l.extra, (l.names, l.named)))) (λ p. record { host = p.0; extra = p.1.0; names = p.1.1.0; named = p.1.1.1 }) (λ _. refl)
+    (coded× (coded_list (coded_list coded_ℕ)) (coded× (coded_list (coded× (coded_list coded_ℕ) (one.the_row).coded)) (coded× (coded_list (coded_list (list.the_row).coded)) coded_named_words))))
+    (λ l. (l.host, (l.extra, (l.names, (l.named, l.words)))))
+    (λ p. record { host = p.0; extra = p.1.0; names = p.1.1.0; named = p.1.1.1.0; words = p.1.1.1.1 }) (λ _. refl)
 
 -- This is the load of what is looked at of a store, with the names that are asked for.
 pub record IsLoad (s : View) (extra : List Name) (load : LoadMap) : Type 0 where
@@ -100,6 +103,7 @@ pub record IsLoad (s : View) (extra : List Name) (load : LoadMap) : Type 0 where
   pub universe : AreUniverse s extra (keys_of load.names)
   pub loaded : AreLoaded (IsNameLoad s) load.names
   pub named : AreNamedAlone s load.names load.named
+  pub words : AreOwnWords s load.words
 
 -- ---- what is read from it
 

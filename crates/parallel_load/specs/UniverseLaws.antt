@@ -3,16 +3,12 @@ use Rattle.std.proofs.Common.{◌≡◌, suc, Bool, true, false, not, Option, So
 use Rattle.std.specs.Prelude.{◌↔◌, ◌≢◌}
 use Rattle.std.specs.Cmp.Lexicographic.{nat_list_cmp_total}
 use Rattle.std.specs.FinMap.{slice_cmp-IsAntisymmetric, nat_cmp-IsAntisymmetric}
-use Rattle.std.specs.FinMap.Entries.{is_sorted, below_all}
-use Rattle.std.specs.List.{All, AllByRecursion, Contains}
+use Rattle.std.specs.FinMap.Entries.{is_sorted}
+use Rattle.std.specs.List.{All, Contains}
 use Rattle.std.specs.List.Sorted.{IsStrictlySortedBy}
 use Rattle.std.specs.Map.{keys_of}
 use Rattle.std.specs.Option.{option_and_then, option_map}
-use Rattle.std.specs.Ordering.{is_lt}
-use Rattle.std.specs.declared.cmp.Ordering.TheVariants.{Less}
-use Rattle.std.proofs.lemmas.Bool.{and_from}
 use Rattle.std.proofs.lemmas.List.Elements.{All-head, All-tail}
-use Rattle.std.proofs.lemmas.Map.Keys.{sorted_head, sorted_tail}
 use Rattle.list_laws.specs.Members.{IsAmong, among_from_contains, contains_from_among}
 use Rattle.path_maps.specs.Views.{View}
 use Rattle.unit_name.specs.Names.{Name, name_cmp}
@@ -29,6 +25,7 @@ use Rattle.unit_loads.specs.NameLaws.{lists_have_what_is_named}
 use Rattle.unit_loads.specs.NamedUnits.{IsListed, IsNamed}
 use Rattle.parallel_load.specs.declared.loaded.NameLoad.{NameLoad}
 use Rattle.parallel_load.specs.declared.loaded.NameLoad.TheVariants.{Unit as OfUnit, Alias as OfAlias}
+use Rattle.parallel_load.specs.KeyLaws.{sorted_from_keys}
 use Rattle.parallel_load.specs.Loads.{IsLoad, IsLoadedUnit, IsNameLoad, LoadMap, list_by_mains, load_at, main_in, main_part, unit_in, unit_part}
 use Rattle.parallel_load.specs.PairLaws.{among_find, find_among}
 use Rattle.parallel_load.specs.Universe.{IsInUniverse}
@@ -70,13 +67,8 @@ DependenciesAreLoaded = (s : View) (extra : List Name) (load : LoadMap) (n : Nam
 
 -- ---- what stands in a load
 
-below_from : (x : Name) (es : List (Name × NameLoad)) → AllByRecursion (λ y. name_cmp x y ≡ Less) (keys_of es) → IsTrue (below_all name_cmp x es)
-below_from x [] h = refl
-below_from x (e ∷ es) h = and_from _ _ (ap is_lt h.0) (below_from x es h.1)
-
 pub sorted_from : (es : List (Name × NameLoad)) → IsStrictlySortedBy name_cmp (keys_of es) → IsTrue (is_sorted name_cmp es)
-sorted_from [] h = refl
-sorted_from (e ∷ es) h = and_from _ _ (below_from e.0 es (sorted_head name_cmp e.0 (keys_of es) h)) (sorted_from es (sorted_tail name_cmp e.0 (keys_of es) h))
+sorted_from es h = sorted_from_keys name_cmp es h
 
 -- what holds of all holds of each
 pub all_among : {X : Type 0} (P : X → Type 0) (xs : List X) (x : X) → All P xs → IsAmong x xs → P x

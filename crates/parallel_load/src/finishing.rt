@@ -13,6 +13,7 @@ use crate::kept::{Kept, NamedLists};
 use crate::loaded::{Dependency, KeptRows, Loaded, NameLoad};
 use crate::loader::add_names;
 use crate::mains::{Mains, Settled};
+use crate::words::KeptWords;
 use plain_values::{Items, Shared};
 use replica_store::HostName;
 use std::alloc::{AllocError, Global};
@@ -26,6 +27,7 @@ pub(crate) fn settled(
     alloc: Global,
     host: Option<&HostName>,
     extra: &[UnitName],
+    words: Shared<KeptWords>,
     found: BTreeMap<UnitName, Kept>,
 ) -> Result<Loaded, AllocError>
     requires rising { IsStrictlySortedBy name_cmp (keys found) }
@@ -34,11 +36,12 @@ pub(crate) fn settled(
     ensures host { IfOk result (λ load. load.host ≡ option_copied host.entry) }
     ensures extra { IfOk result (λ load. load.extra ≡ extra.now) }
     ensures names { IfOk result (λ load. AreSettled found.entries load.names load.named) }
+    ensures words { IfOk result (λ load. load.words ≡ words) }
 {
     let Found { pairs, mains } = found_of(alloc, found)?;
     let fresh = fresh_among(&pairs);
     let names = mains.settle_all(alloc, pairs)?;
-    load_of(alloc, host, extra, names, mains, fresh)
+    load_of(alloc, host, extra, words, names, mains, fresh)
 }
 
 /// The same, where so many workers put the main names in, each for a share of the names. It may wait for threads.
@@ -47,6 +50,7 @@ pub(crate) fn settled_by_workers<R: Threads + Sync>(
     alloc: Global,
     host: Option<&HostName>,
     extra: &[UnitName],
+    words: Shared<KeptWords>,
     found: BTreeMap<UnitName, Kept>,
     workers: usize,
 ) -> Result<Loaded, AllocError>
@@ -57,11 +61,12 @@ pub(crate) fn settled_by_workers<R: Threads + Sync>(
     ensures host { IfOk result (λ load. load.host ≡ option_copied host.entry) }
     ensures extra { IfOk result (λ load. load.extra ≡ extra.now) }
     ensures names { IfOk result (λ load. AreSettled found.entries load.names load.named) }
+    ensures words { IfOk result (λ load. load.words ≡ words) }
 {
     let Found { pairs, mains } = found_of(alloc, found)?;
     let fresh = fresh_among(&pairs);
     let names = settle_by_workers(rt, alloc, &mains, pairs, workers)?;
-    load_of(alloc, host, extra, names, mains, fresh)
+    load_of(alloc, host, extra, words, names, mains, fresh)
 }
 
 // What was found, in order, and the numbers of main names.
@@ -132,6 +137,7 @@ fn load_of(
     alloc: Global,
     host: Option<&HostName>,
     extra: &[UnitName],
+    words: Shared<KeptWords>,
     settled: Vec<Settled>,
     mains: Mains,
     fresh: u64,
@@ -141,9 +147,16 @@ fn load_of(
     ensures extra { IfOk result (λ load. load.extra ≡ extra.now) }
     ensures names { IfOk result (λ load. load.names ≡ name_loads settled.items) }
     ensures named { IfOk result (λ load. load.named ≡ name_lists settled.items) }
+    ensures words { IfOk result (λ load. load.words ≡ words) }
 {
     let Parts { names, named, deps } = parts_of(alloc, settled)?;
-    let kept = Shared::new(alloc, KeptRows { named, deps, mains })?;
+    let kept = KeptRows {
+        named,
+        deps,
+        mains,
+        words,
+    };
+    let kept = Shared::new(alloc, kept)?;
     load_with(alloc, host, extra, names, kept, fresh)
 }
 
@@ -161,6 +174,7 @@ pub(crate) fn load_with(
     ensures extra { IfOk result (λ load. load.extra ≡ extra.now) }
     ensures names { IfOk result (λ load. load.names ≡ names.items) }
     ensures named { IfOk result (λ load. load.named ≡ kept.named.items) }
+    ensures words { IfOk result (λ load. load.words ≡ kept.words) }
 {
     let host = copy_of(host)?;
     let mut asked = Vec::new(alloc);

@@ -53,12 +53,12 @@ pub(crate) fn parts_of(
     Ok(parts)
 }
 
-/// Whether one of these folders is one of a footprint.
-pub(crate) fn meets(parts: &[Bytes], folders: &[TouchedPart]) -> bool
-    ensures none { result ≡ false → All (IsNone parts.now) folders.now }
+/// Whether one of these parts is one of a footprint.
+pub(crate) fn meets(footprint: &[Bytes], parts: &[TouchedPart]) -> bool
+    ensures none { result ≡ false → All (IsNone footprint.now) parts.now }
 {
-    for folder in folders {
-        if parts.contains(folder.bytes()) {
+    for part in parts {
+        if footprint.contains(part.bytes()) {
             return true;
         }
     }

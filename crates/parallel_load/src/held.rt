@@ -19,60 +19,60 @@ use std::alloc::{AllocError, Global};
 use std::marker::Model;
 use unit_name::UnitName;
 
-/// The names of a load, each with what stands for it before main names are put in, unless one of these folders, which changed,
-/// is in its footprint. It fails for want of memory alone.
+/// The names of a load, each with what stands for it before main names are put in, unless one of these parts, with
+/// which paths begin that changed, is in its footprint. It fails for want of memory alone.
 pub(crate) fn still_of(
     alloc: Global,
     loaded: &Loaded,
-    folders: &[TouchedPart],
+    parts: &[TouchedPart],
 ) -> Result<Vec<(UnitName, Option<Kept>)>, AllocError>
-    ensures still { IfOk result (λ still. AreStill folders.now loaded.now.names loaded.now.named still.items) }
+    ensures still { IfOk result (λ still. AreStill parts.now loaded.now.names loaded.now.named still.items) }
 {
     let names = loaded.names();
     let named = loaded.named();
     let mut still = Vec::with_capacity(alloc, names.len())?;
     for (number, (name, load)) in names.iter().enumerate() {
-        let kept = kept_still(alloc, name, load, &named[number], folders)?;
+        let kept = kept_still(alloc, name, load, &named[number], parts)?;
         still.push((name.try_clone()?, kept))?;
     }
     Ok(still)
 }
 
-// What stands for a name, unless one of these folders is in its footprint.
+// What stands for a name, unless one of these parts is in its footprint.
 fn kept_still(
     alloc: Global,
     name: &UnitName,
     load: &NameLoad,
     lists: &NamedLists,
-    folders: &[TouchedPart],
+    parts: &[TouchedPart],
 ) -> Result<Option<Kept>, AllocError>
     ensures same { IfOk result (λ kept. IfSome kept (λ one. one ≡ with_lists load.now lists.now)) }
-    ensures missed { IfOk result (λ kept. IfSome kept (λ _. IsMissed folders.now name.now load.now)) }
+    ensures missed { IfOk result (λ kept. IfSome kept (λ _. IsMissed parts.now name.now load.now)) }
 {
-    if is_hit(alloc, name, load, folders)? {
+    if is_hit(alloc, name, load, parts)? {
         return Ok(None);
     }
     Ok(Some(Kept::again(load, lists)?))
 }
 
-/// Whether one of these folders is in the footprint of what stands for a name: an alias has none. No footprint is made where
+/// Whether one of these parts is in the footprint of what stands for a name: an alias has none. No footprint is made where
 /// first bytes tell that it isn't.
 pub(crate) fn is_hit(
     alloc: Global,
     name: &UnitName,
     load: &NameLoad,
-    folders: &[TouchedPart],
+    parts: &[TouchedPart],
 ) -> Result<bool, AllocError>
-    ensures missed { IfOk result (λ hit. hit ≡ false → IsMissed folders.now name.now load.now) }
+    ensures missed { IfOk result (λ hit. hit ≡ false → IsMissed parts.now name.now load.now) }
 {
     match load {
         NameLoad::Unit(unit) => {
             let names = unit.get().names.as_slice();
-            if are_missed(folders, name, names) {
+            if are_missed(parts, name, names) {
                 return Ok(false);
             }
-            let parts = parts_of(alloc, name, names)?;
-            Ok(meets(&parts, folders))
+            let footprint = parts_of(alloc, name, names)?;
+            Ok(meets(&footprint, parts))
         }
         NameLoad::Alias(_) => Ok(false),
     }

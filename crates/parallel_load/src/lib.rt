@@ -23,6 +23,7 @@ mod patching;
 mod refreshing;
 mod sources;
 mod touched;
+mod words;
 
 pub use faults::LoadFault;
 pub use footprints::footprint;

@@ -10,6 +10,7 @@ ghost use Rattle.parallel_load.specs.LoadRows.{IsKept};
 
 use crate::kept::NamedLists;
 use crate::mains::Mains;
+use crate::words::KeptWords;
 use plain_values::{Items, Shared, TryClone};
 use replica_store::HostName;
 use setting_rules::DepKind;
@@ -67,6 +68,8 @@ pub(crate) struct KeptRows {
     pub deps: Vec<Shared<Items<Dependency>>>,
     /// The number of each name's main name.
     pub mains: Mains,
+    /// What the places of one component say of aliases.
+    pub words: Shared<KeptWords>,
 }
 
 impl Model for Loaded {
@@ -77,7 +80,7 @@ impl Model for Loaded {
 
     ghost coded = { coded_load };
 
-    ghost view = { λ l. record { host = l.host; extra = l.extra; names = l.names.items; named = l.kept.named.items } };
+    ghost view = { λ l. record { host = l.host; extra = l.extra; names = l.names.items; named = l.kept.named.items; words = l.kept.words } };
 
     ghost invariant = { λ l. IsKept l.names.items l.kept.named.items l.kept.deps.items l.kept.mains };
 }
@@ -92,7 +95,7 @@ impl Loaded {
         fresh: u64,
     ) -> Loaded
         requires kept { IsKept names.items kept.named.items kept.deps.items kept.mains }
-        ensures load { result ≡ record { host = host; extra = extra; names = names.items; named = kept.named.items } }
+        ensures load { result ≡ record { host = host; extra = extra; names = names.items; named = kept.named.items; words = kept.words } }
     {
         Loaded {
             host,
@@ -159,10 +162,18 @@ impl Loaded {
         self.kept.get().named.as_slice()
     }
 
+    /// What the places of one component said of aliases where it was loaded. It takes no memory.
+    pub(crate) fn words(&self) -> &Shared<KeptWords>
+        ensures words { result.now ≡ self.now.words }
+    {
+        &self.kept.get().words
+    }
+
     /// What it keeps, shared. It fails for want of memory alone.
     pub(crate) fn kept(&self) -> Result<Shared<KeptRows>, AllocError>
         ensures kept { IfOk result (λ kept. IsKept self.now.names self.now.named kept.deps.items kept.mains) }
         ensures named { IfOk result (λ kept. kept.named.items ≡ self.now.named) }
+        ensures words { IfOk result (λ kept. kept.words ≡ self.now.words) }
     {
         self.kept.try_clone()
     }

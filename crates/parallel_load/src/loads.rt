@@ -12,7 +12,9 @@ use crate::finishing::{settled, settled_by_workers};
 use crate::loaded::Loaded;
 use crate::loader::UnitLoader;
 use crate::sources::sources;
+use crate::words::KeptWords;
 use name_closure::close_loaded;
+use plain_values::Shared;
 use replica_store::{HostName, Store};
 use std::alloc::Global;
 use std::thread::Threads;
@@ -39,10 +41,12 @@ pub fn load_here(
     ensures not_over { IfOk result (λ _. ¬ IsTooLarge (view_of store.now (option_copied host.entry)) extra.now) }
     ensures no_workers { IfErr result (λ fault. OnWorkers fault ⊥) }
 {
-    let sources = sources(alloc, &store.seen_by(host), extra)?;
+    let words = KeptWords::of(alloc, &store.seen_by(host))?;
+    let sources = sources(alloc, &words, extra)?;
+    let words = Shared::new(alloc, words)?;
     let loader = UnitLoader::of(alloc, store, host)?;
     let found = close_loaded(alloc, &loader, &sources, MOST_NAMES)?;
-    Ok(settled(alloc, host, extra, found)?)
+    Ok(settled(alloc, host, extra, words, found)?)
 }
 
 /// The same load by 1 to 64 workers, whatever their number and whatever the gate answers; refusals too.
@@ -68,8 +72,10 @@ pub fn load_fleet<R: Threads + Sync, G: Gate + Sync>(
     if !is_crew(workers) {
         return Err(LoadFault::Workers);
     }
-    let sources = sources(alloc, &store.seen_by(host), extra)?;
+    let words = KeptWords::of(alloc, &store.seen_by(host))?;
+    let sources = sources(alloc, &words, extra)?;
+    let words = Shared::new(alloc, words)?;
     let loader = UnitLoader::of(alloc, store, host)?;
     let found = close_loaded_by_workers(rt, alloc, &loader, &sources, MOST_NAMES, workers, gate)?;
-    Ok(settled_by_workers(rt, alloc, host, extra, found, workers)?)
+    Ok(settled_by_workers(rt, alloc, host, extra, words, found, workers)?)
 }

@@ -9,7 +9,7 @@ ghost use Rattle.unit_loads.specs.Units.{IsUnit};
 ghost use Rattle.parallel_load.specs.LoadRows.{AreLoadsAgain, IsLoadAgain, IsOwnUnit, IsReadAgain};
 ghost use Rattle.parallel_load.specs.Loads.{IsLoad};
 ghost use Rattle.parallel_load.specs.Refreshes.{IsBefore};
-ghost use Rattle.parallel_load.specs.Touched.{HasFolder, IsInFolder};
+ghost use Rattle.parallel_load.specs.Touched.{HasParts, KeepsWords};
 ghost use Rattle.parallel_load.specs.Universe.{IsTooLarge};
 
 use crate::apart::TouchedPart;
@@ -25,24 +25,24 @@ use std::alloc::{AllocError, Global};
 use unit_loads::{Unit, load_named};
 use unit_name::UnitName;
 
-/// The load of a store in which each unit is read again whose footprint has one of these folders, which have all places that
-/// changed, where each of them names what it named. None where one doesn't. It fails for want of memory alone.
+/// The load of a store in which each unit is read again whose footprint has one of these parts, with which all paths begin
+/// that changed, where each of them names what it named. None where one doesn't. It fails for want of memory alone.
 pub(crate) fn patched(
     loaded: &Loaded,
     store: &Store,
     touched: &[Place],
-    folders: &[TouchedPart],
+    parts: &[TouchedPart],
 ) -> Result<Option<Loaded>, AllocError>
     requires before { IsBefore loaded.now store.now touched.now }
-    requires within { All (IsInFolder loaded.now.host) touched.now }
-    requires folders { All (HasFolder loaded.now.host folders.now) touched.now }
+    requires words { All (KeepsWords loaded.now.host loaded.now.words (view_of store.now loaded.now.host)) touched.now }
+    requires parts { All (HasParts loaded.now.host parts.now) touched.now }
     ensures load { IfOk result (λ load. IfSome load (IsLoad (view_of store.now loaded.now.host) loaded.now.extra)) }
     ensures few { IfOk result (λ load. IfSome load (λ _. ¬ IsTooLarge (view_of store.now loaded.now.host) loaded.now.extra)) }
 {
     let alloc = loaded.allocator();
     let host = loaded.host();
     let kept = loaded.kept()?;
-    let Some(again) = loads_again(alloc, store, host, loaded.names(), kept.get(), folders)? else {
+    let Some(again) = loads_again(alloc, store, host, loaded.names(), kept.get(), parts)? else {
         return Ok(None);
     };
     let LoadsAgain { names, fresh } = again;
@@ -57,26 +57,26 @@ struct LoadsAgain {
     fresh: u64,
 }
 
-// Names in which each unit is read again whose footprint has one of these folders, where each names what it named.
+// Names in which each unit is read again whose footprint has one of these parts, where each names what it named.
 fn loads_again(
     alloc: Global,
     store: &Store,
     host: Option<&HostName>,
     names: &[(UnitName, NameLoad)],
     kept: &KeptRows,
-    folders: &[TouchedPart],
+    parts: &[TouchedPart],
 ) -> Result<Option<LoadsAgain>, AllocError>
     requires each { length kept.now.named.items ≡ length names.now }
     requires own { All (IsOwnUnit (view_of store.now (option_copied host))) names.now }
     ensures again { IfOk result (λ again. IfSome again (λ all. AreLoadsAgain (view_of store.now (option_copied host.entry))
-        folders.now kept.now.mains names.now kept.now.named.items all.names.items)) }
+        parts.now kept.now.mains names.now kept.now.named.items all.names.items)) }
 {
     let named = kept.named.as_slice();
     let mut again = Vec::with_capacity(alloc, names.len())?;
     let mut fresh: u64 = 0;
     for (number, one) in names.iter().enumerate() {
         let lists = &named[number];
-        let Some(read) = load_again(alloc, store, host, &kept.mains, one, lists, folders)? else {
+        let Some(read) = load_again(alloc, store, host, &kept.mains, one, lists, parts)? else {
             return Ok(None);
         };
         again.push((one.0.try_clone()?, read.load))?;
@@ -95,7 +95,7 @@ struct LoadAgain {
     is_fresh: bool,
 }
 
-// What a name stands for: as it was, or read again where one of these folders is in its unit's footprint.
+// What a name stands for: as it was, or read again where one of these parts is in its unit's footprint.
 fn load_again(
     alloc: Global,
     store: &Store,
@@ -103,14 +103,14 @@ fn load_again(
     mains: &Mains,
     one: &(UnitName, NameLoad),
     lists: &NamedLists,
-    folders: &[TouchedPart],
+    parts: &[TouchedPart],
 ) -> Result<Option<LoadAgain>, AllocError>
     requires own { IsOwnUnit (view_of store.now (option_copied host)) one.now }
     ensures again { IfOk result (λ again. IfSome again (λ read. IsLoadAgain (view_of store.now (option_copied host.entry))
-        folders.now mains.now one.now lists.now read.load)) }
+        parts.now mains.now one.now lists.now read.load)) }
 {
     let (name, load) = one;
-    if !is_hit(alloc, name, load, folders)? {
+    if !is_hit(alloc, name, load, parts)? {
         let load = load.try_clone()?;
         return Ok(Some(LoadAgain {
             load,

@@ -1,56 +1,36 @@
 //! The names from which a load begins.
-ghost use Rattle.std.specs.Prelude.{◌≡◌, ◌↔◌, ◌++◌, [], IfOk, OnOk, filter};
-ghost use Rattle.std.specs.List.{filter_map};
-ghost use Rattle.std.specs.FinMap as finmap;
-ghost use Rattle.std.specs.Option.{option_to_list};
-ghost use Rattle.list_laws.specs.Members.{IsAmong};
-ghost use Rattle.parallel_load.specs.Sources.{visible_name, visible_names};
-ghost use Rattle.parallel_load.specs.Universe.{IsSource};
+ghost use Rattle.std.specs.Prelude.{◌≡◌, IfOk};
+ghost use Rattle.parallel_load.specs.Sources.{AreSourcesBy, whole_name};
 
 use crate::loader::add_names;
-use load_places::LEVELS;
-use replica_store::{Seen, SeenEntry};
+use crate::words::KeptWords;
 use std::alloc::{AllocError, Global};
 use unit_name::{NameFault, UnitName};
 
-/// The names that are asked for, and all at which something is visible; some more than once. One pass over the store's
-/// paths of one component. It fails for want of memory alone.
+/// The names that are asked for, and all at which something is visible; some more than once. One pass over the latter. It fails for
+/// want of memory alone.
 pub(crate) fn sources(
     alloc: Global,
-    seen: &Seen,
+    words: &KeptWords,
     extra: &[UnitName],
 ) -> Result<Vec<UnitName>, AllocError>
-    ensures sources { IfOk result (λ names. (n : _) → IsAmong n names.items ↔ IsSource seen.now extra.now n) }
+    ensures sources { IfOk result (λ names. AreSourcesBy words.now extra.now names.items) }
 {
     let mut names = Vec::new(alloc);
     add_names(&mut names, extra)?;
-    for level in 0..LEVELS {
-        add_visible(&mut names, seen, level)?;
+    for (name, _) in words.names() {
+        if let Some(name) = whole_name(alloc, name.as_slice())? {
+            names.push(name)?;
+        }
     }
     Ok(names)
 }
 
-// Adds the names at which something is visible at this level.
-fn add_visible(names: &mut Vec<UnitName>, seen: &Seen, level: u8) -> Result<(), AllocError>
-    ensures added { OnOk result (names.new.items ≡ names.old.items ++ visible_names seen.now level) }
+// The unit name that these bytes are, if they are one and no template's.
+fn whole_name(alloc: Global, bytes: &[u8]) -> Result<Option<UnitName>, AllocError>
+    ensures name { IfOk result (λ name. name ≡ whole_name bytes.now) }
 {
-    let mut entries = seen.entries_in(level, b"");
-    while let Some(placed) = entries.next_entry() {
-        if let Some(name) = visible_name(seen.allocator(), &placed)? {
-            names.push(name)?;
-        }
-    }
-    Ok(())
-}
-
-// The name of an entry that is visible, if it is a unit name and no template.
-fn visible_name(alloc: Global, placed: &SeenEntry) -> Result<Option<UnitName>, AllocError>
-    ensures name { IfOk result (λ name. name ≡ visible_name placed.now) }
-{
-    if placed.visible().is_none() {
-        return Ok(None);
-    }
-    match UnitName::parse(alloc, placed.name().as_slice()) {
+    match UnitName::parse(alloc, bytes) {
         Ok(name) if name.is_template() => Ok(None),
         Ok(name) => Ok(Some(name)),
         Err(NameFault::Memory) => Err(AllocError),

@@ -1,42 +1,85 @@
 //! The places that changed, as a host looks at them.
-ghost use Rattle.std.specs.Prelude.{◌≡◌, ◌≢◌, false, is_some, [], IfOk};
+ghost use Rattle.std.specs.Prelude.{◌≡◌, ◌≢◌, true, is_some, IfOk, OnOk};
 ghost use Rattle.std.specs.List.{All};
 ghost use Rattle.std.specs.Option.{option_copied};
 ghost use Rattle.load_places.specs.Levels.{level_for};
-ghost use Rattle.parallel_load.specs.Touched.{HasFolder, IsInFolder};
+ghost use Rattle.path_maps.specs.Views.{view_of};
+ghost use Rattle.parallel_load.specs.Touched.{AddsParts, HasParts, KeepsWords};
 
 use crate::apart::TouchedPart;
-use replica_store::{HostName, Place, Scope};
+use crate::loaded::Loaded;
+use crate::words::{AliasWords, KeptWords};
+use plain_values::Bytes;
+use replica_store::{HostName, Path, Place, Scope, Seen, Store};
 use std::alloc::{AllocError, Global};
 
-/// Whether one of the places at which a host looks, or a manager without one, is of one component: what a name leads to, or
-/// is, may be another there.
-pub(crate) fn touches_names(host: Option<&HostName>, touched: &[Place]) -> bool
-    ensures none { result ≡ false → All (IsInFolder (option_copied host.entry)) touched.now }
+/// Whether each of the places of one component at which the load's host looks, or a manager without one, leaves what is said of
+/// its name's aliases, and whether something is visible there, as the load keeps it. It fails for want of memory alone.
+pub(crate) fn keeps_words(
+    alloc: Global,
+    loaded: &Loaded,
+    store: &Store,
+    touched: &[Place],
+) -> Result<bool, AllocError>
+    ensures kept { IfOk result (λ kept. kept ≡ true
+        → All (KeepsWords loaded.now.host loaded.now.words (view_of store.now loaded.now.host)) touched.now) }
 {
+    let host = loaded.host();
+    let words = loaded.words();
+    let seen = store.seen_by(host);
     for place in touched {
-        if is_seen(host, place) && place.path.folder().is_empty() {
-            return true;
+        if !keeps_words_at(alloc, words.get(), &seen, host, place)? {
+            return Ok(false);
         }
     }
-    false
+    Ok(true)
 }
 
-/// The folders of the places at which it looks. It fails for want of memory alone.
-pub(crate) fn folders_of(
+// The same of one place.
+fn keeps_words_at(
+    alloc: Global,
+    words: &KeptWords,
+    seen: &Seen,
+    host: Option<&HostName>,
+    place: &Place,
+) -> Result<bool, AllocError>
+    ensures kept { IfOk result (λ kept. kept ≡ true → KeepsWords (option_copied host.entry) words.now seen.now place.now) }
+{
+    if !is_seen(host, place) || !place.path.folder().is_empty() {
+        return Ok(true);
+    }
+    let name = Bytes::from_slice(alloc, place.path.name())?;
+    let now = AliasWords::of(alloc, seen, name.as_slice())?;
+    Ok(words.have(&name, &now))
+}
+
+/// The first components of the places at which it looks; of one without a folder the empty one too. It fails for want of memory
+/// alone.
+pub(crate) fn parts_touched(
     alloc: Global,
     host: Option<&HostName>,
     touched: &[Place],
 ) -> Result<Vec<TouchedPart>, AllocError>
-    ensures folders { IfOk result (λ folders. All (HasFolder (option_copied host.entry) folders.items) touched.now) }
+    ensures parts { IfOk result (λ parts. All (HasParts (option_copied host.entry) parts.items) touched.now) }
 {
-    let mut folders = Vec::new(alloc);
+    let mut parts = Vec::new(alloc);
     for place in touched {
         if is_seen(host, place) {
-            folders.push(TouchedPart::of(alloc, place.path.folder())?)?;
+            add_parts(alloc, &mut parts, &place.path)?;
         }
     }
-    Ok(folders)
+    Ok(parts)
+}
+
+// Adds the first component of a path, and the empty one where that is its name.
+fn add_parts(alloc: Global, parts: &mut Vec<TouchedPart>, path: &Path) -> Result<(), AllocError>
+    ensures added { OnOk result (AddsParts path.now parts.old.items parts.new.items) }
+{
+    parts.push(TouchedPart::of(alloc, path.folder())?)?;
+    if path.folder().is_empty() {
+        parts.push(TouchedPart::of(alloc, path.name())?)?;
+    }
+    Ok(())
 }
 
 // Whether a host looks at a place, or a manager without one.

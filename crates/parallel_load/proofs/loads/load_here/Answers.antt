@@ -1,9 +1,10 @@
-use Rattle.std.proofs.Common.{sym, ◌∙◌}
+use Rattle.std.proofs.Common.{sym, ◌∙◌, subst}
 use Rattle.std.specs.Option.{option_copied}
 use Rattle.path_maps.specs.SeenLaws.{one_looker}
-use Rattle.path_maps.specs.Views.{view_of}
+use Rattle.path_maps.specs.Views.{View, view_of}
+use Rattle.parallel_load.specs.OwnWords.{AreOwnWords}
 use Rattle.parallel_load.specs.Universe.{IsTooLarge}
-use Rattle.parallel_load.proofs.Settling.{found_from, load_is, not_too_large, over_here, refused_over, seen_sources, whole_found}
+use Rattle.parallel_load.proofs.Settling.{found_from, load_is, not_too_large, over_here, refused_over, seen_words, whole_found}
 use Rattle.parallel_load.proofs.loads.load_here.Goals as goal
 
 pub returns-in_err-found-clause-over : goal.returns-in_err-found-clause-over
@@ -12,7 +13,8 @@ returns-in_err-found-clause-over c =
     c.from_residual-in_err-found.ensures.1
     (over_here (view_of c.args.store.now (option_copied c.args.host)) c.in_ok-loader.loader.index c.in_ok-loader.ensures.seen
     c.args.extra.now c.in_ok-sources.sources.items c.deref.result.now
-    (seen_sources c.seen_by.result (view_of c.args.store.now (option_copied c.args.host)) c.args.extra.now c.in_ok-sources.sources.items c.seen_by.ensures.view c.in_ok-sources.ensures.sources) c.deref.ensures.value
+    (c.in_ok-sources.ensures.sources (view_of c.args.store.now (option_copied c.args.host))
+    (subst (λ (v : View). AreOwnWords v c.in_ok-words.words) c.seen_by.ensures.view c.in_ok-words.ensures.words)) c.deref.ensures.value
     c.in_err-found.field-0.0 c.in_err-found.ensures.over)
 
 pub settled-requires-clause-whole : goal.settled-requires-clause-whole
@@ -20,7 +22,8 @@ settled-requires-clause-whole c =
     whole_found (view_of c.args.store.now (option_copied c.args.host)) c.args.extra.now c.in_ok-found.found.entries
     (found_from (view_of c.args.store.now (option_copied c.args.host)) c.in_ok-loader.loader.index c.in_ok-loader.ensures.seen
     c.args.extra.now c.in_ok-sources.sources.items c.deref.result.now
-    (seen_sources c.seen_by.result (view_of c.args.store.now (option_copied c.args.host)) c.args.extra.now c.in_ok-sources.sources.items c.seen_by.ensures.view c.in_ok-sources.ensures.sources) c.deref.ensures.value
+    (c.in_ok-sources.ensures.sources (view_of c.args.store.now (option_copied c.args.host))
+    (subst (λ (v : View). AreOwnWords v c.in_ok-words.words) c.seen_by.ensures.view c.in_ok-words.ensures.words)) c.deref.ensures.value
     c.in_ok-found.found.entries c.in_ok-found.ensures.closure c.in_ok-found.ensures.loaded c.in_ok-found.ensures.room)
 
 pub returns-clause-load : goal.returns-clause-load
@@ -28,14 +31,17 @@ returns-clause-load c =
     load_is (view_of c.args.store.now (option_copied c.args.host)) c.args.extra.now c.in_ok-found.found.entries
     (found_from (view_of c.args.store.now (option_copied c.args.host)) c.in_ok-loader.loader.index c.in_ok-loader.ensures.seen
     c.args.extra.now c.in_ok-sources.sources.items c.deref.result.now
-    (seen_sources c.seen_by.result (view_of c.args.store.now (option_copied c.args.host)) c.args.extra.now c.in_ok-sources.sources.items c.seen_by.ensures.view c.in_ok-sources.ensures.sources) c.deref.ensures.value
+    (c.in_ok-sources.ensures.sources (view_of c.args.store.now (option_copied c.args.host))
+    (subst (λ (v : View). AreOwnWords v c.in_ok-words.words) c.seen_by.ensures.view c.in_ok-words.ensures.words)) c.deref.ensures.value
     c.in_ok-found.found.entries c.in_ok-found.ensures.closure c.in_ok-found.ensures.loaded c.in_ok-found.ensures.room)
     c.in_ok-settled.field-0 (c.in_ok-settled.ensures.host ∙ sym (one_looker c.args.store.now (option_copied c.args.host))) c.in_ok-settled.ensures.extra c.in_ok-settled.ensures.names
+    (seen_words c.seen_by.result (view_of c.args.store.now (option_copied c.args.host)) c.in_ok-settled.field-0.words c.in_ok-words.words c.seen_by.ensures.view (c.in_ok-settled.ensures.words ∙ c.in_ok-words-2.ensures.value) c.in_ok-words.ensures.words)
 
 pub returns-clause-not_over : goal.returns-clause-not_over
 returns-clause-not_over c =
     not_too_large (view_of c.args.store.now (option_copied c.args.host)) c.args.extra.now c.in_ok-found.found.entries
     (found_from (view_of c.args.store.now (option_copied c.args.host)) c.in_ok-loader.loader.index c.in_ok-loader.ensures.seen
     c.args.extra.now c.in_ok-sources.sources.items c.deref.result.now
-    (seen_sources c.seen_by.result (view_of c.args.store.now (option_copied c.args.host)) c.args.extra.now c.in_ok-sources.sources.items c.seen_by.ensures.view c.in_ok-sources.ensures.sources) c.deref.ensures.value
+    (c.in_ok-sources.ensures.sources (view_of c.args.store.now (option_copied c.args.host))
+    (subst (λ (v : View). AreOwnWords v c.in_ok-words.words) c.seen_by.ensures.view c.in_ok-words.ensures.words)) c.deref.ensures.value
     c.in_ok-found.found.entries c.in_ok-found.ensures.closure c.in_ok-found.ensures.loaded c.in_ok-found.ensures.room)

@@ -5,4 +5,4 @@ use Rattle.parallel_load.specs.LoadRows.{AreLoadsAgain}
 use Rattle.parallel_load.proofs.patching.loads_again.Given as goal
 
 abbrev pub invariant-loop-number : goal.invariant-loop-number
-invariant-loop-number l = AreLoadsAgain (view_of l.store (option_copied l.host)) l.folders l.kept.mains (take l.number l.names) l.named l.again.items
+invariant-loop-number l = AreLoadsAgain (view_of l.store (option_copied l.host)) l.parts l.kept.mains (take l.number l.names) l.named l.again.items

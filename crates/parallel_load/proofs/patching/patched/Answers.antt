@@ -20,45 +20,45 @@ loads_again-requires c =
       each = ap (λ (k : KeptRows). length k.named.items) c.get.ensures.value ∙ ap length c.in_ok-kept.ensures.named
           ∙ one_each c.args.loaded.now.names c.args.loaded.now.named c.in_ok-kept.kept.deps.items c.in_ok-kept.kept.mains c.in_ok-kept.ensures.kept ∙ ap length (sym c.names.ensures.names);
       own = subst P (sym c.host-host.ensures.host) (subst Q (sym c.names.ensures.names)
-          (owns c.args.loaded.now c.args.store.now c.args.touched.now c.requires.before c.requires.within c.args.folders.now c.requires.folders c.in_ok-kept.kept.deps.items c.in_ok-kept.kept.mains
+          (owns c.args.loaded.now c.args.store.now c.args.touched.now c.requires.before c.requires.words c.args.parts.now c.requires.parts c.in_ok-kept.kept.deps.items c.in_ok-kept.kept.mains
           c.in_ok-kept.ensures.kept));
     }
 
 pub load_with-requires : goal.load_with-requires
 load_with-requires c =
     let P : Option LoadsAgain → Type 0 =
-    λ o. IfSome o (λ all. AreLoadsAgain (view_of c.args.store.now (option_copied c.host-host.result)) c.args.folders.now c.get.result.now.mains c.names.result.now c.get.result.now.named.items all.names.items) in
+    λ o. IfSome o (λ all. AreLoadsAgain (view_of c.args.store.now (option_copied c.host-host.result)) c.args.parts.now c.get.result.now.mains c.names.result.now c.get.result.now.named.items all.names.items) in
     let again =
-    again_as c.args.store.now (option_copied c.host-host.result) c.args.loaded.now.host c.args.folders.now c.get.result.now.mains c.in_ok-kept.kept.mains c.names.result.now c.args.loaded.now.names
+    again_as c.args.store.now (option_copied c.host-host.result) c.args.loaded.now.host c.args.parts.now c.get.result.now.mains c.in_ok-kept.kept.mains c.names.result.now c.args.loaded.now.names
     c.get.result.now.named.items c.args.loaded.now.named c.in-Some.again.names.items c.host-host.ensures.host (ap (λ (k : KeptRows). k.mains) c.get.ensures.value) c.names.ensures.names
     (ap (λ (k : KeptRows). k.named.items) c.get.ensures.value ∙ c.in_ok-kept.ensures.named) (subst P c.in-Some.is c.in_ok-again.ensures.again) in
     let Q : List (List DependencyList) → Type 0 = λ ls. IsKept c.in-Some.again.names.items ls c.in_ok-kept.kept.deps.items c.in_ok-kept.kept.mains in
     record {
       kept = subst Q (sym c.in_ok-kept.ensures.named)
-          (kept_again c.args.loaded.now c.args.store.now c.args.touched.now c.requires.before c.requires.within c.args.folders.now c.requires.folders c.in_ok-kept.kept.deps.items c.in_ok-kept.kept.mains
+          (kept_again c.args.loaded.now c.args.store.now c.args.touched.now c.requires.before c.requires.words c.args.parts.now c.requires.parts c.in_ok-kept.kept.deps.items c.in_ok-kept.kept.mains
           c.in_ok-kept.ensures.kept c.in-Some.again.names.items again);
     }
 
 pub returns-clause-load : goal.returns-clause-load
 returns-clause-load c =
     let P : Option LoadsAgain → Type 0 =
-    λ o. IfSome o (λ all. AreLoadsAgain (view_of c.args.store.now (option_copied c.host-host.result)) c.args.folders.now c.get.result.now.mains c.names.result.now c.get.result.now.named.items all.names.items) in
+    λ o. IfSome o (λ all. AreLoadsAgain (view_of c.args.store.now (option_copied c.host-host.result)) c.args.parts.now c.get.result.now.mains c.names.result.now c.get.result.now.named.items all.names.items) in
     let again =
-    again_as c.args.store.now (option_copied c.host-host.result) c.args.loaded.now.host c.args.folders.now c.get.result.now.mains c.in_ok-kept.kept.mains c.names.result.now c.args.loaded.now.names
+    again_as c.args.store.now (option_copied c.host-host.result) c.args.loaded.now.host c.args.parts.now c.get.result.now.mains c.in_ok-kept.kept.mains c.names.result.now c.args.loaded.now.names
     c.get.result.now.named.items c.args.loaded.now.named c.in-Some.again.names.items c.host-host.ensures.host (ap (λ (k : KeptRows). k.mains) c.get.ensures.value) c.names.ensures.names
     (ap (λ (k : KeptRows). k.named.items) c.get.ensures.value ∙ c.in_ok-kept.ensures.named) (subst P c.in-Some.is c.in_ok-again.ensures.again) in
-    load_again c.args.loaded.now c.args.store.now c.args.touched.now c.requires.before c.requires.within c.args.folders.now c.requires.folders c.in_ok-kept.kept.deps.items c.in_ok-kept.kept.mains
+    load_again c.args.loaded.now c.args.store.now c.args.touched.now c.requires.before c.requires.words c.args.parts.now c.requires.parts c.in_ok-kept.kept.deps.items c.in_ok-kept.kept.mains
     c.in_ok-kept.ensures.kept c.in-Some.again.names.items again
     c.in_ok-load.load (c.in_ok-load.ensures.host ∙ c.host-host.ensures.host) (c.in_ok-load.ensures.extra ∙ c.extra.ensures.extra) c.in_ok-load.ensures.names
-    (c.in_ok-load.ensures.named ∙ c.in_ok-kept.ensures.named)
+    (c.in_ok-load.ensures.named ∙ c.in_ok-kept.ensures.named) (c.in_ok-load.ensures.words ∙ c.in_ok-kept.ensures.words)
 
 pub returns-clause-few : goal.returns-clause-few
 returns-clause-few c =
     let P : Option LoadsAgain → Type 0 =
-    λ o. IfSome o (λ all. AreLoadsAgain (view_of c.args.store.now (option_copied c.host-host.result)) c.args.folders.now c.get.result.now.mains c.names.result.now c.get.result.now.named.items all.names.items) in
+    λ o. IfSome o (λ all. AreLoadsAgain (view_of c.args.store.now (option_copied c.host-host.result)) c.args.parts.now c.get.result.now.mains c.names.result.now c.get.result.now.named.items all.names.items) in
     let again =
-    again_as c.args.store.now (option_copied c.host-host.result) c.args.loaded.now.host c.args.folders.now c.get.result.now.mains c.in_ok-kept.kept.mains c.names.result.now c.args.loaded.now.names
+    again_as c.args.store.now (option_copied c.host-host.result) c.args.loaded.now.host c.args.parts.now c.get.result.now.mains c.in_ok-kept.kept.mains c.names.result.now c.args.loaded.now.names
     c.get.result.now.named.items c.args.loaded.now.named c.in-Some.again.names.items c.host-host.ensures.host (ap (λ (k : KeptRows). k.mains) c.get.ensures.value) c.names.ensures.names
     (ap (λ (k : KeptRows). k.named.items) c.get.ensures.value ∙ c.in_ok-kept.ensures.named) (subst P c.in-Some.is c.in_ok-again.ensures.again) in
-    few_is c.args.loaded.now c.args.store.now c.args.touched.now c.requires.before c.requires.within c.args.folders.now c.requires.folders c.in_ok-kept.kept.deps.items c.in_ok-kept.kept.mains
+    few_is c.args.loaded.now c.args.store.now c.args.touched.now c.requires.before c.requires.words c.args.parts.now c.requires.parts c.in_ok-kept.kept.deps.items c.in_ok-kept.kept.mains
     c.in_ok-kept.ensures.kept c.in-Some.again.names.items again

@@ -1,9 +1,43 @@
-use Rattle.std.proofs.Common.{arith}
+use Rattle.std.proofs.Common.{◌≡◌, ◌++◌, ◌∷◌, [], Option, Some, None, List, take, refl, ap, sym, ◌∙◌, append_assoc}
+use Rattle.std.specs.List.{filter_map}
+use Rattle.std.proofs.lemmas.List.{take_all}
+use Rattle.unit_name.specs.Names.{Name}
+use Rattle.fragment_choice.specs.AliasWords.{Target}
+use Rattle.parallel_load.specs.OwnWords.{NamedWords}
+use Rattle.parallel_load.specs.Sources.{whole_name}
 use Rattle.parallel_load.proofs.Rows.{sources_are}
+use Rattle.parallel_load.proofs.Steps.{made_none, made_one}
 use Rattle.parallel_load.proofs.sources.sources.Goals as goal
+use Rattle.parallel_load.proofs.sources.sources.Goals.{in-Some+in_ok-push, in_default}
+
+-- the unit name that stands at a name with its words
+name_in : Name × List Target → Option Name
+name_in p = whole_name p.0
+
+pub loop-name-preserved : goal.loop-name-preserved
+unfolding name_in
+loop-name-preserved c =
+    let l : NamedWords = c.names-name-items.result.now in
+    let i = c.loop-name.name-index in
+    let x : Name × List Target = c.loop-name-item.result in
+    let before : List Name = filter_map name_in (take i l) in
+    let said : whole_name x.0 ≡ c.in_ok-name.field-0 = ap whole_name (sym c.as_slice.ensures.bytes) ∙ sym c.in_ok-name.ensures.name in
+    elim c.match-branch-3.branch [
+      | in-Some+in_ok-push w ↦
+          ap (λ v. v.items) w.names-is ∙ w.in_ok-push.ensures.items
+          ∙ ap (λ (ns : List Name). ns ++ w.in-Some.name ∷ []) c.loop-name.invariant
+          ∙ append_assoc c.args.extra.now before (w.in-Some.name ∷ [])
+          ∙ ap (λ (ns : List Name). c.args.extra.now ++ ns) (made_one name_in l i x x c.loop-name-test.true c.loop-name-item.is before w.in-Some.name (said ∙ w.in-Some.is) refl)
+      | in_default w ↦
+          ap (λ v. v.items) w.names-is ∙ c.loop-name.invariant
+          ∙ ap (λ (ns : List Name). c.args.extra.now ++ ns) (made_none name_in l i x x c.loop-name-test.true c.loop-name-item.is before (said ∙ w.in_default.is) refl)
+    ]
 
 pub returns : goal.returns
-returns c =
-    let within = c.loop-level.invariant.1 in
-    let no = c.loop-level-test.false in
-    record { sources = sources_are c.args.seen.now c.args.extra.now c.loop-level.names.items c.loop-level.level c.loop-level.invariant.0 (omega arith) }
+returns c = record {
+  sources =
+      sources_are c.args.words.now c.args.extra.now c.loop-name.names.items
+      (c.loop-name.invariant
+      ∙ ap (λ (ps : NamedWords). c.args.extra.now ++ filter_map (λ (p : Name × List Target). whole_name p.0) ps)
+      (take_all c.loop-name.name-index c.names-name-items.result.now c.loop-name-test.false ∙ c.names-name-items.ensures.names));
+}

@@ -1,6 +1,7 @@
-use Rattle.std.proofs.Common.{◌≡◌, ◌++◌, ◌≤◌}
-use Rattle.parallel_load.proofs.Rows.{names_below}
+use Rattle.std.proofs.Common.{◌≡◌, ◌++◌, take}
+use Rattle.std.specs.List.{filter_map}
+use Rattle.parallel_load.specs.Sources.{whole_name}
 use Rattle.parallel_load.proofs.sources.sources.Given as goal
 
-abbrev pub invariant-loop-level : goal.invariant-loop-level
-invariant-loop-level l = (l.names.items ≡ l.extra ++ names_below l.seen l.level) × (l.level ≤ 8)
+abbrev pub invariant-loop-name : goal.invariant-loop-name
+invariant-loop-name l = l.names.items ≡ l.extra ++ filter_map (λ p. whole_name p.0) (take l.name-index l.name-items)

@@ -1,0 +1,8 @@
+use Rattle.std.proofs.Common.{take}
+use Rattle.std.specs.List.{All}
+use Rattle.std.specs.Option.{option_copied}
+use Rattle.parallel_load.specs.Touched.{HasParts}
+use Rattle.parallel_load.proofs.touched.parts_touched.Given as goal
+
+abbrev pub invariant-loop-place : goal.invariant-loop-place
+invariant-loop-place l = All (HasParts (option_copied l.host) l.parts.items) (take l.place-index l.touched)
