@@ -1,5 +1,5 @@
 -- A snapshot of all names that a question asks for answers it as its store does.
-use Rattle.std.proofs.Common.{◌≡◌, Global, ℕ, List, ◌∷◌, [], Option, Some, Vec, inl, inr, refl, subst, ◌∙◌}
+use Rattle.std.proofs.Common.{◌≡◌, Global, List, ◌∷◌, [], Option, Some, Vec, inl, inr, refl, subst, ◌∙◌}
 use Rattle.std.specs.Prelude.{MatchOption}
 use Rattle.std.specs.Option.{IfSome}
 use Rattle.unit_name.specs.Names.{Name}
@@ -7,13 +7,12 @@ use Rattle.edit_sums.specs.Sums.{EntryMap}
 use Rattle.load_places.specs.Levels.{Looker}
 use Rattle.path_maps.specs.SeenLaws.{one_looker}
 use Rattle.path_maps.specs.Views.{view_of}
-use Rattle.inverse_deps.specs.Edges.{AreEdges, EdgeMap}
 use Rattle.parallel_load.specs.Loads.{LoadMap}
-use Rattle.unit_graph.specs.Graphs.{AreDepths, GraphMap, IsKnown}
+use Rattle.unit_graph.specs.Graphs.{IsKnown}
 use Rattle.start_plan.specs.declared.requests.Request.{Request}
 use Rattle.start_plan.specs.Requests.{HasTemplate, IsOfGraph}
 use Rattle.fleet_answers.specs.AnswerLaws.{own_are_known}
-use Rattle.fleet_answers.specs.Answers.{AreKnown, ArePulled, IsAnswer, IsSnapshot, IsTold, asked, graph_of, host_asked, names_asked}
+use Rattle.fleet_answers.specs.Answers.{AreKnown, IsAnswer, IsSnapshot, IsTold, asked, host_asked, names_asked}
 use Rattle.fleet_answers.specs.declared.questions.Answer.{Answer}
 use Rattle.fleet_answers.specs.declared.questions.Question.{Question}
 

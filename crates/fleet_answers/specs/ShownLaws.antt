@@ -1,6 +1,6 @@
 -- What isn't visible counts for no load: where two stores show the same at all places, a load of one is a load of the other.
 -- Source: this project's own.
-use Rattle.std.proofs.Common.{◌≡◌, ◌<◌, ℕ, List, [], ◌∷◌, length, inr, sym, ◌∙◌, subst}
+use Rattle.std.proofs.Common.{◌≡◌, List, [], ◌∷◌, inr, sym, ◌∙◌, subst}
 use Rattle.std.specs.Cmp.Lexicographic.{nat_list_cmp_total}
 use Rattle.std.specs.Map.{keys_of}
 use Rattle.std.proofs.lemmas.List.Elements.{All-weaker}

@@ -1,4 +1,4 @@
-use Rattle.std.proofs.Common.{length, subst, sym, ◌∙◌}
+use Rattle.std.proofs.Common.{subst}
 use Rattle.path_maps.specs.Views.{view_of}
 use Rattle.parallel_load.specs.Loads.{LoadMap}
 use Rattle.fleet_answers.specs.Answers.{IsSnapshot}
