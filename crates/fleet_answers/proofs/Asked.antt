@@ -1,6 +1,9 @@
 -- Names and places that are compared.
-use Rattle.std.proofs.Common.{◌≡◌, ◌&&◌, Bool, true, false, List, [], ◌∷◌, refl, ap, sym, ◌∙◌, subst, inl, inr}
-use Rattle.std.specs.Prelude.{◌↔◌, ◌≢◌, ◌⊎◌}
+use Rattle.std.proofs.Common.{◌≡◌, ◌&&◌, Bool, true, false, List, [], ◌∷◌, refl, ap, sym, ◌∙◌, subst, inl, inr, length, arith}
+use Rattle.std.specs.Prelude.{◌↔◌, ◌≢◌, ◌⊎◌, ◌==◌, vec_len}
+use Rattle.std.specs.declared.vec.Vec.{Vec}
+use Rattle.std.specs.declared.alloc.Global.{Global}
+use Rattle.std.proofs.lemmas.Bool.{cases_eq, ne_eqb}
 use Rattle.std.specs.Cmp.Lexicographic.{pointwise}
 use Rattle.std.specs.Ordering.{eq_by_cmp}
 use Rattle.list_laws.specs.Members.{IsAmong}
@@ -9,6 +12,7 @@ use Rattle.edit_sums.specs.Sums.{EntryMap, visible_at}
 use Rattle.path_maps.specs.DifferenceLaws.{changed_or_same}
 use Rattle.unit_name.specs.Names.{Name, name_cmp}
 use Rattle.unit_name.specs.NameLaws.{name_eq-Decides}
+use Rattle.fleet_answers.specs.ShownLaws.{ShowTheSame}
 
 first_true : (a b : Bool) → (a && b) ≡ true → a ≡ true
 first_true true b h = refl
@@ -36,3 +40,23 @@ rest_is new old places told e exact p = by (changed_or_same new old places exact
     by : IsAmong p places ⊎ (visible_at new p ≡ visible_at old p) → IsAmong p told ⊎ (visible_at old p ≡ visible_at new p)
     by (inl a) = inl (subst (IsAmong p) (sym e) a)
     by (inr h) = inr (sym h)
+
+none_listed : {X : Type 0} (xs : List X) → length xs ≡ 0 → xs ≡ []
+none_listed [] e = refl
+none_listed (x ∷ xs) e = absurd (omega arith)
+
+-- what a test finds empty
+pub none_told : {X : Type 0} (xs : Vec X Global) (test : Bool) → test ≡ (vec_len xs == 0) → test ≡ true → xs.items ≡ []
+none_told {X} xs test e t = none_listed xs.items (by (cases_eq (vec_len xs) 0) (sym e ∙ t))
+  where
+    by : (vec_len xs ≡ 0) ⊎ ((vec_len xs ≡ 0) → ⊥) → (vec_len xs == 0) ≡ true → length xs.items ≡ 0
+    by (inl z) h = omega (arith, z, xs.ok)
+    by (inr ne) h = let f = ne_eqb (vec_len xs) 0 ne in cc
+
+-- where none is told, stores show the same
+pub same_shown : (new old : EntryMap) (places : List PlaceParts) → places ≡ [] → ((p : PlaceParts) → IsAmong p places ↔ (visible_at new p ≢ visible_at old p)) → ShowTheSame old new
+same_shown new old places none exact p = by (changed_or_same new old places exact p)
+  where
+    by : IsAmong p places ⊎ (visible_at new p ≡ visible_at old p) → visible_at old p ≡ visible_at new p
+    by (inl a) = absurd (subst (IsAmong p) none a)
+    by (inr h) = sym h

@@ -1,5 +1,5 @@
--- What a graph tells is told of its load and its edges.
-use Rattle.std.proofs.Common.{◌≡◌, Global, ℕ, List, ◌∷◌, [], Option, Some, Vec, inl, inr, refl, subst, ◌∙◌}
+-- A snapshot of all names that a question asks for answers it as its store does.
+use Rattle.std.proofs.Common.{◌≡◌, Global, List, ◌∷◌, [], Option, Some, Vec, inl, inr, refl, subst, ◌∙◌}
 use Rattle.std.specs.Prelude.{MatchOption}
 use Rattle.std.specs.Option.{IfSome}
 use Rattle.unit_name.specs.Names.{Name}
@@ -7,22 +7,14 @@ use Rattle.edit_sums.specs.Sums.{EntryMap}
 use Rattle.load_places.specs.Levels.{Looker}
 use Rattle.path_maps.specs.SeenLaws.{one_looker}
 use Rattle.path_maps.specs.Views.{view_of}
-use Rattle.inverse_deps.specs.Edges.{EdgeMap}
 use Rattle.parallel_load.specs.Loads.{LoadMap}
-use Rattle.unit_graph.specs.Graphs.{AreDepths, GraphMap, IsKnown}
+use Rattle.unit_graph.specs.Graphs.{IsKnown}
 use Rattle.start_plan.specs.declared.requests.Request.{Request}
 use Rattle.start_plan.specs.Requests.{HasTemplate, IsOfGraph}
 use Rattle.fleet_answers.specs.AnswerLaws.{own_are_known}
 use Rattle.fleet_answers.specs.Answers.{AreKnown, IsAnswer, IsSnapshot, IsTold, asked, host_asked, names_asked}
 use Rattle.fleet_answers.specs.declared.questions.Answer.{Answer}
 use Rattle.fleet_answers.specs.declared.questions.Question.{Question}
-
-pub depths_of : (own graph : GraphMap) (from : Name) (pairs told : List (ℕ × Name)) → graph.load ≡ own.load → graph.edges ≡ own.edges → AreDepths graph from pairs → pairs ≡ told
-    → AreDepths own from told
-depths_of own graph from pairs told same also depths e =
-    subst (λ (ps : List (ℕ × Name)). AreDepths own from ps) e
-    (subst (λ (m : EdgeMap). AreDepths (record { load = own.load; edges = m }) from pairs) also
-    (subst (λ (l : LoadMap). AreDepths (record { load = l; edges = graph.edges }) from pairs) same depths))
 
 -- names that are known are those of the graph
 pub of_graph : (load : LoadMap) (request : Request) → AreKnown load (request.target ∷ request.running) → IsOfGraph load request
@@ -42,20 +34,22 @@ of_there A B o x e h = subst (λ (p : Option _). MatchOption p A (λ _. B)) e h
 -- a snapshot of all names that are asked for answers as the store does
 module _ (s : EntryMap) (extra : List Name) (question : Question) (found : Option (Vec Name Global)) (names : Vec Name Global) (is : found ≡ Some names)
     (all : IfSome found (λ (ns : Vec Name Global). ns.items ≡ asked extra question)) (lent : List Name) (same : lent ≡ names.items)
-    (host : Looker) (host_is : host ≡ host_asked question) (graph : GraphMap) (made : IsSnapshot (view_of s host) lent graph) where
-  all_asked : IsSnapshot (view_of s (host_asked question)) (asked extra question) graph
-  all_asked = subst (λ (h : Looker). IsSnapshot (view_of s h) (asked extra question) graph) host_is (subst (λ (ns : List Name). IsSnapshot (view_of s host) ns graph) (same ∙ of_some (λ (ns : Vec Name Global). ns.items ≡ asked extra question) found names is all) made)
+    (host : Looker) (host_is : host ≡ host_asked question) (load : LoadMap) (made : IsSnapshot (view_of s host) lent load) where
+  all_asked : IsSnapshot (view_of s (host_asked question)) (asked extra question) load
+  all_asked =
+      subst (λ (h : Looker). IsSnapshot (view_of s h) (asked extra question) load) host_is
+      (subst (λ (ns : List Name). IsSnapshot (view_of s host) ns load) (same ∙ of_some (λ (ns : Vec Name Global). ns.items ≡ asked extra question) found names is all) made)
 
-  pub own_known : AreKnown graph.load (names_asked question)
-  own_known = own_are_known (view_of s (host_asked question)) extra question graph.load all_asked.is_load
+  pub own_known : AreKnown load (names_asked question)
+  own_known = own_are_known (view_of s (host_asked question)) extra question load all_asked.is_load
 
   -- it is for the question's host
-  pub own_host : graph.load.host ≡ host_asked question
+  pub own_host : load.host ≡ host_asked question
   own_host = all_asked.is_load.host_is ∙ one_looker s (host_asked question)
 
-  pub answers : MatchOption found (HasTemplate (asked extra question)) (λ _. ¬ HasTemplate (asked extra question)) → (answer : Answer) → IsTold graph question answer
+  pub answers : MatchOption found (HasTemplate (asked extra question)) (λ _. ¬ HasTemplate (asked extra question)) → (answer : Answer) → IsTold load question answer
       → IsAnswer s extra question answer
   answers none answer told = inr (
     of_there (HasTemplate (asked extra question)) (¬ HasTemplate (asked extra question)) found names is none,
-    inr (record { graph = graph; snapshot = all_asked; told_is = told }),
+    inr (record { load = load; snapshot = all_asked; told_is = told }),
   )

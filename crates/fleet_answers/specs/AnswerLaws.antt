@@ -1,6 +1,5 @@
 -- Laws of answers: a store and a question have one, which no other host's place changes.
-use Rattle.std.proofs.Common.{◌≡◌, ℕ, Some, List, [], ◌∷◌, map, inl, inr, refl, ap, sym, subst, ◌∙◌}
-use mathlib.Core.Path.{fun_ext}
+use Rattle.std.proofs.Common.{◌≡◌, ℕ, Some, List, [], ◌∷◌, inl, inr, refl, ap, sym, subst, ◌∙◌}
 use Rattle.std.specs.Prelude.{◌↔◌, ◌≢◌, None}
 use Rattle.std.specs.FinMap as finmap
 use Rattle.std.specs.Cmp.Lexicographic.{nat_list_cmp_total}
@@ -12,8 +11,6 @@ use Rattle.path_maps.specs.SeenLaws.{others_arent_looked_at}
 use Rattle.path_maps.specs.Views.{View, view_of}
 use Rattle.unit_name.specs.Names.{Name, name_cmp}
 use Rattle.setting_rules.specs.declared.dependency_lists.DependencyList.{DependencyList}
-use Rattle.setting_rules.specs.declared.kinds.DepKind.{DepKind}
-use Rattle.setting_rules.specs.Kinds.{kinds}
 use Rattle.name_closure.specs.Chains.{IsDistance, IsDistances}
 use Rattle.name_closure.specs.DistanceLaws.{one_list_of_distances}
 use Rattle.name_closure.specs.ListedLaws.{Listed}
@@ -21,10 +18,10 @@ use Rattle.name_closure.specs.SourceLaws.{AreSameSteps, same_distance}
 use Rattle.unit_loads.specs.declared.units.Unit.{Unit as LoadedUnit}
 use Rattle.parallel_load.specs.LoadLaws.{one_load}
 use Rattle.parallel_load.specs.Loads.{IsLoad, LoadMap, unit_in}
-use Rattle.inverse_deps.specs.EdgeLaws.{one_list_of_edges}
-use Rattle.inverse_deps.specs.Edges.{AreEdges, EdgeMap}
+use Rattle.inverse_deps.specs.EdgeLaws.{one_list_by_kind, one_list_of_edges}
+use Rattle.inverse_deps.specs.Edges.{AreEdges, AreEdgesOf, EdgeMap}
 use Rattle.unit_graph.specs.GraphLaws.{known_names}
-use Rattle.unit_graph.specs.Graphs.{AreDepths, GraphMap, IsKnown, LeadsBy, pulling}
+use Rattle.unit_graph.specs.Graphs.{AreDepths, IsKnown, LeadsBy, pulling}
 use Rattle.plan_choice.specs.Answers.{IsPlan, IsRefusal, Refusal as Why}
 use Rattle.plan_choice.specs.Case.{Case}
 use Rattle.start_plan.specs.declared.requests.Plan.{Plan as PlanMap}
@@ -33,7 +30,7 @@ use Rattle.start_plan.specs.declared.requests.Refusal.TheVariants.{Template, Not
 use Rattle.start_plan.specs.declared.requests.Request.{Request}
 use Rattle.start_plan.specs.Outcomes.{IsFault, IsPlanned, IsRefused, IsRefusalOf}
 use Rattle.start_plan.specs.PlanLaws.{one_case, one_plan, one_refusal_told, plan_or_refusal}
-use Rattle.fleet_answers.specs.Answers.{AreKnown, IsAnswer, IsLinkedUnit, IsPlanTold, IsTold, IsToldFrom, IsWholeAnswer, asked, edge_lists, host_asked, names_asked}
+use Rattle.fleet_answers.specs.Answers.{AreKnown, ArePulled, IsAnswer, IsLinkedUnit, IsPlanBy, IsTold, IsToldFrom, IsWholeAnswer, asked, graph_of, host_asked, names_asked}
 use Rattle.fleet_answers.specs.declared.questions.Answer.{Answer}
 use Rattle.fleet_answers.specs.declared.questions.Answer.TheVariants as answer
 use Rattle.fleet_answers.specs.declared.questions.LinkedUnit.{LinkedUnit}
@@ -69,25 +66,15 @@ linked_is : (a b : LinkedUnit) → a.unit ≡ b.unit → a.edges ≡ b.edges →
 unfolding linked
 linked_is a b p q = ap (λ x. linked x a.edges) p ∙ ap (linked b.unit) q
 
-lists_by : (DepKind → List Name) → List DependencyList
-lists_by names = map (λ dep. record { kind = dep; names = names dep }) kinds
+one_linked : (load : LoadMap) (name : Name) (a b : LinkedUnit) → IsLinkedUnit load name a → IsLinkedUnit load name b → a ≡ b
+one_linked load name a b l m =
+    let mains : l.main ≡ m.main = same_some l.main m.main (sym l.main_is ∙ m.main_is) in
+    linked_is a b (same_some a.unit b.unit (sym l.unit_is ∙ ap (unit_in load) mains ∙ m.unit_is))
+    (one_list_by_kind load m.main a.edges b.edges (subst (λ (main : Name). AreEdgesOf load main a.edges) mains l.edges_are) m.edges_are)
 
 -- ---- a load answers the same by any lists of its edges
 
-abbrev graph_of : LoadMap → EdgeMap → GraphMap
-graph_of load edges = record { load = load; edges = edges }
-
 module _ (load : LoadMap) (x y : EdgeMap) (p : AreEdges load x) (q : AreEdges load y) where
-  same_lists : (unit : Name) → edge_lists x unit ≡ edge_lists y unit
-  unfolding lists_by
-  same_lists unit = ap lists_by (fun_ext (λ dep. one_list_of_edges load x y p q dep unit))
-
-  one_linked : (name : Name) (a b : LinkedUnit) → IsLinkedUnit (graph_of load x) name a → IsLinkedUnit (graph_of load y) name b → a ≡ b
-  one_linked name a b l m =
-      let mains : l.main ≡ m.main = same_some l.main m.main (sym l.main_is ∙ m.main_is) in
-      linked_is a b (same_some a.unit b.unit (sym l.unit_is ∙ ap (unit_in load) mains ∙ m.unit_is))
-      (l.edges_are ∙ same_lists l.main ∙ ap (edge_lists y) mains ∙ sym m.edges_are)
-
   same_steps : AreSameSteps (LeadsBy x pulling) (LeadsBy y pulling)
   same_steps u v = (
     λ l. (l.0, (l.1.0, subst (λ (ns : List Name). IsAmong v ns) (one_list_of_edges load x y p q l.0 u) l.1.1)),
@@ -105,8 +92,11 @@ module _ (load : LoadMap) (x y : EdgeMap) (p : AreEdges load x) (q : AreEdges lo
       same : (n : Name) (k : ℕ) → IsDistance (Listed (from ∷ [])) (LeadsBy x pulling) n k ↔ IsDistance (Listed (from ∷ [])) (LeadsBy y pulling) n k
       same = same_distance (Listed (from ∷ [])) (Listed (from ∷ [])) (LeadsBy x pulling) (LeadsBy y pulling) (λ n. (λ h. h, λ h. h)) same_steps
 
-  one_pulled : (name : Name) (a b : List (ℕ × Name)) → IsKnown load name → AreDepths (graph_of load x) name a → AreDepths (graph_of load y) name b → a ≡ b
-  one_pulled name a b known d e = one_distances known.0 a b (d known.0 known.1) (e known.0 known.1)
+  one_depths : (name : Name) (a b : List (ℕ × Name)) → IsKnown load name → AreDepths (graph_of load x) name a → AreDepths (graph_of load y) name b → a ≡ b
+  one_depths name a b known d e = one_distances known.0 a b (d known.0 known.1) (e known.0 known.1)
+
+one_pulled : (load : LoadMap) (name : Name) (a b : List (ℕ × Name)) → IsKnown load name → ArePulled load name a → ArePulled load name b → a ≡ b
+one_pulled load name a b known d e = one_depths load d.edges e.edges d.edges_are e.edges_are name a b known d.depths_are e.depths_are
 
 module _ (load : LoadMap) (request : Request) (x y : EdgeMap) (p : AreEdges load x) (q : AreEdges load y) where
   planned_by : (plan : PlanMap) → IsPlanned load x request plan → IsPlanned load y request plan
@@ -136,26 +126,24 @@ module _ (load : LoadMap) (request : Request) (x y : EdgeMap) (p : AreEdges load
   refused_by (Cycle units) h = caused_by _ h
   refused_by Memory h = h
 
-  one_plan_told : (a b : Answer) → IsPlanTold (graph_of load x) request a → IsPlanTold (graph_of load y) request b → a ≡ b
-  one_plan_told a b (inl f) (inl g) = f.2 ∙ ap answer.Planned (one_plan load y request f.0 g.0 (planned_by f.0 f.1) g.1) ∙ sym g.2
-  one_plan_told a b (inl f) (inr g) = absurd (plan_or_refusal load y request f.0 g.0 (planned_by f.0 f.1) g.1 g.2)
-  one_plan_told a b (inr f) (inl g) = absurd (plan_or_refusal load y request g.0 f.0 g.1 (refused_by f.0 f.1) f.2)
-  one_plan_told a b (inr f) (inr g) = f.3 ∙ ap answer.Refused (one_refusal_told load y request f.0 g.0 (refused_by f.0 f.1) g.1 f.2 g.2) ∙ sym g.3
+  one_plan_by : (a b : Answer) → IsPlanBy load x request a → IsPlanBy load y request b → a ≡ b
+  one_plan_by a b (inl f) (inl g) = f.2 ∙ ap answer.Planned (one_plan load y request f.0 g.0 (planned_by f.0 f.1) g.1) ∙ sym g.2
+  one_plan_by a b (inl f) (inr g) = absurd (plan_or_refusal load y request f.0 g.0 (planned_by f.0 f.1) g.1 g.2)
+  one_plan_by a b (inr f) (inl g) = absurd (plan_or_refusal load y request g.0 f.0 g.1 (refused_by f.0 f.1) f.2)
+  one_plan_by a b (inr f) (inr g) = f.3 ∙ ap answer.Refused (one_refusal_told load y request f.0 g.0 (refused_by f.0 f.1) g.1 f.2 g.2) ∙ sym g.3
 
 -- ---- answers
 
-one_told : (load : LoadMap) (x y : EdgeMap) → AreEdges load x → AreEdges load y → (question : Question) → AreKnown load (names_asked question) → (a b : Answer)
-    → IsTold (graph_of load x) question a → IsTold (graph_of load y) question b → a ≡ b
-one_told load x y p q (OfUnit host name) known a b f g = f.2 ∙ ap answer.Unit (one_linked load x y p q name f.0 g.0 f.1 g.1) ∙ sym g.2
-one_told load x y p q (OfPulled host name) known a b f g = f.2 ∙ ap answer.Pulled (one_pulled load x y p q name f.0 g.0 (known name (inl refl)) f.1 g.1) ∙ sym g.2
-one_told load x y p q (OfPlan request) known a b f g = one_plan_told load request x y p q a b f g
+one_told : (load : LoadMap) (question : Question) → AreKnown load (names_asked question) → (a b : Answer) → IsTold load question a → IsTold load question b → a ≡ b
+one_told load (OfUnit host name) known a b f g = f.2 ∙ ap answer.Unit (one_linked load name f.0 g.0 f.1 g.1) ∙ sym g.2
+one_told load (OfPulled host name) known a b f g = f.2 ∙ ap answer.Pulled (one_pulled load name f.0 g.0 (known name (inl refl)) f.1 g.1) ∙ sym g.2
+one_told load (OfPlan request) known a b f g = one_plan_by load request f.edges g.edges f.edges_are g.edges_are a b f.plan_is g.plan_is
 
 module _ (s : View) (names : List Name) (question : Question) (own : (load : LoadMap) → IsLoad s names load → AreKnown load (names_asked question)) (a b : Answer) where
   one_from : IsToldFrom s names question a → IsToldFrom s names question b → a ≡ b
   one_from f g =
-      let same : f.graph.load ≡ g.graph.load = one_load s names f.graph.load g.graph.load f.snapshot.is_load g.snapshot.is_load in
-      one_told g.graph.load f.graph.edges g.graph.edges (subst (λ (l : LoadMap). AreEdges l f.graph.edges) same f.snapshot.edges_are) g.snapshot.edges_are question
-      (own g.graph.load g.snapshot.is_load) a b (subst (λ (l : LoadMap). IsTold (graph_of l f.graph.edges) question a) same f.told_is) g.told_is
+      let same : f.load ≡ g.load = one_load s names f.load g.load f.snapshot.is_load g.snapshot.is_load in
+      one_told g.load question (own g.load g.snapshot.is_load) a b (subst (λ (l : LoadMap). IsTold l question a) same f.told_is) g.told_is
 
   one_whole : IsWholeAnswer s names question a → IsWholeAnswer s names question b → a ≡ b
   one_whole (inl f) (inl g) = f.1 ∙ sym g.1

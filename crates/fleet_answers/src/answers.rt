@@ -28,7 +28,7 @@ pub fn answer_here(
         return Ok(Answer::Template);
     };
     match Snapshot::of(alloc, store, question.host(), &names) {
-        Ok(snapshot) => snapshot.answer(question),
+        Ok(mut snapshot) => snapshot.answer(question),
         Err(LoadFault::TooManyUnits) => Ok(Answer::TooManyUnits),
         Err(_) => Err(AllocError),
     }
@@ -55,7 +55,7 @@ pub fn answer_question<R: Threads + Sync, G: Gate + Sync>(
         return Ok(Answer::Template);
     };
     match Snapshot::by_workers(rt, alloc, store, question.host(), &names, workers, gate) {
-        Ok(snapshot) => Ok(snapshot.answer(question)?),
+        Ok(mut snapshot) => Ok(snapshot.answer(question)?),
         Err(LoadFault::TooManyUnits) => Ok(Answer::TooManyUnits),
         Err(_) => Err(AnswerFault::Memory),
     }

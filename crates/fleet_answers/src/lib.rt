@@ -14,6 +14,7 @@ mod names;
 mod questions;
 mod remembered;
 mod snapshots;
+mod tellings;
 mod worlds;
 
 pub use answers::{answer_here, answer_question};

@@ -1,11 +1,11 @@
 //! Snapshots that are remembered, so that the next question reads again only what changed.
-ghost use Rattle.std.specs.Prelude.{◌≡◌, ◌↔◌, ◌⊎◌, ◌<◌, [], Err, IfOk, IfErr, IsTrue, length};
+ghost use Rattle.std.specs.Prelude.{◌≡◌, ◌↔◌, ◌⊎◌, ◌<◌, [], Err, IfOk, IfErr, IsTrue, None, length};
 ghost use Rattle.std.specs.List.{slice_index_or};
 ghost use Rattle.std.specs.Option.{IfSome, option_copied};
 ghost use Rattle.path_maps.specs.Views.{view_of};
 ghost use Rattle.parallel_load.specs.Refusals.{OnTooMany, OnWorkers};
 ghost use Rattle.parallel_load.specs.Universe.{IsTooLarge};
-ghost use Rattle.fleet_answers.specs.Answers.{IsAnswer, IsSnapshot};
+ghost use Rattle.fleet_answers.specs.Answers.{AreKnown, IsAnswer, IsSnapshot, IsSnapshotOf, IsTold, host_asked, names_asked};
 ghost use Rattle.fleet_answers.specs.declared.questions.AnswerFault.TheVariants.{Workers};
 
 use crate::names::whole_names;
@@ -29,33 +29,29 @@ struct Remembered {
 }
 
 impl Model for Remembered {
-    ghost use Rattle.path_maps.specs.Views.{view_of};
-    ghost use Rattle.unit_graph.specs.Graphs.{GraphMap, coded_graph};
-    ghost use Rattle.fleet_answers.specs.Answers.{IsSnapshot};
+    ghost use Rattle.parallel_load.specs.Loads.{LoadMap, coded_load};
+    ghost use Rattle.fleet_answers.specs.Answers.{IsSnapshotOf};
 
-    ghost Value = { GraphMap };
+    ghost Value = { LoadMap };
 
-    ghost coded = { coded_graph };
+    ghost coded = { coded_load };
 
     ghost view = { λ r. r.snapshot };
 
-    ghost invariant = { λ r. IsSnapshot (view_of r.store r.snapshot.load.host) r.snapshot.load.extra r.snapshot };
+    ghost invariant = { λ r. IsSnapshotOf r.store r.snapshot };
+}
+
+/// A snapshot for a question, and the store that it is of where that is kept with it already.
+#[derive(Drop)]
+struct Found {
+    snapshot: Snapshot,
+    kept_with: Option<Store>,
 }
 
 impl Remembered {
-    // A snapshot of a store, of which a copy is made.
-    fn of(store: &Store, snapshot: Snapshot) -> Result<Remembered, AllocError>
-        requires snapshot { IsSnapshot (view_of store.now snapshot.load.host) snapshot.load.extra snapshot }
-    {
-        Ok(Remembered {
-            store: store.try_clone()?,
-            snapshot,
-        })
-    }
-
     // Whether it is for this host, or is one without a host.
     fn is_of(&self, host: Option<&HostName>) -> bool
-        ensures host { IsTrue result → self.now.load.host ≡ option_copied host.entry }
+        ensures host { IsTrue result → self.now.host ≡ option_copied host.entry }
     {
         match (self.snapshot.loaded().host(), host) {
             (None, None) => true,
@@ -66,20 +62,57 @@ impl Remembered {
 
     // Whether just these names were asked for, in this order.
     fn is_asked(&self, names: &[UnitName]) -> bool
-        ensures names { IsTrue result → self.now.load.extra ≡ names.now }
+        ensures names { IsTrue result → self.now.extra ≡ names.now }
     {
         *self.snapshot.loaded().extra() == *names
     }
 
-    // The snapshot of another store for the same host and names, refreshed by what changed.
-    fn refreshed(&self, store: &Store) -> Result<Snapshot, LoadFault>
-        ensures snapshot { IfOk result (IsSnapshot (view_of store.now self.now.load.host) self.now.load.extra) }
-        ensures over { IfErr result (λ fault. OnTooMany fault (IsTooLarge (view_of store.now self.now.load.host) self.now.load.extra)) }
+    // The snapshot of another store for the same host and names: itself where that shows what its own does, and else
+    // refreshed by what changed.
+    fn renewed(self, store: &Store) -> Result<Found, LoadFault>
+        ensures snapshot { IfOk result (λ found. IsSnapshot (view_of store.now self.host) self.extra found.snapshot) }
+        ensures own { IfOk result (λ found. IfSome found.kept_with (λ own. IsSnapshotOf own found.snapshot)) }
+        ensures over { IfErr result (λ fault. OnTooMany fault (IsTooLarge (view_of store.now self.host) self.extra)) }
         ensures no_workers { IfErr result (λ fault. OnWorkers fault ⊥) }
     {
         let touched = store.changed(&self.store)?;
-        self.snapshot.refreshed(store, &touched)
+        let Remembered {
+            store: own,
+            snapshot,
+        } = self;
+        if touched.is_empty() {
+            return Ok(Found {
+                snapshot,
+                kept_with: Some(own),
+            });
+        }
+        let snapshot = snapshot.refreshed(store, &touched)?;
+        Ok(Found {
+            snapshot,
+            kept_with: None,
+        })
     }
+}
+
+// All is loaded anew.
+fn loaded_anew<R: Threads + Sync, G: Gate + Sync>(
+    rt: &R,
+    alloc: Global,
+    store: &Store,
+    host: Option<&HostName>,
+    names: &[UnitName],
+    workers: usize,
+    gate: &G,
+) -> Result<Found, LoadFault>
+    ensures snapshot { IfOk result (λ found. IsSnapshot (view_of store.now (option_copied host.entry)) names.now found.snapshot) }
+    ensures own { IfOk result (λ found. found.kept_with ≡ None) }
+    ensures over { IfErr result (λ fault. OnTooMany fault (IsTooLarge (view_of store.now (option_copied host.entry)) names.now)) }
+{
+    let snapshot = Snapshot::by_workers(rt, alloc, store, host, names, workers, gate)?;
+    Ok(Found {
+        snapshot,
+        kept_with: None,
+    })
 }
 
 /// Snapshots of nodes: of each node and host the one that was asked last, and at most 64 in all, of which the one that was
@@ -105,7 +138,7 @@ impl Snapshots {
     // Where the snapshot of a node for a host stands.
     fn place_of(&self, node: usize, host: Option<&HostName>) -> Option<usize>
         ensures there { IfSome result (λ at. at < length self.now.kept.items) }
-        ensures host { IfSome result (λ at. (pair : _) → (slice_index_or self.now.kept.items at pair).1.load.host ≡ option_copied host.entry) }
+        ensures host { IfSome result (λ at. (pair : _) → (slice_index_or self.now.kept.items at pair).1.host ≡ option_copied host.entry) }
     {
         for (at, (owner, remembered)) in self.kept.iter().enumerate() {
             if *owner == node && remembered.is_of(host) {
@@ -115,29 +148,34 @@ impl Snapshots {
         None
     }
 
-    // Takes the snapshot of a node for a host out.
-    fn take(&mut self, node: usize, host: Option<&HostName>) -> Option<Remembered>
-        ensures host { IfSome result (λ one. one.load.host ≡ option_copied host.entry) }
+    // Takes the snapshot of a node for a host out, if just these names were asked for. One for other names is forgotten.
+    fn take(
+        &mut self,
+        node: usize,
+        host: Option<&HostName>,
+        names: &[UnitName],
+    ) -> Option<Remembered>
+        ensures host { IfSome result (λ one. one.host ≡ option_copied host.entry) }
+        ensures names { IfSome result (λ one. one.extra ≡ names.now) }
     {
         let at = self.place_of(node, host)?;
-        Some(self.kept.remove(at).1)
+        let (_, one) = self.kept.remove(at);
+        if one.is_asked(names) { Some(one) } else { None }
     }
 
-    // Keeps the snapshot of a node's store, unless memory is refused.
-    fn keep(&mut self, node: usize, store: &Store, snapshot: Snapshot)
-        requires snapshot { IsSnapshot (view_of store.now snapshot.load.host) snapshot.load.extra snapshot }
+    // Keeps the snapshot of a node's store behind all others, unless memory is refused.
+    fn keep(&mut self, node: usize, store: Store, snapshot: Snapshot)
+        requires snapshot { IsSnapshotOf store snapshot }
     {
         if self.kept.len() >= MOST_SNAPSHOTS {
             self.kept.remove(0);
         }
-        if let Ok(remembered) = Remembered::of(store, snapshot) {
-            let _ = self.kept.push((node, remembered));
-        }
+        let _ = self.kept.push((node, Remembered { store, snapshot }));
     }
 
-    // The snapshot of a node's store for a host, with these names asked for: the one that is remembered, refreshed, or else
-    // all is loaded anew. Where memory is refused, all that is remembered is forgotten, and it is tried once more.
-    fn snapshot<R: Threads + Sync, G: Gate + Sync>(
+    // The snapshot of a node's store for a host, with these names asked for: the one that is remembered, as it is or refreshed,
+    // or else all is loaded anew. Where memory is refused, all that is remembered is forgotten, and it is tried once more.
+    fn found<R: Threads + Sync, G: Gate + Sync>(
         &mut self,
         rt: &R,
         alloc: Global,
@@ -147,22 +185,67 @@ impl Snapshots {
         names: &[UnitName],
         workers: usize,
         gate: &G,
-    ) -> Result<Snapshot, LoadFault>
-        ensures snapshot { IfOk result (IsSnapshot (view_of store.now (option_copied host.entry)) names.now) }
+    ) -> Result<Found, LoadFault>
+        ensures snapshot { IfOk result (λ found. IsSnapshot (view_of store.now (option_copied host.entry)) names.now found.snapshot) }
+        ensures own { IfOk result (λ found. IfSome found.kept_with (λ own. IsSnapshotOf own found.snapshot)) }
         ensures over { IfErr result (λ fault. OnTooMany fault (IsTooLarge (view_of store.now (option_copied host.entry)) names.now)) }
     {
-        let remembered = self.take(node, host);
-        let made = match &remembered {
-            Some(one) if one.is_asked(names) => one.refreshed(store),
-            _ => Snapshot::by_workers(rt, alloc, store, host, names, workers, gate),
+        let made = match self.take(node, host, names) {
+            Some(one) => one.renewed(store),
+            None => loaded_anew(rt, alloc, store, host, names, workers, gate),
         };
         match made {
             Err(LoadFault::Memory) => {
-                drop(remembered);
                 self.clear();
-                Snapshot::by_workers(rt, alloc, store, host, names, workers, gate)
+                loaded_anew(rt, alloc, store, host, names, workers, gate)
             }
             made => made,
+        }
+    }
+
+    // What a snapshot of a node's store answers; it is then kept, with the store that it is kept with already or else with a copy
+    // of this one.
+    fn told(
+        &mut self,
+        node: usize,
+        store: &Store,
+        found: Found,
+        question: &Question,
+    ) -> Result<Answer, AllocError>
+        requires snapshot { IsSnapshotOf store.now found.snapshot }
+        requires own { IfSome found.kept_with (λ own. IsSnapshotOf own found.snapshot) }
+        requires host { found.snapshot.host ≡ host_asked question.now }
+        requires known { AreKnown found.snapshot (names_asked question.now) }
+        ensures told { IfOk result (IsTold found.snapshot question.now) }
+    {
+        let Found {
+            mut snapshot,
+            kept_with,
+        } = found;
+        let answer = self.answer(&mut snapshot, question)?;
+        let own = match kept_with {
+            Some(own) => Ok(own),
+            None => store.try_clone(),
+        };
+        if let Ok(own) = own {
+            self.keep(node, own, snapshot);
+        }
+        Ok(answer)
+    }
+
+    // What a snapshot answers. Where memory is refused, all others are forgotten, and it is asked once more.
+    fn answer(&mut self, snapshot: &mut Snapshot, question: &Question) -> Result<Answer, AllocError>
+        requires host { snapshot.old.host ≡ host_asked question.now }
+        requires known { AreKnown snapshot.old (names_asked question.now) }
+        ensures told { IfOk result (IsTold snapshot.old question.now) }
+        ensures load { snapshot.new ≡ snapshot.old }
+    {
+        match snapshot.answer(question) {
+            Ok(answer) => Ok(answer),
+            Err(_) => {
+                self.clear();
+                snapshot.answer(question)
+            }
         }
     }
 }
@@ -188,21 +271,9 @@ pub fn answer_again<R: Threads + Sync, G: Gate + Sync>(
     let Some(names) = whole_names(alloc, &[], question)? else {
         return Ok(Answer::Template);
     };
-    match snapshots.snapshot(
-        rt,
-        alloc,
-        node,
-        store,
-        question.host(),
-        &names,
-        workers,
-        gate,
-    ) {
-        Ok(snapshot) => {
-            let answer = snapshot.answer(question)?;
-            snapshots.keep(node, store, snapshot);
-            Ok(answer)
-        }
+    let host = question.host();
+    match snapshots.found(rt, alloc, node, store, host, &names, workers, gate) {
+        Ok(found) => Ok(snapshots.told(node, store, found, question)?),
         Err(LoadFault::TooManyUnits) => Ok(Answer::TooManyUnits),
         Err(_) => Err(AnswerFault::Memory),
     }

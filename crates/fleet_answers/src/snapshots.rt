@@ -1,55 +1,51 @@
 //! What all that must be loaded of a store comes to.
-ghost use Rattle.std.specs.Prelude.{◌≡◌, ◌↔◌, ◌⊎◌, ◌<◌, Err, IfOk, IfErr, IsSome, Some};
-ghost use Rattle.std.specs.Option.{option_copied};
+ghost use Rattle.std.specs.Prelude.{◌≡◌, ◌↔◌, ◌⊎◌, ◌<◌, Err, IfOk, IfErr};
+ghost use Rattle.std.specs.Option.{IfSome, option_copied};
+ghost use Rattle.inverse_deps.specs.Edges.{AreEdges};
 ghost use Rattle.path_maps.specs.Views.{view_of};
 ghost use Rattle.parallel_load.specs.Refreshes.{IsBefore};
 ghost use Rattle.parallel_load.specs.Refusals.{OnTooMany, OnWorkers};
 ghost use Rattle.parallel_load.specs.Universe.{IsTooLarge};
 ghost use Rattle.parallel_load.specs.declared.faults.LoadFault.TheVariants.{Workers};
-ghost use Rattle.parallel_load.specs.Loads.{main_in, unit_in};
-ghost use Rattle.unit_graph.specs.Graphs.{AreDepths, IsKnown};
-ghost use Rattle.start_plan.specs.Outcomes.{IsPlanned, IsRefusalOf};
-ghost use Rattle.start_plan.specs.Requests.{IsOfGraph};
-ghost use Rattle.fleet_answers.specs.Answers.{AreKnown, IsLinkedUnit, IsPlanTold, IsSnapshot, IsTold, edge_lists, host_asked, names_asked};
+ghost use Rattle.fleet_answers.specs.Answers.{AreKnown, IsSnapshot, IsTold, host_asked, names_asked};
 
-use crate::questions::{Answer, LinkedUnit, Question};
-use inverse_deps::{Edges, edges};
-use parallel_load::{Gate, LoadFault, Loaded, NameLoad, Unit, load_fleet, load_here, refresh};
-use plain_values::{Items, Shared, TryClone};
+use crate::questions::{Answer, Question};
+use crate::tellings::{linked_unit, planned, pulled};
+use inverse_deps::{Edges, are_linked_alike, edges};
+use parallel_load::{Gate, LoadFault, Loaded, load_fleet, load_here, refresh};
+use plain_values::{Shared, TryClone};
 use replica_store::{HostName, Place, Store};
-use setting_rules::{DepKind, DependencyList};
-use start_plan::{Plan, Refusal, Request, plan};
 use std::alloc::{AllocError, Global};
 use std::marker::Model;
 use std::thread::Threads;
-use unit_graph::Graph;
 use unit_name::UnitName;
 
-/// All units that must be loaded of a store, with their edges.
+/// All units that must be loaded of a store, and their edges once a question asked for them. Contracts see the load.
 #[derive(Debug, Drop)]
 pub struct Snapshot {
     loaded: Loaded,
-    edges: Edges,
+    edges: Option<Shared<Edges>>,
 }
 
 impl Model for Snapshot {
+    ghost use Rattle.std.specs.Option.{IfSome};
     ghost use Rattle.inverse_deps.specs.Edges.{AreEdges};
-    ghost use Rattle.unit_graph.specs.Graphs.{GraphMap, coded_graph};
+    ghost use Rattle.parallel_load.specs.Loads.{LoadMap, coded_load};
 
-    ghost Value = { GraphMap };
+    ghost Value = { LoadMap };
 
-    ghost coded = { coded_graph };
+    ghost coded = { coded_load };
 
-    ghost view = { λ s. record { load = s.loaded; edges = s.edges } };
+    ghost view = { λ s. s.loaded };
 
-    ghost invariant = { λ s. AreEdges s.loaded s.edges };
+    ghost invariant = { λ s. IfSome s.edges (AreEdges s.loaded) };
 }
 
 impl Snapshot {
     /// The snapshot of a store for a host, or without one, with these names asked for beside all at which something is visible, by one thread.
     /// `TooManyUnits` exactly where more than 4,096 names must be loaded, aliases counted; or `Memory` for want of memory.
     ///
-    /// One load (systemd.unit(5)), and then its edges.
+    /// One load (systemd.unit(5)), and no edges yet.
     pub fn of(
         alloc: Global,
         store: &Store,
@@ -61,7 +57,7 @@ impl Snapshot {
         ensures no_workers { IfErr result (λ fault. OnWorkers fault ⊥) }
     {
         let loaded = load_here(alloc, store, host, extra)?;
-        Ok(Snapshot::with_edges(alloc, loaded)?)
+        Ok(Snapshot::of_load(loaded))
     }
 
     /// The same snapshot by 1 to 64 workers, whatever their number and whatever the gate answers. `Workers` exactly where
@@ -83,151 +79,83 @@ impl Snapshot {
             return Snapshot::of(alloc, store, host, extra);
         }
         let loaded = load_fleet(rt, alloc, store, host, extra, workers, gate)?;
-        Ok(Snapshot::with_edges(alloc, loaded)?)
+        Ok(Snapshot::of_load(loaded))
+    }
+
+    // A load, whose edges aren't made yet.
+    fn of_load(loaded: Loaded) -> Snapshot
+        ensures load { result ≡ loaded }
+    {
+        Snapshot {
+            loaded,
+            edges: None,
+        }
     }
 
     /// The snapshot of another store for the same host with the same names asked for, where these places are all at which the
-    /// two stores show otherwise: what `of` gives of it, refusals too, but that only what changed is read.
-    pub(crate) fn refreshed(&self, store: &Store, touched: &[Place]) -> Result<Snapshot, LoadFault>
-        requires before { IsBefore self.now.load store.now touched.now }
-        ensures snapshot { IfOk result (IsSnapshot (view_of store.now self.now.load.host) self.now.load.extra) }
-        ensures over { IfErr result (λ fault. OnTooMany fault (IsTooLarge (view_of store.now self.now.load.host) self.now.load.extra)) }
+    /// two stores show otherwise: what `of` gives of it, refusals too, but that only what changed is read. Edges that were made
+    /// are kept where names and dependencies stayed.
+    pub(crate) fn refreshed(self, store: &Store, touched: &[Place]) -> Result<Snapshot, LoadFault>
+        requires before { IsBefore self store.now touched.now }
+        ensures snapshot { IfOk result (IsSnapshot (view_of store.now self.host) self.extra) }
+        ensures over { IfErr result (λ fault. OnTooMany fault (IsTooLarge (view_of store.now self.host) self.extra)) }
         ensures no_workers { IfErr result (λ fault. OnWorkers fault ⊥) }
     {
         let loaded = refresh(&self.loaded, store, touched)?;
-        Ok(Snapshot::with_edges(loaded.allocator(), loaded)?)
-    }
-
-    // A load with its edges.
-    fn with_edges(alloc: Global, loaded: Loaded) -> Result<Snapshot, AllocError>
-        ensures load { IfOk result (λ snapshot. snapshot.load ≡ loaded) }
-    {
-        let edges = edges(alloc, &loaded)?;
+        let edges = edges_for(self, &loaded);
         Ok(Snapshot { loaded, edges })
     }
 
     /// The units.
     pub fn loaded(&self) -> &Loaded
-        ensures load { result.now ≡ self.now.load }
+        ensures load { result.now ≡ self.now }
     {
         &self.loaded
     }
 
-    /// The edges between the units.
-    pub fn edges(&self) -> &Edges
-        ensures edges { result.now ≡ self.now.edges }
+    /// All edges between the units. They are made once, and kept. It fails for want of memory alone.
+    pub fn edges(&mut self) -> Result<Shared<Edges>, AllocError>
+        ensures edges { IfOk result (AreEdges self.old) }
+        ensures load { self.new ≡ self.old }
     {
-        &self.edges
+        if let Some(made) = &self.edges {
+            return made.try_clone();
+        }
+        let alloc = self.loaded.allocator();
+        let made = Shared::new(alloc, edges(alloc, &self.loaded)?)?;
+        self.edges = Some(made.try_clone()?);
+        Ok(made)
     }
 
-    /// Answers a question for its host, all of whose names stand for units. It fails for want of memory alone.
-    pub fn answer(&self, question: &Question) -> Result<Answer, AllocError>
-        requires host { self.now.load.host ≡ host_asked question.now }
-        requires known { AreKnown self.now.load (names_asked question.now) }
-        ensures told { IfOk result (IsTold self.now question.now) }
+    /// Answers a question for its host, all of whose names stand for units. It fails for want of memory alone. What a unit
+    /// pulls, and plans, need all edges, which are then kept.
+    pub fn answer(&mut self, question: &Question) -> Result<Answer, AllocError>
+        requires host { self.old.host ≡ host_asked question.now }
+        requires known { AreKnown self.old (names_asked question.now) }
+        ensures told { IfOk result (IsTold self.old question.now) }
+        ensures load { self.new ≡ self.old }
     {
         match question {
-            Question::Unit { name, .. } => Ok(Answer::Unit(self.linked_unit(name)?)),
-            Question::Pulled { name, .. } => Ok(Answer::Pulled(self.pulled(name)?)),
-            Question::Plan(request) => self.planned(request),
+            Question::Unit { name, .. } => Ok(Answer::Unit(linked_unit(self.loaded(), name)?)),
+            Question::Pulled { name, .. } => {
+                let edges = self.edges()?;
+                Ok(Answer::Pulled(pulled(self.loaded(), edges.get(), name)?))
+            }
+            Question::Plan(request) => {
+                let edges = self.edges()?;
+                planned(self.loaded(), edges.get(), request)
+            }
         }
     }
-
-    // The graph of the units.
-    fn graph(&self) -> Graph<'_>
-        ensures graph { result ≡ self.now }
-    {
-        Graph::build(&self.loaded, &self.edges)
-    }
-
-    // The unit for which a name stands, with its edges.
-    fn linked_unit(&self, name: &UnitName) -> Result<LinkedUnit, AllocError>
-        requires known { IsKnown self.now.load name.now }
-        ensures unit { IfOk result (IsLinkedUnit self.now name.now) }
-    {
-        let main = main_of(&self.loaded, name);
-        let edges = edge_lists(self.loaded.allocator(), &self.edges, main)?;
-        let unit = shared_unit(&self.loaded, main)?;
-        Ok(LinkedUnit { unit, edges })
-    }
-
-    // What the unit pulls for which a name stands.
-    fn pulled(&self, name: &UnitName) -> Result<Items<(u64, UnitName)>, AllocError>
-        requires known { IsKnown self.now.load name.now }
-        ensures depths { IfOk result (AreDepths self.now name.now) }
-    {
-        Ok(Items::from_vec(self.graph().depths(name)?))
-    }
-
-    // The plan of a request, or why there is none.
-    fn planned(&self, request: &Request) -> Result<Answer, AllocError>
-        requires host { request.now.host ≡ self.now.load.host }
-        requires names { IsOfGraph self.now.load request.now }
-        ensures told { IfOk result (IsPlanTold self.now request.now) }
-    {
-        match self.plan(request) {
-            Ok(plan) => Ok(Answer::Planned(plan)),
-            Err(Refusal::Memory) => Err(AllocError),
-            Err(refusal) => Ok(Answer::Refused(refusal)),
-        }
-    }
-
-    // The plan of a request, or the first reason why there is none.
-    fn plan(&self, request: &Request) -> Result<Plan, Refusal>
-        requires host { request.now.host ≡ self.now.load.host }
-        requires names { IsOfGraph self.now.load request.now }
-        ensures plan { IfOk result (IsPlanned self.now.load self.now.edges request.now) }
-        ensures refusal { IfErr result (IsRefusalOf self.now.load self.now.edges request.now) }
-    {
-        plan(self.loaded.allocator(), &self.graph(), request)
-    }
 }
 
-// The main name of a name of a load.
-fn main_of<'a>(loaded: &'a Loaded, name: &UnitName) -> &'a UnitName
-    requires known { IsKnown loaded.now name.now }
-    ensures main { main_in loaded.now name.now ≡ Some result.now }
+// The edges of a snapshot that were made, where they are those of another load too.
+fn edges_for(snapshot: Snapshot, loaded: &Loaded) -> Option<Shared<Edges>>
+    ensures edges { IfSome result (AreEdges loaded.now) }
 {
-    match loaded.main(name) {
-        Some(main) => main,
-        None => unreachable!(),
+    let Snapshot { loaded: old, edges } = snapshot;
+    match edges {
+        Some(made) if are_linked_alike(&old, loaded) => Some(made),
+        _ => None,
     }
-}
-
-// The unit of a main name of a load, shared with it.
-fn shared_unit(loaded: &Loaded, main: &UnitName) -> Result<Shared<Unit>, AllocError>
-    requires unit { IsSome (unit_in loaded.now main.now) }
-    ensures unit { IfOk result (λ unit. unit_in loaded.now main.now ≡ Some unit) }
-{
-    match loaded.stands_for(main) {
-        Some(NameLoad::Unit(unit)) => unit.try_clone(),
-        Some(NameLoad::Alias(_)) | None => unreachable!(),
-    }
-}
-
-// The lists of a unit's edges, for each kind in order.
-fn edge_lists(
-    alloc: Global,
-    edges: &Edges,
-    unit: &UnitName,
-) -> Result<Items<DependencyList>, AllocError>
-    ensures lists { IfOk result (λ lists. lists ≡ edge_lists edges.now unit.now) }
-{
-    let mut lists = Items::new(alloc);
-    for kind in DepKind::all() {
-        let names = copies(alloc, edges.of(*kind, unit))?;
-        lists.push(DependencyList { kind: *kind, names })?;
-    }
-    Ok(lists)
-}
-
-// Copies of names.
-fn copies(alloc: Global, names: &[UnitName]) -> Result<Items<UnitName>, AllocError>
-    ensures copies { IfOk result (λ copies. copies ≡ names.now) }
-{
-    let mut copies = Items::new(alloc);
-    for name in names {
-        copies.push(name.try_clone()?)?;
-    }
-    Ok(copies)
 }

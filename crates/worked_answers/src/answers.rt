@@ -1,5 +1,5 @@
 //! The answers of lines.
-use crate::asking::{ask, world};
+use crate::asking::{again, ask, world};
 use crate::edits::{Asked, asked_of};
 use crate::graphs::graph;
 use crate::refreshing::{footprint, refresh};
@@ -150,6 +150,7 @@ pub fn answer<R: Threads + Clock + Sync>(
         b"refresh" => refresh(words, host, out),
         b"footprint" => footprint(words, host, out),
         b"ask" => ask(rt, words, host, out),
+        b"again" => again(rt, words, host, out),
         b"world" => world(rt, words, host, out),
     )
 }

@@ -1,14 +1,15 @@
 //! Questions of stores and of nodes of worlds, in words.
 use crate::edits::{Asked, asked_of};
 use crate::graphs::append_far;
+use crate::refreshing::store_of;
 use crate::tellings::append_unit;
 use delta_gossip::Event;
 use fleet_answers::{
-    Answer as Told, AnswerFault, LinkedUnit, Question, answer_here, answer_in_world,
-    answer_question,
+    Answer as Told, AnswerFault, LinkedUnit, Question, Snapshots, answer_again, answer_here,
+    answer_in_world, answer_question,
 };
 use plain_values::Items;
-use replica_store::{Edit, HostName};
+use replica_store::{Edit, HostName, Store};
 use setting_rules::DependencyList;
 use start_plan::{Plan, Request};
 use std::alloc::Global;
@@ -164,6 +165,55 @@ pub fn ask<R: Threads + Sync>(
     let asked = asked_of(words, None)?;
     let asking = asking_of(words, host)?;
     append_all(rt, out, &asked, &asking)
+}
+
+// What a store answers of names that aren't asked for beside the question, by one worker, where what was loaded for the answer
+// before is refreshed.
+fn told_again<R: Threads + Sync>(
+    rt: &R,
+    alloc: Global,
+    snapshots: &mut Snapshots,
+    store: &Store,
+    question: &Question,
+) -> Result<Vec<u8>, LineFault> {
+    let told = answer_again(rt, alloc, snapshots, 0, store, question, 1, &OpenGate);
+    text_of(alloc, told.map(Some))
+}
+
+// Writes what the store of so many first edits answers, and whether that is what it answers by one thread.
+fn append_again<R: Threads + Sync>(
+    rt: &R,
+    out: &mut Answer,
+    snapshots: &mut Snapshots,
+    edits: &[Edit],
+    question: &Question,
+    count: usize,
+) -> Result<(), LineFault> {
+    out.line(format!(in out.alloc; "of {count} edits: ")?.as_bytes())?;
+    let store = store_of(out.alloc, edits, count)?;
+    let text = told_again(rt, out.alloc, snapshots, &store, question)?;
+    let here = text_of(
+        out.alloc,
+        Ok(Some(answer_here(out.alloc, &store, &[], question)?)),
+    )?;
+    out.write(&text)?;
+    out.either(text == here, b"", b", and not what is answered here")
+}
+
+/// Answers a question from the store of each of several numbers of first edits, one after another.
+pub fn again<R: Threads + Sync>(
+    rt: &R,
+    words: &mut Words,
+    host: Option<HostName>,
+    out: &mut Answer,
+) -> Result<(), LineFault> {
+    let edits = words.edits()?;
+    let asking = asking_of(words, host)?;
+    let mut snapshots = Snapshots::new(out.alloc);
+    for count in &asking.counts {
+        append_again(rt, out, &mut snapshots, &edits, &asking.question, *count)?;
+    }
+    Ok(())
 }
 
 // The first node puts edits, and then the second is given all that it lacks, in the exchange of a number.

@@ -18,6 +18,8 @@
 //!   whether it is the load by one thread;
 //! - `footprint EDITS + ASKED + NAMES`: the first components of all paths that say something of the unit of each name;
 //! - `ask EDITS + ASKED + QUESTION + WORKERS`: what a store answers by one thread, and by each number of workers;
+//! - `again EDITS + QUESTION + COUNTS`: what the store of each of these numbers of first edits answers, one after another, where
+//!   what was loaded for one is refreshed for the next; it says so where that isn't what the store answers by one thread;
 //! - `world EDITS + QUESTION + WORKERS`: what two nodes of a world answer, by each number of workers, once the second took
 //!   what the first put: at a moment before the last edit, and at one behind it; and that there is no third node.
 //!

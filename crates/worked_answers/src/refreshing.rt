@@ -47,8 +47,8 @@ impl LoadedStore {
     }
 }
 
-// The store of so many first edits.
-fn store_of(alloc: Global, edits: &[Edit], count: usize) -> Result<Store, LineFault> {
+/// The store of so many first edits.
+pub fn store_of(alloc: Global, edits: &[Edit], count: usize) -> Result<Store, LineFault> {
     if count > edits.len() {
         return Err(LineFault::Words);
     }

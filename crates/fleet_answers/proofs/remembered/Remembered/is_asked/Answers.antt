@@ -1,12 +1,11 @@
 use Rattle.std.proofs.Common.{ap, sym, ◌∙◌}
 use Rattle.parallel_load.specs.Loads.{LoadMap}
-use Rattle.unit_graph.specs.Graphs.{GraphMap}
 use Rattle.fleet_answers.proofs.Asked.{names_same}
 use Rattle.fleet_answers.proofs.remembered.Remembered.is_asked.Goals as goal
 
 pub returns : goal.returns
 returns c = record {
   names = λ h.
-      ap (λ (g : GraphMap). g.load.extra) (sym c.self.view_is) ∙ sym (ap (λ (l : LoadMap). l.extra) c.loaded.ensures.load) ∙ sym c.extra.ensures.extra
+      ap (λ (l : LoadMap). l.extra) (sym c.self.view_is) ∙ sym (ap (λ (l : LoadMap). l.extra) c.loaded.ensures.load) ∙ sym c.extra.ensures.extra
       ∙ names_same c.extra.result.now c.args.names.now (sym c.eq.ensures ∙ h);
 }

@@ -1,14 +1,13 @@
 use Rattle.std.proofs.Common.{Some, ap, sym, ◌∙◌}
 use Rattle.std.specs.Option.{option_copied}
 use Rattle.parallel_load.specs.Loads.{LoadMap}
-use Rattle.unit_graph.specs.Graphs.{GraphMap}
 use Rattle.unit_name.specs.NameLaws.{name_eq-Decides}
 use Rattle.fleet_answers.proofs.remembered.Remembered.is_of.Goals as goal
 
 pub returns-in-Some-Some : goal.returns-in-Some-Some
 returns-in-Some-Some c = record {
   host = λ h.
-      ap (λ (g : GraphMap). g.load.host) (sym c.self.view_is) ∙ sym (ap (λ (l : LoadMap). l.host) c.loaded.ensures.load) ∙ sym c.host.ensures.host
+      ap (λ (l : LoadMap). l.host) (sym c.self.view_is) ∙ sym (ap (λ (l : LoadMap). l.host) c.loaded.ensures.load) ∙ sym c.host.ensures.host
       ∙ ap option_copied c.in-Some-Some.is-0 ∙ ap Some ((name_eq-Decides c.in-Some-Some.own.now c.in-Some-Some.host.now).0 (sym c.eq.ensures ∙ h))
       ∙ sym (ap option_copied c.in-Some-Some.is-1);
 }

@@ -1,0 +1,24 @@
+use Rattle.std.proofs.Common.{subst}
+use Rattle.path_maps.specs.Views.{view_of}
+use Rattle.parallel_load.specs.Loads.{LoadMap}
+use Rattle.fleet_answers.specs.Answers.{IsSnapshot}
+use Rattle.fleet_answers.specs.ShownLaws.{snapshots_stay}
+use Rattle.fleet_answers.proofs.Asked.{none_told, rest_is, same_shown}
+use Rattle.fleet_answers.proofs.remembered.Remembered.renewed.Goals as goal
+
+pub returns-then-is_empty-clause-snapshot : goal.returns-then-is_empty-clause-snapshot
+returns-then-is_empty-clause-snapshot c =
+    let load : LoadMap = c.self.inside.snapshot in
+    let none = none_told c.in_ok-touched.touched c.is_empty.result c.is_empty.ensures c.if-is_empty.true in
+    subst (λ (own : LoadMap). IsSnapshot (view_of c.args.store.now own.host) own.extra load) c.self.view_is
+    (snapshots_stay c.self.inside.store c.args.store.now load.host load.extra load
+    (same_shown c.args.store.now c.self.inside.store c.in_ok-touched.touched.items none c.in_ok-touched.ensures.exact) c.self.invariant)
+
+pub refreshed-requires : goal.refreshed-requires
+refreshed-requires c = record {
+  before = record {
+    before = c.self.inside.store;
+    load_is = c.self.invariant.is_load;
+    rest = rest_is c.args.store.now c.self.inside.store c.in_ok-touched.touched.items c.deref.result.now c.deref.ensures.value c.in_ok-touched.ensures.exact;
+  };
+}

@@ -1,0 +1,7 @@
+use Rattle.std.proofs.Common.{sym, subst}
+use Rattle.parallel_load.specs.Loads.{LoadMap}
+use Rattle.fleet_answers.specs.Answers.{AreKnown, names_asked}
+use Rattle.fleet_answers.proofs.remembered.Snapshots.answer.Goals as goal
+
+pub answer-requires-in-Err-clause-known : goal.answer-requires-in-Err-clause-known
+answer-requires-in-Err-clause-known c = subst (λ (l : LoadMap). AreKnown l (names_asked c.args.question.now)) (sym c.in-Err.ensures.load) c.requires.known
