@@ -1,4 +1,6 @@
 pub mod Finding
+pub mod Linking
 pub mod Listing
+pub mod SameRows
 pub mod Stepping
 pub mod Tabling

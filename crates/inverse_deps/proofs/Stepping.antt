@@ -24,7 +24,7 @@ use Rattle.inverse_deps.specs.Edges.{IsUnitIn, DependsOn, IsEdge}
 use Rattle.inverse_deps.specs.Numbers.{count_of, name_at}
 use Rattle.inverse_deps.specs.NamingLaws.{names_along, names_either, turned_named}
 use Rattle.inverse_deps.specs.NumberLaws.{load_numbering, unit_at, unit_number}
-use Rattle.inverse_deps.specs.Tables.{AreNumbersBy}
+use Rattle.inverse_deps.specs.Tables.{AreNumbersBy, HasKind}
 
 module _ (load : LoadMap) (sorted : IsTrue (is_sorted name_cmp load.names)) (dep : DepKind) (number : ℕ) (p : Name × NameLoad) (below : number < count_of load) where
   part : unit_in load (name_at load number) ≡ unit_part (get_or load.names number p).1
@@ -42,46 +42,51 @@ module _ (load : LoadMap) (sorted : IsTrue (is_sorted name_cmp load.names)) (dep
       subst Q same d.listed
   back (OfAlias m) e v d = absurd (none-some _ (sym (part ∙ ap unit_part e) ∙ d.unit_is))
 
-  -- the numbers of a name's dependencies are the numbers of what it depends on
-  pub numbers_named : (deps : List Dependency) (is : List ℕ) → AreDependenciesOf load.names (lists_in (get_or load.names number p).1) deps → AreNumbersBy deps dep is
-      → AreNames (count_of load) (name_at load) (Listed is) (DependsOn load dep (name_at load number))
-  numbers_named deps is a by = record { within = within; named = named; numbered = numbered }
+  -- a name's dependencies of the kind are what it depends on
+  pub kinds_named : (deps : List Dependency) → AreDependenciesOf load.names (lists_in (get_or load.names number p).1) deps
+      → AreNames (count_of load) (name_at load) (HasKind deps dep) (DependsOn load dep (name_at load number))
+  kinds_named deps a = record { within = within; named = named; numbered = numbered }
     where
-      within : (i : ℕ) → Listed is i → i < count_of load
-      within i h =
-          let k = (by i).0 h in
+      within : (i : ℕ) → HasKind deps dep i → i < count_of load
+      within i k =
           let P : ℕ → Type 0 = λ j. j < count_of load in
           subst P k.number_is (a.each k.one k.there).below
 
-      named : (i : ℕ) → Listed is i → DependsOn load dep (name_at load number) (name_at load i)
-      named i h =
-          let k = (by i).0 h in
+      named : (i : ℕ) → HasKind deps dep i → DependsOn load dep (name_at load number) (name_at load i)
+      named i k =
           let d = a.each k.one k.there in
           let K : DepKind → Type 0 = λ e. IsListed (lists_in (get_or load.names number p).1) e (name_at load k.one.number) in
           let L : ℕ → Type 0 = λ j. IsListed (lists_in (get_or load.names number p).1) dep (name_at load j) in
           let U : ℕ → Type 0 = λ j. IsUnitIn load (name_at load j) in
           there (get_or load.names number p).1 refl (name_at load i) (subst L k.number_is (subst K k.kind_is d.listed)) (subst U k.number_is d.unit)
 
-      numbered : (v : Name) → DependsOn load dep (name_at load number) v → (i : ℕ) × (Listed is i × (name_at load i ≡ v))
+      numbered : (v : Name) → DependsOn load dep (name_at load number) v → (i : ℕ) × (HasKind deps dep i × (name_at load i ≡ v))
       numbered v d =
           let r = a.all dep v (back (get_or load.names number p).1 refl v d) in
-          (r.one.number, ((by r.one.number).1 (record { one = r.one; there = r.there; kind_is = r.kind_is; number_is = refl }), r.named))
+          (r.one.number, (record { one = r.one; there = r.there; kind_is = r.kind_is; number_is = refl }, r.named))
 
 -- what stands at a place, whatever stands for none
-same_at : {X : Type 0} (xs : List X) (i : ℕ) (d e : X) → i < length xs → get_or xs i d ≡ get_or xs i e
+pub same_at : {X : Type 0} (xs : List X) (i : ℕ) (d e : X) → i < length xs → get_or xs i d ≡ get_or xs i e
 same_at [] i d e l = absurd (omega arith)
 same_at (x ∷ xs) zero d e l = refl
 same_at (x ∷ xs) (suc i) d e l = same_at xs i d e (omega arith)
 
 -- the same for the rows of a load
+pub rows_named : (load : LoadMap) → IsTrue (is_sorted name_cmp load.names) → (dep : DepKind) (rows : List (List Dependency)) → AreDependencyRows load.names rows
+    → AreNamedSteps (count_of load) (name_at load) (λ i j. HasKind (get_or rows i []) dep j) (DependsOn load dep)
+rows_named load sorted dep rows a number l = let p : Name × NameLoad = ([], OfAlias []) in kinds_named load sorted dep number p l (get_or rows number []) (a.rows number p l)
+
+-- the numbers of a row's dependencies are the numbers of what its name depends on
 pub row_named : (load : LoadMap) → IsTrue (is_sorted name_cmp load.names) → (dep : DepKind) (rows : List (List Dependency)) → AreDependencyRows load.names rows → (number : ℕ) → number < length rows
     → (deps : List Dependency) → deps ≡ get_or rows number deps → (is : List ℕ) → AreNumbersBy deps dep is → AreNames (count_of load) (name_at load) (Listed is) (DependsOn load dep (name_at load number))
 row_named load sorted dep rows a number l deps e is by =
-    let p : Name × NameLoad = ([], OfAlias []) in
     let each = a.one_each in
     let below : number < count_of load = omega (arith, each, l) in
-    let D : List Dependency → Type 0 = λ ds. AreDependenciesOf load.names (lists_in (get_or load.names number p).1) ds in
-    numbers_named load sorted dep number p below deps is (subst D (sym (e ∙ same_at rows number deps [] l)) (a.rows number p below)) by
+    let Q : Name → Type 0 = DependsOn load dep (name_at load number) in
+    let N : List Dependency → Type 0 = λ ds. AreNumbersBy ds dep is in
+    let own = subst N (e ∙ same_at rows number deps [] l) by in
+    names_along (count_of load) (name_at load) (HasKind (get_or rows number []) dep) (Listed is) Q Q (rows_named load sorted dep rows a number below)
+    (λ i. ((own i).1, (own i).0)) (λ u. (λ h. h, λ h. h))
 
 -- edges: what a unit names, and what names it by the inverse
 module _ (load : LoadMap) (sorted : IsTrue (is_sorted name_cmp load.names)) (dep other : DepKind) (is_inverse : other ≡ inverse dep) (named naming back rows : List (Vec ℕ Global)) where

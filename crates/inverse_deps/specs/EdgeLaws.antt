@@ -1,9 +1,12 @@
 -- Laws of edges: an edge and its inverse are one, edges join units, and a load has one list of its edges.
-use Rattle.std.proofs.Common.{◌≡◌, ◌⊎◌, ◌↔◌, List, Some, inl, inr, refl, sym, subst}
+use Rattle.std.proofs.Common.{◌≡◌, ◌⊎◌, ◌↔◌, List, [], ◌∷◌, Some, inl, inr, map, refl, ap, sym, subst, ◌∙◌}
+use Rattle.std.specs.List.{All}
 use Rattle.std.specs.Cmp.Lexicographic.{nat_list_cmp_total}
+use Rattle.std.proofs.lemmas.List.Elements.{All-head, All-tail, All-weaker}
 use Rattle.list_laws.specs.Rising.{one_rising_list}
 use Rattle.path_maps.specs.Views.{View}
 use Rattle.unit_name.specs.Names.{Name, name_cmp}
+use Rattle.setting_rules.specs.declared.dependency_lists.DependencyList.{DependencyList}
 use Rattle.setting_rules.specs.declared.kinds.DepKind.{DepKind}
 use Rattle.setting_rules.specs.declared.kinds.DepKind.TheVariants.{Before, After, Wants, WantedBy, Requires, RequiredBy, Requisite, RequisiteOf, BindsTo, BoundBy, PartOf, ConsistsOf, Conflicts, ConflictedBy, OnFailure, OnFailureOf, PropagatesReloadTo, ReloadPropagatedFrom}
 use Rattle.setting_rules.specs.Kinds.{inverse}
@@ -11,7 +14,7 @@ use Rattle.unit_loads.specs.declared.units.Unit.{Unit as LoadedUnit}
 use Rattle.unit_loads.specs.NamedUnits.{IsListed}
 use Rattle.parallel_load.specs.Loads.{IsLoad, LoadMap, unit_in}
 use Rattle.parallel_load.specs.UniverseLaws.{IsDependency, dependencies_are_loaded, dependencies_are_mains}
-use Rattle.inverse_deps.specs.Edges.{IsUnitIn, DependsOn, IsEdge, EdgeMap, AreEdges, names_in}
+use Rattle.inverse_deps.specs.Edges.{IsUnitIn, DependsOn, IsEdge, EdgeMap, AreEdges, AreEdgesFrom, AreEdgesOf, names_in}
 
 -- An edge and its inverse are one.
 abbrev pub InversesAreOne : Type 0
@@ -24,6 +27,15 @@ EdgesJoinUnits = (load : LoadMap) (dep : DepKind) (u v : Name) → IsEdge load d
 -- A load has one list of edges of a kind from a name.
 abbrev pub OneListOfEdges : Type 0
 OneListOfEdges = (load : LoadMap) (a b : EdgeMap) → AreEdges load a → AreEdges load b → (dep : DepKind) (u : Name) → names_in a dep u ≡ names_in b dep u
+
+-- And one list for each kind of the edges from a name.
+abbrev pub OneListByKind : Type 0
+OneListByKind = (load : LoadMap) (u : Name) (a b : List DependencyList) → AreEdgesOf load u a → AreEdgesOf load u b → a ≡ b
+
+-- These lists are those that all edges have for the name.
+abbrev pub ListsAreOfAllEdges : Type 0
+ListsAreOfAllEdges = (load : LoadMap) (u : Name) (lists : List DependencyList) (edges : EdgeMap) → AreEdgesOf load u lists → AreEdges load edges
+    → All (λ list. list.names ≡ names_in edges list.kind u) lists
 
 -- In a load of a store all dependencies of its units are edges.
 abbrev pub DependenciesAreEdges : Type 0
@@ -71,10 +83,47 @@ pub edges_join_units : EdgesJoinUnits
 edges_join_units load dep u v (inl d) = ((d.unit, d.unit_is), d.other)
 edges_join_units load dep u v (inr d) = (d.other, (d.unit, d.unit_is))
 
+one_list_from : (load : LoadMap) (dep : DepKind) (u : Name) (a b : List Name) → AreEdgesFrom load dep u a → AreEdgesFrom load dep u b → a ≡ b
+one_list_from load dep u a b p q =
+    one_rising_list name_cmp nat_list_cmp_total a b p.rising q.rising
+    (λ v. (λ h. (q.exact v).1 ((p.exact v).0 h), λ h. (p.exact v).1 ((q.exact v).0 h)))
+
 pub one_list_of_edges : OneListOfEdges
-one_list_of_edges load a b p q dep u =
-    one_rising_list name_cmp nat_list_cmp_total (names_in a dep u) (names_in b dep u) (p.lists dep u).rising (q.lists dep u).rising
-    (λ v. (λ h. ((q.lists dep u).exact v).1 (((p.lists dep u).exact v).0 h), λ h. ((p.lists dep u).exact v).1 (((q.lists dep u).exact v).0 h)))
+one_list_of_edges load a b p q dep u = one_list_from load dep u (names_in a dep u) (names_in b dep u) (p.lists dep u) (q.lists dep u)
+
+-- ---- lists for each kind
+
+dependency_list : DepKind → List Name → DependencyList
+dependency_list dep names = record { kind = dep; names = names }
+
+module _ (load : LoadMap) (u : Name) where
+  abbrev Holds : DependencyList → Type 0
+  Holds list = AreEdgesFrom load list.kind u list.names
+
+  one_each : (x y : DependencyList) → x.kind ≡ y.kind → Holds x → Holds y → x ≡ y
+  unfolding dependency_list
+  one_each x y same p q =
+      ap (λ dep. dependency_list dep x.names) same
+      ∙ ap (dependency_list y.kind) (one_list_from load y.kind u x.names y.names (subst (λ dep. AreEdgesFrom load dep u x.names) same p) q)
+
+  one_by_kind : (a b : List DependencyList) → map (λ list. list.kind) a ≡ map (λ list. list.kind) b → All Holds a → All Holds b → a ≡ b
+  one_by_kind [] [] same p q = refl
+  one_by_kind [] (y ∷ b) same p q = cc
+  one_by_kind (x ∷ a) [] same p q = cc
+  one_by_kind (x ∷ a) (y ∷ b) same p q =
+      let first : x.kind ≡ y.kind = cc in
+      let rest : map (λ (list : DependencyList). list.kind) a ≡ map (λ (list : DependencyList). list.kind) b = cc in
+      ap (λ (list : DependencyList). list ∷ a) (one_each x y first (All-head Holds x a p) (All-head Holds y b q))
+      ∙ ap (λ (lists : List DependencyList). y ∷ lists) (one_by_kind a b rest (All-tail Holds x a p) (All-tail Holds y b q))
+
+pub one_list_by_kind : OneListByKind
+one_list_by_kind load u a b p q = one_by_kind load u a b (p.kinds_are ∙ sym q.kinds_are) p.each q.each
+
+pub lists_are_of_all_edges : ListsAreOfAllEdges
+lists_are_of_all_edges load u lists edges p q =
+    let P : DependencyList → Type 0 = λ list. AreEdgesFrom load list.kind u list.names in
+    let Q : DependencyList → Type 0 = λ list. list.names ≡ names_in edges list.kind u in
+    All-weaker P Q (λ list h. one_list_from load list.kind u list.names (names_in edges list.kind u) h (q.lists list.kind u)) lists p.each
 
 pub dependencies_are_edges : DependenciesAreEdges
 dependencies_are_edges s extra load dep u v unit l e h =

@@ -1,15 +1,16 @@
 -- The dependencies between the units of a load, as either side has them.
 -- Source: systemd.unit(5), "Mapping of unit properties to their inverses".
-use Rattle.std.specs.Prelude.{◌≡◌, ◌⊎◌, ◌↔◌, ℕ, Option, Some, None, List, [], IsTrue}
-use Rattle.std.specs.List.{slice_index_or}
+use Rattle.std.specs.Prelude.{◌≡◌, ◌⊎◌, ◌↔◌, ℕ, Option, Some, None, List, [], map, IsTrue}
+use Rattle.std.specs.List.{All, slice_index_or}
 use Rattle.std.specs.List.Sorted.{IsStrictlySortedBy}
 use Rattle.std.specs.FinMap.{find, is_sorted}
 use Rattle.std.specs.Map.{keys_of}
 use Rattle.list_laws.specs.Members.{IsAmong}
 use Rattle.unit_name.specs.Names.{Name, name_cmp}
+use Rattle.setting_rules.specs.declared.dependency_lists.DependencyList.{DependencyList}
 use Rattle.setting_rules.specs.declared.kinds.DepKind.{DepKind}
 use Rattle.setting_rules.specs.declared.kinds.DepKind.TheVariants.{Before, After, Wants, WantedBy, Requires, RequiredBy, Requisite, RequisiteOf, BindsTo, BoundBy, PartOf, ConsistsOf, Conflicts, ConflictedBy, OnFailure, OnFailureOf, PropagatesReloadTo, ReloadPropagatedFrom}
-use Rattle.setting_rules.specs.Kinds.{inverse}
+use Rattle.setting_rules.specs.Kinds.{inverse, kinds}
 use Rattle.unit_loads.specs.declared.units.Unit.{Unit as LoadedUnit}
 use Rattle.unit_loads.specs.NamedUnits.{IsListed}
 use Rattle.parallel_load.specs.Loads.{LoadMap, unit_in}
@@ -77,3 +78,12 @@ pub record AreEdges (load : LoadMap) (edges : EdgeMap) : Type 0 where
   pub names : keys_of edges ≡ keys_of load.names
   pub in_order : IsTrue (is_sorted name_cmp edges)
   pub lists : (dep : DepKind) (u : Name) → AreEdgesFrom load dep u (names_in edges dep u)
+
+-- For each kind, in the order of the kinds, these are the units to which edges of it lead from a unit.
+pub record AreEdgesOf (load : LoadMap) (u : Name) (lists : List DependencyList) : Type 0 where
+  pub kinds_are : map (λ list. list.kind) lists ≡ kinds
+  pub each : All (λ list. AreEdgesFrom load list.kind u list.names) lists
+
+-- What are all edges of one load are all edges of the other.
+abbrev pub HaveSameEdges : LoadMap → LoadMap → Type 0
+HaveSameEdges a b = (edges : EdgeMap) → AreEdges a edges ↔ AreEdges b edges

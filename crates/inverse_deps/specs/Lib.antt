@@ -1,6 +1,7 @@
 pub mod EdgeLaws
 pub mod EdgeRows
 pub mod Edges
+pub mod Links
 pub mod MakingLaws
 pub mod NamingLaws
 pub mod NumberLaws

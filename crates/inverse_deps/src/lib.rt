@@ -6,14 +6,18 @@
 //! A unit's files name others by a kind, and the other unit then has the inverse of that kind.
 #![tactic(auto)]
 
+mod alike;
 mod building;
 mod kind_rows;
 mod laws;
+mod links;
 mod lists;
 mod numbers;
 mod steps;
 
+pub use alike::are_linked_alike;
 pub use building::edges;
 pub use laws::edge_laws;
+pub use links::edges_of;
 pub use lists::Edges;
 pub use numbers::{names_at, number_of};

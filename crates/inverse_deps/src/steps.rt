@@ -15,7 +15,11 @@ use setting_rules::DepKind;
 use std::alloc::{AllocError, Global};
 
 // The numbers of the dependencies of a kind.
-fn numbers_by(alloc: Global, deps: &[Dependency], kind: DepKind) -> Result<Vec<usize>, AllocError>
+pub(crate) fn numbers_by(
+    alloc: Global,
+    deps: &[Dependency],
+    kind: DepKind,
+) -> Result<Vec<usize>, AllocError>
     ensures numbers { IfOk result (λ numbers. AreNumbersBy deps.now kind numbers.items) }
 {
     let mut numbers = Vec::new(alloc);

@@ -1,8 +1,14 @@
-use Rattle.inverse_deps.specs.EdgeLaws.{dependencies_are_edges, edges_come_from_names, one_list_of_edges}
+use Rattle.inverse_deps.specs.EdgeLaws.{dependencies_are_edges, edges_come_from_names, lists_are_of_all_edges, one_list_by_kind, one_list_of_edges}
 use Rattle.inverse_deps.proofs.laws.edge_laws.Goals as goal
 
 pub returns-clause-one : goal.returns-clause-one
 returns-clause-one c = one_list_of_edges
+
+pub returns-clause-one_by_kind : goal.returns-clause-one_by_kind
+returns-clause-one_by_kind c = one_list_by_kind
+
+pub returns-clause-lists : goal.returns-clause-lists
+returns-clause-lists c = lists_are_of_all_edges
 
 pub returns-clause-dependencies : goal.returns-clause-dependencies
 returns-clause-dependencies c = dependencies_are_edges

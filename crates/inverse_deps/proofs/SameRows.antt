@@ -1,0 +1,131 @@
+-- Loads with the same names and the same dependencies by numbers have the same edges.
+use Rattle.std.proofs.Common.{◌≡◌, ◌<◌, ◌+◌, ◌&&◌, ◌++◌, ◌⊎◌, eqb, ℕ, Bool, true, false, not, List, [], ◌∷◌, length, get_or, take, inl, inr, IsTrue, refl, ap, sym, subst, ◌∙◌, arith}
+use Rattle.std.specs.Map.{keys_of}
+use Rattle.std.specs.Cmp.Lexicographic.{pointwise}
+use Rattle.std.specs.Ordering.{eq_by_cmp}
+use Rattle.std.specs.FinMap.Entries.{is_sorted}
+use denote.Enum.Bare.{same_true}
+use Rattle.std.proofs.lemmas.Bool.{cases_eq, ne_eqb}
+use Rattle.std.proofs.lemmas.List.{take_more}
+use Rattle.unit_name.specs.Names.{Name, name_cmp}
+use Rattle.unit_name.specs.NameLaws.{name_eq-Decides}
+use Rattle.setting_rules.specs.contracts.kinds.DepKind as kinds
+use Rattle.setting_rules.specs.declared.kinds.DepKind.{DepKind}
+use Rattle.setting_rules.specs.Kinds.{inverse}
+use Rattle.parallel_load.specs.contracts.loaded.DependencyPartialEq.TheImpl as dep_eq
+use Rattle.parallel_load.specs.declared.loaded.Dependency.{Dependency}
+use Rattle.parallel_load.specs.declared.loaded.NameLoad.{NameLoad}
+use Rattle.parallel_load.specs.Loads.{LoadMap}
+use Rattle.parallel_load.specs.Numbers.{AreDependencyRows}
+use Rattle.inverse_deps.specs.Edges.{AreEdges, DependsOn, EdgeMap, HaveSameEdges, IsEdge}
+use Rattle.inverse_deps.specs.Numbers.{count_of, name_at}
+use Rattle.inverse_deps.specs.NumberLaws.{key_at_place, keys_length, unit_number}
+use Rattle.inverse_deps.proofs.Stepping.{rows_named}
+
+-- what a load has: its names in order, and rows of its dependencies
+pub record HasRows (load : LoadMap) (rows : List (List Dependency)) : Type 0 where
+  pub sorted : IsTrue (is_sorted name_cmp load.names)
+  pub are : AreDependencyRows load.names rows
+
+module _ (rows : List (List Dependency)) (a b : LoadMap) (in_a : HasRows a rows) (in_b : HasRows b rows) (names : keys_of a.names ≡ keys_of b.names) where
+  named_alike : (i : ℕ) → name_at a i ≡ name_at b i
+  named_alike i = ap (λ (ks : List Name). get_or ks i []) names
+
+  counts : count_of a ≡ count_of b
+  counts = sym (keys_length a.names) ∙ ap length names ∙ keys_length b.names
+
+  depends : (dep : DepKind) (u v : Name) → DependsOn a dep u v → DependsOn b dep u v
+  depends dep u v d =
+      let n = unit_number a u (d.unit, d.unit_is) in
+      let r = (rows_named a in_a.sorted dep rows in_a.are n.0 n.1.0).numbered v (subst (λ (w : Name). DependsOn a dep w v) (sym n.1.1) d) in
+      let lt = n.1.0 in
+      let below : n.0 < count_of b = omega (arith, lt, counts) in
+      let there = (rows_named b in_b.sorted dep rows in_b.are n.0 below).named r.0 r.1.0 in
+      subst (λ (w : Name). DependsOn b dep w v) (sym (named_alike n.0) ∙ n.1.1)
+      (subst (λ (w : Name). DependsOn b dep (name_at b n.0) w) (sym (named_alike r.0) ∙ r.1.1) there)
+
+  edge : (dep : DepKind) (u v : Name) → IsEdge a dep u v → IsEdge b dep u v
+  edge dep u v (inl d) = inl (depends dep u v d)
+  edge dep u v (inr d) = inr (depends (inverse dep) v u d)
+
+module _ (rows : List (List Dependency)) (a b : LoadMap) (in_a : HasRows a rows) (in_b : HasRows b rows) (names : keys_of a.names ≡ keys_of b.names) where
+  one_way : (edges : EdgeMap) → AreEdges a edges → AreEdges b edges
+  one_way edges e = record {
+    names = e.names ∙ names;
+    in_order = e.in_order;
+    lists = λ dep u. record {
+      rising = (e.lists dep u).rising;
+      exact = λ v. (
+        λ h. edge rows a b in_a in_b names dep u v (((e.lists dep u).exact v).0 h),
+        λ h. ((e.lists dep u).exact v).1 (edge rows b a in_b in_a (sym names) dep u v h),
+      );
+    };
+  }
+
+pub same_edges : (rows : List (List Dependency)) (a b : LoadMap) → HasRows a rows → HasRows b rows → keys_of a.names ≡ keys_of b.names → HaveSameEdges a b
+same_edges rows a b in_a in_b names edges = (one_way rows a b in_a in_b names edges, one_way rows b a in_b in_a (sym names) edges)
+
+-- ---- lists that a test finds the same
+
+first_true : (x y : Bool) → (x && y) ≡ true → x ≡ true
+first_true true y h = refl
+first_true false y h = cc (h)
+
+second_true : (x y : Bool) → (x && y) ≡ true → y ≡ true
+second_true true y h = h
+second_true false y h = cc (h)
+
+pub pointwise_same : {X : Type 0} (test : X → X → Bool) → ((x y : X) → test x y ≡ true → x ≡ y) → (xs ys : List X) → pointwise test xs ys ≡ true → xs ≡ ys
+pointwise_same test decides [] [] h = refl
+pointwise_same test decides [] (y ∷ ys) h = cc (h)
+pointwise_same test decides (x ∷ xs) [] h = cc (h)
+pointwise_same {X} test decides (x ∷ xs) (y ∷ ys) h =
+    ap (λ (z : X). z ∷ xs) (decides x y (first_true (test x y) (pointwise test xs ys) h))
+    ∙ ap (λ (zs : List X). y ∷ zs) (pointwise_same test decides xs ys (second_true (test x y) (pointwise test xs ys) h))
+
+one_same : (x y : Dependency) → (dep_eq.eq-value).it x y ≡ true → x ≡ y
+one_same x y h =
+    ap (λ (k : DepKind). let d : Dependency = record { kind = k; number = x.number } in d) (same_true kinds.the_type tt x.kind y.kind (first_true _ _ h))
+    ∙ ap (λ (n : ℕ). let d : Dependency = record { kind = y.kind; number = n } in d) (by (cases_eq x.number y.number) (second_true _ _ h))
+  where
+    by : (x.number ≡ y.number) ⊎ ((x.number ≡ y.number) → ⊥) → eqb x.number y.number ≡ true → x.number ≡ y.number
+    by (inl e) t = e
+    by (inr ne) t = let f = ne_eqb x.number y.number ne in cc
+
+-- what a test of all rows has told
+pub linked_alike : (a b : LoadMap) (ns ms : List (Name × NameLoad)) (rows others : List (List Dependency)) → ns ≡ a.names → ms ≡ b.names → IsTrue (is_sorted name_cmp ns) → IsTrue (is_sorted name_cmp ms)
+    → keys_of ns ≡ keys_of ms → AreDependencyRows a.names rows → AreDependencyRows b.names others → pointwise (pointwise (dep_eq.eq-value).it) rows others ≡ true → HaveSameEdges a b
+linked_alike a b ns ms rows others e f in_order also_in_order names in_a in_b told =
+    let S : List (Name × NameLoad) → Type 0 = λ es. IsTrue (is_sorted name_cmp es) in
+    let same : rows ≡ others = pointwise_same (pointwise (dep_eq.eq-value).it) (pointwise_same (dep_eq.eq-value).it one_same) rows others told in
+    same_edges rows a b (record { sorted = subst S e in_order; are = in_a })
+    (record { sorted = subst S f also_in_order; are = subst (λ (rs : List (List Dependency)). AreDependencyRows b.names rs) (sym same) in_b })
+    (ap keys_of (sym e) ∙ names ∙ ap keys_of f)
+
+-- ---- names that are compared one by one
+
+not_false : (b : Bool) → not b ≡ false → b ≡ true
+not_false true h = refl
+not_false false h = cc (h)
+
+module _ (first second : List (Name × NameLoad)) (i : ℕ) (x y : Name × NameLoad) (in_first : i < length first) (in_second : i < length second) (x_is : x ≡ get_or first i x)
+    (differ : Bool) (told : differ ≡ not (eq_by_cmp name_cmp x.0 (get_or second i y).0)) where
+  key_first : get_or (keys_of first) i [] ≡ x.0
+  key_first = sym (ap (λ (p : Name × NameLoad). p.0) x_is ∙ key_at_place first i x [] in_first)
+
+  key_second : get_or (keys_of second) i [] ≡ (get_or second i y).0
+  key_second = sym (key_at_place second i y [] in_second)
+
+  pub names_differ : differ ≡ true → keys_of first ≡ keys_of second → ⊥
+  names_differ d same =
+      let e : x.0 ≡ (get_or second i y).0 = sym key_first ∙ ap (λ (ks : List Name). get_or ks i []) same ∙ key_second in
+      let wrong : true ≡ false = sym d ∙ told ∙ ap not ((name_eq-Decides x.0 (get_or second i y).0).1 e) in
+      cc (wrong)
+
+  pub names_go_on : differ ≡ false → take i (keys_of first) ≡ take i (keys_of second) → take (i + 1) (keys_of first) ≡ take (i + 1) (keys_of second)
+  names_go_on d before =
+      let e : x.0 ≡ (get_or second i y).0 = (name_eq-Decides x.0 (get_or second i y).0).0 (not_false (eq_by_cmp name_cmp x.0 (get_or second i y).0) (sym told ∙ d)) in
+      let here : get_or (keys_of first) i [] ≡ get_or (keys_of second) i [] = key_first ∙ e ∙ sym key_second in
+      take_more (keys_of first) i [] (omega (arith, in_first, keys_length first))
+      ∙ ap (λ (ks : List Name). ks ++ get_or (keys_of first) i [] ∷ []) before ∙ ap (λ (n : Name). take i (keys_of second) ++ n ∷ []) here
+      ∙ sym (take_more (keys_of second) i [] (omega (arith, in_second, keys_length second)))

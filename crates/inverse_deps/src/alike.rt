@@ -1,0 +1,33 @@
+//! Loads that have the same edges.
+ghost use Rattle.std.specs.Prelude.{◌≡◌, ◌↔◌, IsTrue};
+ghost use Rattle.std.specs.Map.{keys_of};
+ghost use Rattle.inverse_deps.specs.Edges.{HaveSameEdges};
+
+use parallel_load::{Loaded, NameLoad};
+use unit_name::UnitName;
+
+/// Whether two loads have the same names, with the same dependencies on them in the same order: then what are all edges of one
+/// are all edges of the other. It takes no memory. O(n) and the dependencies, for n names.
+///
+/// What else the units have, and which of them are masked or missing, isn't looked at.
+pub fn are_linked_alike(first: &Loaded, second: &Loaded) -> bool
+    ensures edges { IsTrue result → HaveSameEdges first.now second.now }
+{
+    have_same_names(first.names(), second.names())
+        && *first.dependencies() == *second.dependencies()
+}
+
+// Whether these have the same names in the same order.
+fn have_same_names(first: &[(UnitName, NameLoad)], second: &[(UnitName, NameLoad)]) -> bool
+    ensures names { IsTrue result ↔ (keys_of first.now ≡ keys_of second.now) }
+{
+    if first.len() != second.len() {
+        return false;
+    }
+    for (number, (name, _)) in first.iter().enumerate() {
+        if *name != second[number].0 {
+            return false;
+        }
+    }
+    true
+}
