@@ -1,3 +1,4 @@
+pub mod AskedLaws
 pub mod EdgeLaws
 pub mod EdgeRows
 pub mod Edges

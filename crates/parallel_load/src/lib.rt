@@ -9,6 +9,7 @@
 #![tactic(auto)]
 
 mod apart;
+mod asked;
 mod faults;
 mod finishing;
 mod footprints;
@@ -25,6 +26,7 @@ mod sources;
 mod touched;
 mod words;
 
+pub use asked::are_sources;
 pub use faults::LoadFault;
 pub use footprints::footprint;
 pub use laws::{asked_laws, kept_load_laws, load_laws, one_load, touched_laws};

@@ -1,3 +1,4 @@
+use Rattle.inverse_deps.specs.AskedLaws.{asking_makes_no_edges}
 use Rattle.inverse_deps.specs.EdgeLaws.{dependencies_are_edges, edges_come_from_names, lists_are_of_all_edges, one_list_by_kind, one_list_of_edges}
 use Rattle.inverse_deps.proofs.laws.edge_laws.Goals as goal
 
@@ -15,3 +16,6 @@ returns-clause-dependencies c = dependencies_are_edges
 
 pub returns-clause-names : goal.returns-clause-names
 returns-clause-names c = edges_come_from_names
+
+pub returns-clause-asked : goal.returns-clause-asked
+returns-clause-asked c = asking_makes_no_edges

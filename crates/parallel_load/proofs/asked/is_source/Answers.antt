@@ -1,0 +1,24 @@
+use Rattle.std.proofs.Common.{◌≡◌, ◌||◌, Bool, true, false, List, [], ◌∷◌, refl, sym, ◌∙◌, inl, inr}
+use Rattle.std.specs.List.{list_any}
+use Rattle.std.specs.Ordering.{eq_by_cmp}
+use Rattle.list_laws.specs.Members.{IsAmong}
+use Rattle.unit_name.specs.Names.{Name, name_cmp}
+use Rattle.unit_name.specs.NameLaws.{name_eq-Decides}
+use Rattle.parallel_load.proofs.asked.is_source.Goals as goal
+
+-- the test of one more name
+one_more : (z y : Name) (xs : List Name) (b rest : Bool) → eq_by_cmp name_cmp y z ≡ b → (rest ≡ true → IsAmong z xs) → (b || rest) ≡ true
+    → IsAmong z (y ∷ xs)
+one_more z y xs true rest e more h = inl ((name_eq-Decides y z).0 e)
+one_more z y xs false rest e more h = inr (more h)
+
+-- a name that a list is found to have is among it
+any_among : (z : Name) (xs : List Name) → list_any (λ y. eq_by_cmp name_cmp y z) xs ≡ true → IsAmong z xs
+any_among z [] h = cc (h)
+any_among z (y ∷ xs) h =
+    one_more z y xs (eq_by_cmp name_cmp y z) (list_any (λ x. eq_by_cmp name_cmp x z) xs) refl (any_among z xs) h
+
+pub returns-then-contains : goal.returns-then-contains
+returns-then-contains c = record {
+  source = λ _. inl (any_among c.args.name.now c.args.others.now (sym c.contains.ensures.value ∙ c.if-contains.true));
+}
