@@ -1,6 +1,6 @@
 -- Which names are asked for counts only for those at which nothing is visible: lists that make the same sources have the same load.
 -- Source: this project's own.
-use Rattle.std.proofs.Common.{◌≡◌, List, refl, inl, inr}
+use Rattle.std.proofs.Common.{List, refl, inl, inr}
 use Rattle.std.specs.Prelude.{◌↔◌, ◌⊎◌}
 use Rattle.list_laws.specs.Members.{IsAmong}
 use Rattle.name_closure.specs.SourceLaws.{same_closure, same_reached}
@@ -59,6 +59,7 @@ module _ (s : View) (a b : List Name) (there : AreSources s a b) (back : AreSour
     universe = same_universe _ l.universe;
     loaded = l.loaded;
     named = l.named;
+    words = l.words;
   }
 
 pub sources_make_the_load : SourcesMakeTheLoad
