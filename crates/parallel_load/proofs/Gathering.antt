@@ -1,10 +1,8 @@
 -- How the words of names are gathered.
-use Rattle.std.proofs.Common.{◌≡◌, ◌<◌, ◌≤◌, ◌+◌, ℕ, suc, Bool, true, false, cond, Option, Some, None, List, [], ◌∷◌, ◌++◌, drop, map, refl, ap, sym, ◌∙◌, subst, arith, append_assoc}
-use Rattle.std.specs.FinMap as finmap
+use Rattle.std.proofs.Common.{◌≡◌, ◌+◌, ℕ, suc, Bool, true, false, cond, Option, Some, None, List, [], ◌∷◌, ◌++◌, drop, map, refl, ap, sym, ◌∙◌, subst, arith, append_assoc}
 use Rattle.std.specs.List.{All, cons_option}
 use Rattle.std.specs.List.Sorted.{IsStrictlySortedBy}
 use Rattle.std.specs.Map.{keys_of}
-use Rattle.std.specs.Option.{option_and_then, option_map}
 use Rattle.std.specs.Prelude.{◌↔◌}
 use Rattle.std.proofs.Math.Seq.{drop-cons}
 use Rattle.std.proofs.lemmas.List.{map-append}
@@ -21,7 +19,7 @@ use Rattle.fragment_choice.specs.Choices.{is_null, own_path}
 use Rattle.parallel_load.specs.declared.words.Word.{Word}
 use Rattle.parallel_load.specs.declared.words.Word.TheVariants.{Nothing, Link, End}
 use Rattle.parallel_load.specs.OwnWords.{AreOwnWords, HasOwnWords, NamedWords}
-use Rattle.parallel_load.specs.Words.{IsWordAt, ended, ended_part, target_in, with_own_words}
+use Rattle.parallel_load.specs.Words.{IsWordAt, ended_part, target_in, with_own_words}
 
 -- a link to /dev/null ends as a file does
 end_is_end : (o : Option Target) (ts : List Target) → words_of (cons_option o ts) ≡ words_of (cons_option (ended_part o) ts)

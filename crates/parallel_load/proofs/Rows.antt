@@ -1,5 +1,5 @@
 -- The names at which something is visible, level by level, and those of them that are sources.
-use Rattle.std.proofs.Common.{◌≡◌, ℕ, zero, suc, ◌+◌, ◌<◌, ◌≤◌, Bool, true, false, T, ◌==◌, ◌&&◌, not, if◌then◌else◌, Option, Some, None, is_some, List, [], ◌∷◌, ◌++◌, filter, IsTrue, refl, ap, sym, ◌∙◌, subst, inl, inr, arith, eq-eqb, append_assoc}
+use Rattle.std.proofs.Common.{◌≡◌, ℕ, zero, suc, ◌+◌, ◌<◌, ◌≤◌, Bool, true, false, T, ◌&&◌, not, if◌then◌else◌, Option, Some, None, is_some, List, [], ◌∷◌, ◌++◌, filter, IsTrue, refl, ap, sym, ◌∙◌, subst, inl, inr, arith, eq-eqb}
 use Rattle.std.specs.Prelude.{◌↔◌, ◌⊎◌, ◌≢◌, IsSome}
 use Rattle.std.specs.List.{filter_map}
 use Rattle.std.specs.Map.{keys_of}
@@ -11,7 +11,6 @@ use Rattle.std.proofs.lemmas.Option.{none-some, same_Some}
 use Rattle.list_laws.specs.Members.{IsAmong, IsAmong-append_cases, IsAmong-append_left, IsAmong-append_right}
 use Rattle.load_path.specs.Paths.{PathParts, path_cmp}
 use Rattle.load_path.specs.PathLaws.{path_cmp-IsAntisymmetric, path_cmp_total}
-use Rattle.load_places.specs.Levels.{IsLevel}
 use Rattle.edit_sums.specs.Entries.{Entry}
 use Rattle.edit_sums.specs.Sums.{shown}
 use Rattle.path_maps.specs.Views.{View, seen_at, seen}
@@ -23,7 +22,7 @@ use Rattle.fragment_choice.specs.AliasWordLaws.{IsShown}
 use Rattle.fragment_choice.specs.AliasWords.{Target}
 use Rattle.fragment_choice.specs.Choices.{own_path}
 use Rattle.unit_loads.specs.MemberLaws.{among_filter, among_filter_map, among_map, filter_among, filter_map_among, map_among}
-use Rattle.parallel_load.specs.OwnWords.{AreOwnWords, NamedWords}
+use Rattle.parallel_load.specs.OwnWords.{NamedWords}
 use Rattle.parallel_load.specs.PairLaws.{among_find, find_among}
 use Rattle.parallel_load.specs.Sources.{AreSourcesBy, is_template, shown_name, shown_names, whole_name}
 use Rattle.parallel_load.specs.Universe.{IsSource, IsVisibleName}

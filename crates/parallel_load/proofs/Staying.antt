@@ -1,6 +1,6 @@
 -- What stays of a load where some places changed.
 use Rattle.std.proofs.Common.{Bor, ◌≡◌, ◌<◌, ◌≤◌, ◌+◌, ℕ, zero, suc, Bool, false, true, Option, Some, None, List, [], ◌∷◌, ◌++◌, length, get_or, take, IsTrue, refl, ap, sym, ◌∙◌, subst, inl, inr, arith}
-use Rattle.std.specs.Prelude.{◌↔◌, ◌⊎◌, IfSome, IsSome, is_some}
+use Rattle.std.specs.Prelude.{◌↔◌, ◌⊎◌, IfSome, is_some}
 use Rattle.std.specs.FinMap.{is_sorted, nat_cmp-IsAntisymmetric, slice_cmp-IsAntisymmetric}
 use Rattle.std.specs.List.{All}
 use Rattle.std.specs.Map.{keys_of}

@@ -1,8 +1,7 @@
 -- The names at which something is visible, as they stand in a store, and those of them that are loaded: words for private clauses.
 -- Source: this project's own.
-use Rattle.std.specs.Prelude.{◌++◌, ◌↔◌, ℕ, Bool, true, false, ◌&&◌, not, if◌then◌else◌, Option, Some, None, is_some, List, [], filter}
+use Rattle.std.specs.Prelude.{◌↔◌, ℕ, Bool, true, false, ◌&&◌, not, if◌then◌else◌, Option, Some, None, is_some, List, [], filter}
 use Rattle.std.specs.List.{filter_map}
-use Rattle.std.specs.Map.{keys_of}
 use Rattle.std.specs.FinMap as finmap
 use Rattle.list_laws.specs.Members.{IsAmong}
 use Rattle.load_path.specs.Paths.{PathParts}

@@ -1,4 +1,4 @@
-use Rattle.std.proofs.Common.{◌≡◌, sym, ◌∙◌, subst}
+use Rattle.std.proofs.Common.{sym, ◌∙◌, subst}
 use Rattle.parallel_load.specs.Apart.{IsMissedBy, IsOfNoType}
 use Rattle.parallel_load.proofs.Begins.{far_missed}
 use Rattle.parallel_load.proofs.apart.TouchedPart.is_missed.Goals as goal

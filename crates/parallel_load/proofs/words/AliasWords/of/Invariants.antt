@@ -1,4 +1,4 @@
-use Rattle.std.proofs.Common.{◌≡◌, ◌≤◌, ◌++◌, Some, drop, map}
+use Rattle.std.proofs.Common.{◌≡◌, ◌++◌, Some, drop, map}
 use Rattle.load_places.specs.Levels.{levels}
 use Rattle.fragment_choice.specs.AliasWords.{alias_words, targets_in, words_of}
 use Rattle.parallel_load.proofs.words.AliasWords.of.Given as goal
