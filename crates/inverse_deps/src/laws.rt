@@ -3,9 +3,9 @@ ghost use Rattle.inverse_deps.specs.AskedLaws.{AskingMakesNoEdges};
 ghost use Rattle.inverse_deps.specs.EdgeLaws.{DependenciesAreEdges, EdgesComeFromNames, EdgesJoinUnits, InversesAreOne, ListsAreOfAllEdges, OneListByKind, OneListOfEdges};
 
 /// An edge and its inverse are one. Edges join units alone. A load has one list of the edges of a kind from a name, and
-/// those of one unit are those that all edges have for it. In a
-/// load of a store all dependencies of units are edges, and between two units there is one just where one of them names
-/// the other in the store, by the kind or by its inverse. Which names were asked for makes none.
+/// those of one unit are those that all edges have for it. In a load of a store all dependencies of units are edges, and
+/// between two units there is one just where one of them names the other in the store, by the kind or by its inverse. Which names were
+/// asked for makes none.
 pub fn edge_laws()
     ensures inverses { InversesAreOne }
     ensures units { EdgesJoinUnits }
