@@ -9,8 +9,12 @@ use Rattle.std.specs.Ordering.{eq_by_cmp}
 use Rattle.list_laws.specs.Members.{IsAmong}
 use Rattle.load_places.specs.Places.{PlaceParts}
 use Rattle.edit_sums.specs.Sums.{EntryMap, visible_at}
+use Rattle.parallel_load.specs.AskedLaws.{AreSources, asked_for, sources_make_the_load, sources_make_the_size}
+use Rattle.parallel_load.specs.Loads.{LoadMap}
 use Rattle.path_maps.specs.DifferenceLaws.{changed_or_same}
+use Rattle.path_maps.specs.Views.{View}
 use Rattle.unit_name.specs.Names.{Name, name_cmp}
+use Rattle.fleet_answers.specs.Answers.{IsSnapshot}
 use Rattle.unit_name.specs.NameLaws.{name_eq-Decides}
 use Rattle.fleet_answers.specs.ShownLaws.{ShowTheSame}
 
@@ -60,3 +64,11 @@ same_shown new old places none exact p = by (changed_or_same new old places exac
     by : IsAmong p places ⊎ (visible_at new p ≡ visible_at old p) → visible_at old p ≡ visible_at new p
     by (inl a) = absurd (subst (IsAmong p) none a)
     by (inr h) = sym h
+
+-- a snapshot is one for other names that load the same
+pub asked_otherwise : (s : View) (extra names : List Name) (load : LoadMap) → AreSources s extra names → AreSources s names extra → IsSnapshot s extra load
+    → IsSnapshot s names (asked_for names load)
+asked_otherwise s extra names load these those w = record {
+  within = λ large. w.within (sources_make_the_size s names extra those these large);
+  is_load = sources_make_the_load s extra names load these those w.is_load;
+}

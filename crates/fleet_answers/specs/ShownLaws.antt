@@ -23,6 +23,7 @@ use Rattle.parallel_load.specs.declared.loaded.NameLoad.TheVariants.{Unit as OfU
 use Rattle.parallel_load.specs.Alone.{IsAliasOf, IsLoadAlone}
 use Rattle.parallel_load.specs.KeptLoadLaws.{KeepsItsNames, by_mains_same, same_names_keep_the_universe, words_keep_visible_names}
 use Rattle.parallel_load.specs.Loads.{AreNamedAlone, IsLoad, IsLoadedUnit, IsNameLoad, LoadMap, with_lists}
+use Rattle.parallel_load.specs.OwnWordLaws.{words_again}
 use Rattle.parallel_load.specs.TouchedLaws.{touched_words_decide}
 use Rattle.parallel_load.specs.Universe.{AreUniverse, IsInUniverse, IsSource, IsTooLarge, LeadsTo}
 use Rattle.parallel_load.specs.UniverseLaws.{mains_have_units}
@@ -90,6 +91,7 @@ module _ (s t : EntryMap) (host : Looker) (same : ShowTheSame s t) where
           universe = universe;
           loaded = All-weaker P Q (λ p h. name_stays p.0 p.1 h) load.names l.loaded;
           named = named_stay load.names load.named l.named;
+          words = words_again v w load.words words l.words;
         }
 
     -- more is reached than the limit where it was

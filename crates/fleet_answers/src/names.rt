@@ -5,6 +5,7 @@ ghost use Rattle.start_plan.specs.Requests.{HasTemplate};
 ghost use Rattle.fleet_answers.specs.Answers.{asked, names_asked};
 
 use crate::questions::Question;
+use plain_values::Items;
 use start_plan::has_template;
 use std::alloc::{AllocError, Global};
 use unit_name::UnitName;
@@ -69,4 +70,13 @@ fn append_copies(names: &mut Vec<UnitName>, others: &[UnitName]) -> Result<(), A
         append_copy(names, other)?;
     }
     Ok(())
+}
+
+/// Copies of names. It fails for want of memory alone.
+pub(crate) fn copies_of(alloc: Global, names: &[UnitName]) -> Result<Items<UnitName>, AllocError>
+    ensures copies { IfOk result (λ copies. copies ≡ names.now) }
+{
+    let mut copies = Vec::new(alloc);
+    append_copies(&mut copies, names)?;
+    Ok(Items::from_vec(copies))
 }

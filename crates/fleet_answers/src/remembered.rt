@@ -3,15 +3,16 @@ ghost use Rattle.std.specs.Prelude.{◌≡◌, ◌↔◌, ◌⊎◌, ◌<◌, []
 ghost use Rattle.std.specs.List.{slice_index_or};
 ghost use Rattle.std.specs.Option.{IfSome, option_copied};
 ghost use Rattle.path_maps.specs.Views.{view_of};
+ghost use Rattle.parallel_load.specs.AskedLaws.{AreSources};
 ghost use Rattle.parallel_load.specs.Refusals.{OnTooMany, OnWorkers};
 ghost use Rattle.parallel_load.specs.Universe.{IsTooLarge};
 ghost use Rattle.fleet_answers.specs.Answers.{AreKnown, IsAnswer, IsSnapshot, IsSnapshotOf, IsTold, host_asked, names_asked};
 ghost use Rattle.fleet_answers.specs.declared.questions.AnswerFault.TheVariants.{Workers};
 
-use crate::names::whole_names;
+use crate::names::{copies_of, whole_names};
 use crate::questions::{Answer, AnswerFault, Question};
 use crate::snapshots::Snapshot;
-use parallel_load::{Gate, LoadFault, is_crew};
+use parallel_load::{Gate, LoadFault, are_sources, is_crew};
 use replica_store::{HostName, Store};
 use std::alloc::{AllocError, Global};
 use std::marker::Model;
@@ -67,6 +68,25 @@ impl Remembered {
         *self.snapshot.loaded().extra() == *names
     }
 
+    // The same for these names, where its load is theirs too. None otherwise, and where memory is refused.
+    fn for_names(self, names: &[UnitName]) -> Option<Remembered>
+        ensures host { IfSome result (λ one. one.host ≡ self.host) }
+        ensures names { IfSome result (λ one. one.extra ≡ names.now) }
+    {
+        if self.is_asked(names) {
+            return Some(self);
+        }
+        let Remembered { store, snapshot } = self;
+        if !serves(&store, &snapshot, names) {
+            return None;
+        }
+        let Ok(extra) = copies_of(store.allocator(), names) else {
+            return None;
+        };
+        let snapshot = snapshot.asked_for(extra);
+        Some(Remembered { store, snapshot })
+    }
+
     // The snapshot of another store for the same host and names: itself where that shows what its own does, and else
     // refreshed by what changed.
     fn renewed(self, store: &Store) -> Result<Found, LoadFault>
@@ -92,6 +112,18 @@ impl Remembered {
             kept_with: None,
         })
     }
+}
+
+// Whether a store's snapshot is seen to load what these names load: each of them was asked for or is visible, and each that was
+// asked for is one of them or visible.
+fn serves(store: &Store, snapshot: &Snapshot, names: &[UnitName]) -> bool
+    ensures these { IsTrue result → AreSources (view_of store.now snapshot.now.host) snapshot.now.extra names.now }
+    ensures those { IsTrue result → AreSources (view_of store.now snapshot.now.host) names.now snapshot.now.extra }
+{
+    let loaded = snapshot.loaded();
+    let seen = store.seen_by(loaded.host());
+    let asked = loaded.extra();
+    are_sources(&seen, asked, names) && are_sources(&seen, names, asked)
 }
 
 // All is loaded anew.
@@ -148,7 +180,7 @@ impl Snapshots {
         None
     }
 
-    // Takes the snapshot of a node for a host out, if just these names were asked for. One for other names is forgotten.
+    // Takes the snapshot of a node for a host out, if its load is that of these names. Another is forgotten.
     fn take(
         &mut self,
         node: usize,
@@ -160,7 +192,7 @@ impl Snapshots {
     {
         let at = self.place_of(node, host)?;
         let (_, one) = self.kept.remove(at);
-        if one.is_asked(names) { Some(one) } else { None }
+        one.for_names(names)
     }
 
     // Keeps the snapshot of a node's store behind all others, unless memory is refused.

@@ -3,6 +3,7 @@ ghost use Rattle.std.specs.Prelude.{◌≡◌, ◌↔◌, ◌⊎◌, ◌<◌, Er
 ghost use Rattle.std.specs.Option.{IfSome, option_copied};
 ghost use Rattle.inverse_deps.specs.Edges.{AreEdges};
 ghost use Rattle.path_maps.specs.Views.{view_of};
+ghost use Rattle.parallel_load.specs.AskedLaws.{asked_for};
 ghost use Rattle.parallel_load.specs.Refreshes.{IsBefore};
 ghost use Rattle.parallel_load.specs.Refusals.{OnTooMany, OnWorkers};
 ghost use Rattle.parallel_load.specs.Universe.{IsTooLarge};
@@ -13,7 +14,7 @@ use crate::questions::{Answer, Question};
 use crate::tellings::{linked_unit, planned, pulled};
 use inverse_deps::{Edges, are_linked_alike, edges};
 use parallel_load::{Gate, LoadFault, Loaded, load_fleet, load_here, refresh};
-use plain_values::{Shared, TryClone};
+use plain_values::{Items, Shared, TryClone};
 use replica_store::{HostName, Place, Store};
 use std::alloc::{AllocError, Global};
 use std::marker::Model;
@@ -104,6 +105,17 @@ impl Snapshot {
         let loaded = refresh(&self.loaded, store, touched)?;
         let edges = edges_for(self, &loaded);
         Ok(Snapshot { loaded, edges })
+    }
+
+    /// The same, as if these names had been asked for in place of those that were: edges stay. It takes no memory.
+    pub(crate) fn asked_for(self, extra: Items<UnitName>) -> Snapshot
+        ensures load { result ≡ asked_for extra self }
+    {
+        let Snapshot { loaded, edges } = self;
+        Snapshot {
+            loaded: loaded.asked_for(extra),
+            edges,
+        }
     }
 
     /// The units.
