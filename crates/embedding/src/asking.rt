@@ -22,7 +22,11 @@ pub fn ask_often(rt: &(impl AllocGlobal + Threads + Sync)) -> Result<Vec<u8>, Fa
         b"/usr/lib/systemd/system/web.service",
         b"[Unit]\nWants=db.service\n",
     )?;
-    put(&mut node, b"/usr/lib/systemd/system/db.service", b"[Unit]\n")?;
+    put(
+        &mut node,
+        b"/usr/lib/systemd/system/db.service",
+        b"[Unit]\n",
+    )?;
     let mut snapshots = Snapshots::new(alloc);
     let mut text = Vec::new(alloc);
     append_starts(rt, &mut snapshots, node.store(), b"web.service", &mut text)?;
@@ -50,7 +54,9 @@ pub fn append_starts(
         target: UnitName::parse(alloc, target)?,
         running: Items::new(alloc),
     });
-    let answer = answer_again(rt, alloc, snapshots, 0, store, &question, WORKERS, &OpenGate)?;
+    let answer = answer_again(
+        rt, alloc, snapshots, 0, store, &question, WORKERS, &OpenGate,
+    )?;
     text.extend_from_slice(b"starts:")?;
     append_names(text, &answer)?;
     text.extend_from_slice(b"\n")?;

@@ -12,7 +12,11 @@ pub fn exchange_messages(alloc: Global) -> Result<bool, Fault> {
     let mut a = Replica::new(alloc, 1);
     let mut b = Replica::new(alloc, 2);
     put(&mut a, b"/etc/systemd/system/x.service", b"[Unit]\n")?;
-    put(&mut a, b"web1:/etc/systemd/system/x.service", b"[Unit]\nDescription=web1\n")?;
+    put(
+        &mut a,
+        b"web1:/etc/systemd/system/x.service",
+        b"[Unit]\nDescription=web1\n",
+    )?;
     put(&mut b, b"/etc/systemd/system/y.service", b"[Unit]\n")?;
     let from_a = messages_of(alloc, &a)?;
     let from_b = messages_of(alloc, &b)?;

@@ -10,7 +10,9 @@ use replica_store::{Content, Edit, Entry, Place};
 use std::alloc::{AllocError, Global};
 
 const FILE: u64 = 0;
+
 const LINK: u64 = 1;
+
 const GONE: u64 = 2;
 
 /// The message that carries a piece.
@@ -33,7 +35,13 @@ fn append_edit(message: &mut Vec<u8>, place: &[u8], entry: &Entry) -> Result<(),
         Content::Gone => (GONE, &[]),
     };
     let version = entry.version;
-    for number in [version.counter, version.writer as u64, sort, place.len() as u64, bytes.len() as u64] {
+    for number in [
+        version.counter,
+        version.writer as u64,
+        sort,
+        place.len() as u64,
+        bytes.len() as u64,
+    ] {
         message.extend_from_slice(&number.to_be_bytes())?;
     }
     message.extend_from_slice(place)?;

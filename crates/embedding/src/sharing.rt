@@ -126,7 +126,14 @@ fn ask_twice<N: NodeName, R: AllocGlobal + Threads + Wait + Sync>(
     let mut snapshots = Snapshots::new(rt.alloc());
     let place = Place::parse(rt.alloc(), b"/etc/systemd/system/thread-0.service")?;
     let seat = ask(rt, seat, &mut snapshots, text)?;
-    let seat = edit(rt, rt.alloc(), node, seat, &place, b"[Unit]\nRequires=thread-1.service\n")?;
+    let seat = edit(
+        rt,
+        rt.alloc(),
+        node,
+        seat,
+        &place,
+        b"[Unit]\nRequires=thread-1.service\n",
+    )?;
     ask(rt, seat, &mut snapshots, text)
 }
 
