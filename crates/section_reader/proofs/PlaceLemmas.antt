@@ -4,6 +4,7 @@ use Rattle.std.specs.Prelude.{nat_eq, codes}
 use Rattle.std.specs.List.{flat_map, ends_with}
 use Rattle.std.specs.Result.{OnOk}
 use Rattle.std.proofs.lemmas.Bool.{cond-true, cond-false, lt-ltb, le-ltb}
+use Rattle.std.proofs.lemmas.Bool.Decides.{nat_tests}
 use Rattle.section_reader.specs.declared.assignments.Assignment.{Assignment}
 use Rattle.section_reader.specs.declared.assignments.Note.{Note}
 use Rattle.section_reader.specs.declared.assignments.NoteKind.TheVariants.{OutsideSection, NoEquals, BadHeader}
@@ -207,15 +208,16 @@ kept-none line rest none = cond-false _ _ _ (le-ltb 0 (length line.text) (omega 
 -- A line that is read, and that has a byte: what it gives is put behind what was read, and the rest is what the lines behind it give.
 pub told_line : {A T E : Type 0} (give : Place → List Line → List A) (number : ℕ) (text : List ℕ)
     (was_at is_at at : Place) (was is one : List A) (r : Result T E)
-    → 0 < length text → OnOk r (is ≡ was ++ one) → OnOk r (is_at ≡ at)
+    → false ≡ nat_eq (length text) 0 → OnOk r (is ≡ was ++ one) → OnOk r (is_at ≡ at)
     → ((rest : List Line) → give was_at (record { number = number; text = text } ∷ rest) ≡ one ++ give at rest)
     → OnOk r ((rest : List Line) → is ++ give is_at rest ≡ was ++ give was_at (kept (record { number = number; text = text }) rest))
-told_line give number text was_at is_at at was is one (Ok x) some step place gives = λ rest.
+told_line give number text was_at is_at at was is one (Ok x) test step place gives = λ rest.
+    let some : 0 < length text = grind (arith, nat_tests) in
     ap (λ v. v ++ give is_at rest) step
     ∙ append_assoc was one (give is_at rest)
     ∙ ap (λ p. was ++ (one ++ give p rest)) place
     ∙ ap (λ v. was ++ v) (sym (ap (give was_at) (kept-some (record { number = number; text = text }) rest some) ∙ gives rest))
-told_line give number text was_at is_at at was is one (Err e) some step place gives = step
+told_line give number text was_at is_at at was is one (Err e) test step place gives = step
 
 -- At the start of a file nothing is given but what the file gives.
 pub items_from-start : (lines : List Line) → items_from Outside lines ≡ assignments_in lines

@@ -6,45 +6,32 @@ use Rattle.section_reader.specs.Lines.{Line}
 use Rattle.section_reader.specs.Parts.{form, spaced}
 use Rattle.section_reader.specs.Logical.{going_on, joined, joined_lines, lines_behind, trimmed_line, has_text, kept, logical_of}
 
+-- what is chosen by a line's form
+abbrev pub by_form : {A : Type 0} → LineForm → A → A → A → A → A
+by_form {A} f blank comment continued whole = elim f as (λ _. A) [ Blank ↦ blank | Comment ↦ comment | Continued ↦ continued | Whole ↦ whole ]
+
+-- where no line is left, nothing goes on
 pub going_on-nil : going_on [] ≡ []
 unfolding going_on
 going_on-nil = refl
 
+-- no lines are joined, and none stand behind
+pub none_joined : (joined_lines [] ≡ []) × (lines_behind [] ≡ [])
+unfolding joined_lines lines_behind
+none_joined = (refl, refl)
+
 pub going_on-line : (f : LineForm) (line : Line) (rest : List Line) → form line.text ≡ f
-    → going_on (line ∷ rest) ≡ elim f as (λ _. List ℕ) [
-      | Blank ↦ []
-      | Comment ↦ going_on rest
-      | Continued ↦ spaced line.text ++ going_on rest
-      | Whole ↦ line.text
-    ]
+    → going_on (line ∷ rest) ≡ by_form f [] (going_on rest) (spaced line.text ++ going_on rest) line.text
 unfolding going_on
 going_on-line f line rest is = rw (is, going_on) refl
 
-pub joined_lines-nil : joined_lines [] ≡ []
-unfolding joined_lines
-joined_lines-nil = refl
-
 pub joined_lines-line : (f : LineForm) (line : Line) (rest : List Line) → form line.text ≡ f
-    → joined_lines (line ∷ rest) ≡ elim f as (λ _. List Line) [
-      | Blank ↦ joined_lines rest
-      | Comment ↦ joined_lines rest
-      | Continued ↦ joined line rest ∷ lines_behind rest
-      | Whole ↦ line ∷ joined_lines rest
-    ]
+    → joined_lines (line ∷ rest) ≡ by_form f (joined_lines rest) (joined_lines rest) (joined line rest ∷ lines_behind rest) (line ∷ joined_lines rest)
 unfolding joined_lines
 joined_lines-line f line rest is = rw (is, joined_lines) refl
 
-pub lines_behind-nil : lines_behind [] ≡ []
-unfolding lines_behind
-lines_behind-nil = refl
-
 pub lines_behind-line : (f : LineForm) (line : Line) (rest : List Line) → form line.text ≡ f
-    → lines_behind (line ∷ rest) ≡ elim f as (λ _. List Line) [
-      | Blank ↦ joined_lines rest
-      | Comment ↦ lines_behind rest
-      | Continued ↦ lines_behind rest
-      | Whole ↦ joined_lines rest
-    ]
+    → lines_behind (line ∷ rest) ≡ by_form f (joined_lines rest) (lines_behind rest) (lines_behind rest) (joined_lines rest)
 unfolding lines_behind
 lines_behind-line f line rest is = rw (is, lines_behind) refl
 
@@ -77,7 +64,7 @@ logical_of-continued line rest after is behind =
 
 pub logical_of-nil : logical_of [] ≡ []
 unfolding logical_of
-logical_of-nil = ap (λ v. filter has_text (map trimmed_line v)) joined_lines-nil
+logical_of-nil = ap (λ v. filter has_text (map trimmed_line v)) none_joined.0
 
 -- blank lines and comments begin nothing
 pub logical_of-passed : (line : Line) (rest : List Line) → (form line.text ≡ Blank) ⊎ (form line.text ≡ Comment) → logical_of (line ∷ rest) ≡ logical_of rest

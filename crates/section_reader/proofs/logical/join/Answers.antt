@@ -2,7 +2,7 @@ use Rattle.std.proofs.Common.{◌++◌, ◌∙◌, sym, ap, append_assoc}
 use Rattle.section_reader.specs.declared.parts.LineForm.TheVariants.{Blank, Comment, Continued, Whole}
 use Rattle.section_reader.specs.Parts.{spaced}
 use Rattle.section_reader.specs.Logical.{going_on, joined_lines, lines_behind}
-use Rattle.section_reader.specs.LogicalLaws.{going_on-line, joined_lines-nil, lines_behind-nil, lines_behind-line, continued_some}
+use Rattle.section_reader.specs.LogicalLaws.{going_on-line, none_joined, lines_behind-line, continued_some}
 use Rattle.section_reader.proofs.JoinLemmas.{told, told_end, told_none, behind, fewer}
 use Rattle.section_reader.proofs.logical.join.Goals as goal
 
@@ -46,4 +46,4 @@ returns-clause-text c = told_none _ _ _ c.loop-line.invariant.0 c.in_default.ens
 
 pub returns-clause-behind : goal.returns-clause-behind
 returns-clause-behind c =
-    sym c.loop-line.invariant.1 ∙ ap lines_behind c.in_default.ensures.next ∙ lines_behind-nil ∙ sym (ap joined_lines c.in_default.ensures.end ∙ joined_lines-nil)
+    sym c.loop-line.invariant.1 ∙ ap lines_behind c.in_default.ensures.next ∙ none_joined.1 ∙ sym (ap joined_lines c.in_default.ensures.end ∙ none_joined.0)
