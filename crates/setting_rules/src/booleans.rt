@@ -1,35 +1,26 @@
 //! Booleans.
 ghost use Rattle.std.specs.Prelude.{◌≡◌};
-ghost use Rattle.setting_rules.specs.Rules.{boolean, spells_yes, spells_no};
+ghost use Rattle.std.specs.List.{list_any};
+ghost use Rattle.std.specs.Str.{str_eq_ignore_ascii_case};
+ghost use Rattle.setting_rules.specs.Rules.{boolean};
 
 /// What a text says as a boolean, in any case of letters (systemd.syntax(7), "Introduction").
 #[tactic(auto, unfolding(crate::specs::Rules::boolean))]
 pub(crate) fn boolean(text: &[u8]) -> Option<bool>
     ensures boolean { result ≡ boolean text.now }
 {
-    if spells_yes(text) {
+    if is_word_of(text, &[b"1", b"yes", b"true", b"on"]) {
         Some(true)
-    } else if spells_no(text) {
+    } else if is_word_of(text, &[b"0", b"no", b"false", b"off"]) {
         Some(false)
     } else {
         None
     }
 }
 
-fn spells_yes(text: &[u8]) -> bool
-    ensures test { result ≡ spells_yes text.now }
+// Whether a text is one of these words, in any case of letters.
+fn is_word_of(text: &[u8], words: &[&[u8]]) -> bool
+    ensures word { result ≡ list_any (λ word. str_eq_ignore_ascii_case text.now word.now) words.now }
 {
-    text.eq_ignore_ascii_case(b"1")
-        || text.eq_ignore_ascii_case(b"yes")
-        || text.eq_ignore_ascii_case(b"true")
-        || text.eq_ignore_ascii_case(b"on")
-}
-
-fn spells_no(text: &[u8]) -> bool
-    ensures test { result ≡ spells_no text.now }
-{
-    text.eq_ignore_ascii_case(b"0")
-        || text.eq_ignore_ascii_case(b"no")
-        || text.eq_ignore_ascii_case(b"false")
-        || text.eq_ignore_ascii_case(b"off")
+    words.iter().any(|word| text.eq_ignore_ascii_case(word))
 }
