@@ -1,5 +1,5 @@
 -- A walk that joins copies of pairs, and one that compares pairs.
-use Rattle.std.specs.Prelude.{◌≡◌, ℕ, zero, suc, ◌<◌, ◌≤◌, ◌+◌, ◌-◌, List, [], ◌∷◌, ◌++◌, Option, Some, None, true, false, cond, refl, length}
+use Rattle.std.specs.Prelude.{◌≡◌, ℕ, zero, suc, ◌<◌, ◌≤◌, ◌+◌, ◌-◌, List, [], ◌∷◌, ◌++◌, Option, Some, None, true, false, cond, refl, length, Result, IsErr}
 use Rattle.std.specs.Bool.{IsTrue}
 use Rattle.std.specs.Cmp.{IsTotalOrder, tied_itself}
 use Rattle.std.specs.Ordering.{eq_by_cmp, is_eq}
@@ -14,7 +14,9 @@ use Rattle.list_laws.specs.Searches.{below_at}
 use Rattle.join_law.specs.Order.{IsJoin, IsBetween}
 use Rattle.join_law.specs.Maps.{OptionBelow, IsHeld, AllHeld, MapBelow, IsMap, IsSinglePair}
 use Rattle.join_law.specs.MapLaws.{map_itself, map_chain}
+use Rattle.join_law.specs.Outcomes.{AreCopiesJoined}
 use Rattle.join_law.proofs.Ends.{below_end}
+use Rattle.join_law.proofs.Outcomes.{on_err, not_ok, on_ok_weaker, on_err_weaker}
 
 -- equal lists
 
@@ -188,7 +190,7 @@ module _ {K V : Type 0} (R : K → K → Ordering) (o : IsTotalOrder R) where
                 start = λ z. absurd (omega (arith, z));
               }
 
-          pub copied_stopped : (new : List (K × V)) → IsBetween (MapBelow R below) now ((e.0, e.1) ∷ []) new → IsBetween (MapBelow R below) first other new
+          copied_stopped : (new : List (K × V)) → IsBetween (MapBelow R below) now ((e.0, e.1) ∷ []) new → IsBetween (MapBelow R below) first other new
           copied_stopped new j = record {
             kept = map_chain below itself chain R first now new first_now j.kept;
             within = λ z p q. j.within z
@@ -196,7 +198,7 @@ module _ {K V : Type 0} (R : K → K → Ordering) (o : IsTotalOrder R) where
                 (map_chain below itself chain R _ other z (pair_below other i e m.sorted lt is) q);
           }
 
-          pub copied_single : (is_single : V → Type 0) (new : List (K × V)) → (is_single e.1 → new ≡ now) → IsSinglePair is_single other → new ≡ first
+          copied_single : (is_single : V → Type 0) (new : List (K × V)) → (is_single e.1 → new ≡ now) → IsSinglePair is_single other → new ≡ first
           copied_single is_single new h s = let p = only other i lt is s in h p.1 ∙ u.start p.0
             where
               only : (es : List (K × V)) (j : ℕ) → j < length es → e ≡ get_or es j e → IsSinglePair is_single es → (j ≡ 0) × is_single e.1
@@ -205,8 +207,17 @@ module _ {K V : Type 0} (R : K → K → Ordering) (o : IsTotalOrder R) where
               only (f ∷ []) (suc j) l a t = absurd (omega arith)
               only (f ∷ g ∷ fs) j l a t = absurd t
 
+          -- so the outcome where this pair was refused
+          pub stopped_joined : {T E : Type 0} (single : V → Type 0) (r : Result T E) (new : List (K × V)) → IsErr r → IsMap R below valid new → IsBetween (MapBelow R below) now ((e.0, e.1) ∷ []) new → (single e.1 → new ≡ now) → AreCopiesJoined R below valid single r first other new
+          stopped_joined single r new refused n between same = record {
+            map = n;
+            ok = not_ok _ r refused;
+            refused = on_err r (copied_stopped new between);
+            single = on_err r (copied_single single new same);
+          }
+
           -- the later pairs are joined with what stands now
-          pub rest_joined : (new : List (K × V)) → IsJoin (MapBelow R below) now (drop i other) new → IsJoin (MapBelow R below) first other new
+          rest_joined : (new : List (K × V)) → IsJoin (MapBelow R below) now (drop i other) new → IsJoin (MapBelow R below) first other new
           rest_joined new j = record {
             bounds = λ z. (
               λ h.
@@ -220,7 +231,7 @@ module _ {K V : Type 0} (R : K → K → Ordering) (o : IsTotalOrder R) where
             );
           }
 
-          pub rest_stopped : (new : List (K × V)) → IsBetween (MapBelow R below) now (drop i other) new → IsBetween (MapBelow R below) first other new
+          rest_stopped : (new : List (K × V)) → IsBetween (MapBelow R below) now (drop i other) new → IsBetween (MapBelow R below) first other new
           rest_stopped new j = record {
             kept = map_chain below itself chain R first now new first_now j.kept;
             within = λ z p q. j.within z
@@ -228,7 +239,7 @@ module _ {K V : Type 0} (R : K → K → Ordering) (o : IsTotalOrder R) where
                 (map_chain below itself chain R (drop i other) other z (drop_below other i m.sorted) q);
           }
 
-          pub rest_single : (is_single : V → Type 0) (new : List (K × V)) → (IsSinglePair is_single (drop i other) → new ≡ now) → IsSinglePair is_single other → new ≡ first
+          rest_single : (is_single : V → Type 0) (new : List (K × V)) → (IsSinglePair is_single (drop i other) → new ≡ now) → IsSinglePair is_single other → new ≡ first
           rest_single is_single new h s =
               let none = single_place other i lt s in
               h (subst (λ n. IsSinglePair is_single (drop n other)) (sym none) (subst (IsSinglePair is_single) (sym (drop_none other)) s)) ∙ u.start none
@@ -242,6 +253,15 @@ module _ {K V : Type 0} (R : K → K → Ordering) (o : IsTotalOrder R) where
               single_place (x ∷ []) zero l t = refl
               single_place (x ∷ []) (suc j) l t = absurd (omega arith)
               single_place (x ∷ y ∷ xs) j l t = absurd t
+
+          -- so the outcome of joining the later pairs is that of joining all
+          pub rest_copied : {T E : Type 0} (single : V → Type 0) (r : Result T E) (new : List (K × V)) → AreCopiesJoined R below valid single r now (drop i other) new → AreCopiesJoined R below valid single r first other new
+          rest_copied single r new j = record {
+            map = j.map;
+            ok = on_ok_weaker r (rest_joined new) j.ok;
+            refused = on_err_weaker r (rest_stopped new) j.refused;
+            single = on_err_weaker r (rest_single single new) j.single;
+          }
 
           -- a key that is not there now was not known
           pub not_known : find R e.0 now ≡ None → ¬ MapBelow R below other first

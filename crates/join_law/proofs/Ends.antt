@@ -88,6 +88,13 @@ pub record IsUnderWay {K V : Type 0} (R : K → K → Ordering) (valid : V → T
   pub bounds : (z : List (K × V)) → (MapBelow R below now z × MapBelow R below left z) ↔ (MapBelow R below first z × MapBelow R below other z)
   pub single : IsSinglePair is_single other → ((now ≡ first) × (left ≡ other)) ⊎ (left ≡ [])
 
+-- Upper bounds behind a stop: where what is left was cut into one thing and others, and a rest is left of the one.
+pub stopped_bounds : {First Other Now New Left Was Rest LeftWas LeftRest : Type 0} → (Now × LeftWas) ↔ (First × Other) → (New × Rest) ↔ (Now × Was) → LeftWas ↔ (Left × Was) → LeftRest ↔ (Left × Rest) → (New × LeftRest) ↔ (First × Other)
+stopped_bounds so_far here was rest = (
+  λ p. let e = rest.0 p.1 in let b = here.0 (p.0, e.1) in so_far.0 (b.0, was.1 (e.0, b.1)),
+  λ p. let b = so_far.1 p in let e = was.0 b.1 in let c = here.1 (b.0, e.1) in (c.0, rest.1 (e.0, c.1)),
+)
+
 module _ {K V : Type 0} (R : K → K → Ordering) (o : IsTotalOrder R) (valid : V → Type 0) (below : V → V → Type 0) (itself : (x : V) → below x x) (chain : (x y z : V) → below x y → below y z → below x z) (is_single : V → Type 0) where
   pub under_way_first : (es other : List (K × V)) → IsMap R below valid es → IsMap R below valid other → IsUnderWay R valid below is_single es other es other
   under_way_first es other m n = record {
@@ -140,17 +147,7 @@ module _ {K V : Type 0} (R : K → K → Ordering) (o : IsTotalOrder R) (valid :
         pub under_way_stopped : IsPartialJoin (MapBelow R below) first other new (xs ++ (k, w) ∷ [])
         under_way_stopped = record {
           kept = map_chain below itself chain R first now new u.kept j.kept;
-          bounds = λ z. (
-            λ p.
-                let e = (below_end R below o xs k w none z).0 p.1 in
-                let b = (j.bounds z).0 (p.0, e.1) in
-                (u.bounds z).0 (b.0, (below_end R below o xs k v none z).1 (e.0, b.1)),
-            λ p.
-                let b = (u.bounds z).1 p in
-                let e = (below_end R below o xs k v none z).0 b.1 in
-                let c = (j.bounds z).1 (b.0, e.1) in
-                (c.0, (below_end R below o xs k w none z).1 (e.0, c.1)),
-          );
+          bounds = λ z. stopped_bounds (u.bounds z) (j.bounds z) (below_end R below o xs k v none z) (below_end R below o xs k w none z);
           left = last_not_least R below o xs k w none n;
         }
 

@@ -11,7 +11,7 @@ use Rattle.list_laws.specs.Orderings.{is_less, is_equal}
 use Rattle.join_law.specs.Order.{IsLeast, IsJoin, IsPartialJoin}
 use Rattle.join_law.specs.Maps.{OptionBelow, IsHeld, MapBelow, IsMap, IsSinglePair}
 use Rattle.join_law.specs.MapLaws.{map_itself, map_chain}
-use Rattle.join_law.proofs.Ends.{IsUnderWay}
+use Rattle.join_law.proofs.Ends.{IsUnderWay, stopped_bounds}
 
 module _ {K V : Type 0} (R : K → K → Ordering) (o : IsTotalOrder R) (below : V → V → Type 0) where
   find_above : (k : K) (xs : List (K × V)) → IsTrue (below_all R k xs) → find R k xs ≡ None
@@ -77,17 +77,7 @@ module _ {K V : Type 0} (R : K → K → Ordering) (o : IsTotalOrder R) (valid :
     stopped : IsPartialJoin (MapBelow R below) now ((k, v) ∷ []) new ((k, rest.1) ∷ []) → IsPartialJoin (MapBelow R below) first other new ((k, rest.1) ∷ xs)
     stopped i = record {
       kept = map_chain below itself chain R first now new u.kept i.kept;
-      bounds = λ z. (
-        λ p.
-            let e = (below_front R o below k rest.1 xs none z).0 p.1 in
-            let b = (i.bounds z).0 (p.0, e.1) in
-            (u.bounds z).0 (b.0, (below_front R o below k v xs none z).1 (e.0, b.1)),
-        λ p.
-            let b = (u.bounds z).1 p in
-            let e = (below_front R o below k v xs none z).0 b.1 in
-            let c = (i.bounds z).1 (b.0, e.1) in
-            (c.0, (below_front R o below k rest.1 xs none z).1 (e.0, c.1)),
-      );
+      bounds = λ z. stopped_bounds (u.bounds z) (i.bounds z) (below_front R o below k v xs none z) (below_front R o below k rest.1 xs none z);
       left = front_not_least R o below k rest.1 xs n;
     }
 

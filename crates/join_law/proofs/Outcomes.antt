@@ -1,10 +1,14 @@
 -- What holds whatever a call answers.
-use Rattle.std.specs.Prelude.{Result, Ok, Err, OnOk, OnErr, IfOk, Bool, true, false}
+use Rattle.std.specs.Prelude.{Result, Ok, Err, OnOk, OnErr, IsErr, IfOk, Bool, true, false}
 use Rattle.std.specs.Bool.{OnTrue, OnFalse}
 
 pub on_err : {T E P : Type 0} (r : Result T E) → P → OnErr r P
 on_err (Ok t) p = tt
 on_err (Err e) p = p
+
+pub not_ok : {T E : Type 0} (P : Type 0) (r : Result T E) → IsErr r → OnOk r P
+not_ok P (Ok t) h = absurd (cc (h))
+not_ok P (Err e) h = tt
 
 pub on_err_weaker : {T E P Q : Type 0} (r : Result T E) → (P → Q) → OnErr r P → OnErr r Q
 on_err_weaker (Ok t) f h = tt

@@ -4,6 +4,7 @@ pub mod VersionOrderLaws
 pub mod EntryLaws
 pub mod VersionedLaws
 pub mod Maps
+pub mod Outcomes
 pub mod MapLaws
 pub mod UnionLaws
 pub mod MapOneLaws

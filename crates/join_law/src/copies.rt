@@ -1,9 +1,11 @@
 //! Sorted pairs compared and copied, and copies joined into them.
-ghost use Rattle.std.specs.Prelude.{◌≡◌, ◌↔◌, None, [], ◌∷◌, map, IsTrue, IsOk, IfOk, OnOk, OnErr};
+ghost use Rattle.std.specs.Prelude.{◌≡◌, ◌↔◌, ◌≤◌, None, [], ◌∷◌, map, vec_len, IsTrue, IsOk, IfOk, OnOk, OnErr};
 ghost use Rattle.std.specs.Bool.{OnTrue, OnFalse};
 ghost use Rattle.std.specs.FinMap.{find};
-ghost use Rattle.join_law.specs.Maps.{IsHeld, IsMap, IsSinglePair, MapBelow};
+ghost use Rattle.std.specs.List.{insert};
+ghost use Rattle.join_law.specs.Maps.{IsHeld, IsMap, MapBelow};
 ghost use Rattle.join_law.specs.Order.{IsBetween, IsJoin};
+ghost use Rattle.join_law.specs.Outcomes.{AreCopiesJoined};
 
 use crate::joins::Join;
 use crate::passes::{are_few, join_copies_in_one};
@@ -41,11 +43,26 @@ fn join_pair_copy<K: Key, V: Join>(
             if !are_few(left, pairs.len()) {
                 return Ok(false);
             }
-            let copy = key.try_clone()?;
-            pairs.insert(at, (copy, value.try_clone()?))?;
+            insert_copy(pairs, at, key, value)?;
             Ok(true)
         }
     }
+}
+
+// Inserts a copy of one pair. Where memory is refused, nothing is inserted.
+fn insert_copy<K: Key, V: Join>(
+    pairs: &mut Vec<(K, V)>,
+    at: usize,
+    key: &K,
+    value: &V,
+) -> Result<(), AllocError>
+    requires at { at ≤ vec_len pairs.old }
+    ensures ok { OnOk result (pairs.new.items ≡ insert pairs.old.items at (key.now, value.now)) }
+    ensures err { OnErr result (pairs.new.items ≡ pairs.old.items) }
+{
+    let copy = key.try_clone()?;
+    pairs.insert(at, (copy, value.try_clone()?))?;
+    Ok(())
 }
 
 // Joins copies of what the others have more: a search for each, until a key is new and many are left; then one growth and one
@@ -56,11 +73,8 @@ pub fn join_copies<K: Key, V: Join>(
 ) -> Result<(), AllocError>
     requires map { IsMap K.cmp V.below V.is_valid pairs.old.items }
     requires other_map { IsMap K.cmp V.below V.is_valid other.now }
-    ensures map { IsMap K.cmp V.below V.is_valid pairs.new.items }
-    ensures ok { OnOk result (IsJoin (MapBelow K.cmp V.below) pairs.old.items other.now pairs.new.items) }
-    ensures refused { OnErr result (IsBetween (MapBelow K.cmp V.below) pairs.old.items other.now
-        pairs.new.items) }
-    ensures single { OnErr result (IsSinglePair V.is_single other.now → pairs.new.items ≡ pairs.old.items) }
+    ensures joined { AreCopiesJoined K.cmp V.below V.is_valid V.is_single result pairs.old.items other.now
+        pairs.new.items }
     ensures known { MapBelow K.cmp V.below other.now pairs.old.items → IsOk result }
 {
     for i in 0..other.len() {

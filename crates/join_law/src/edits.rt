@@ -1,9 +1,9 @@
 //! Joins of pairs that are given away into sorted pairs.
 ghost use Rattle.std.specs.Prelude.{◌≡◌, ◌↔◌, [], ◌∷◌, None, IsTrue, IsSome, IsOk, IfOk, OnOk, IfErr};
 ghost use Rattle.std.specs.FinMap.{find};
-ghost use Rattle.std.specs.Bool.{OnTrue, OnFalse};
-ghost use Rattle.join_law.specs.Maps.{IsMap, IsSinglePair, MapBelow};
+ghost use Rattle.join_law.specs.Maps.{IsMap, MapBelow};
 ghost use Rattle.join_law.specs.Order.{IsJoin, IsLeast, IsPartialJoin};
+ghost use Rattle.join_law.specs.Outcomes.{ArePairsJoined};
 
 use crate::joins::{Join, Rest};
 use crate::passes::{are_few, join_pairs_in_one};
@@ -54,14 +54,8 @@ pub fn join_pair<K: Key, V: Join>(
 pub fn join_pairs<K: Key, V: Join>(pairs: &mut Vec<(K, V)>, other: &mut Vec<(K, V)>) -> bool
     requires map { IsMap K.cmp V.below V.is_valid pairs.old.items }
     requires other_map { IsMap K.cmp V.below V.is_valid other.old.items }
-    ensures map { IsMap K.cmp V.below V.is_valid pairs.new.items }
-    ensures other_map { IsMap K.cmp V.below V.is_valid other.new.items }
-    ensures ok { OnTrue result (IsJoin (MapBelow K.cmp V.below) pairs.old.items other.old.items
-        pairs.new.items) }
-    ensures refused { OnFalse result (IsPartialJoin (MapBelow K.cmp V.below) pairs.old.items other.old.items
-        pairs.new.items other.new.items) }
-    ensures single { OnFalse result (IsSinglePair V.is_single other.old.items →
-        pairs.new.items ≡ pairs.old.items) }
+    ensures joined { ArePairsJoined K.cmp V.below V.is_valid V.is_single result pairs.old.items other.old.items
+        pairs.new.items other.new.items }
 {
     if pairs.is_empty() {
         mem::swap(pairs, other);

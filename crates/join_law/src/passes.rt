@@ -4,8 +4,9 @@ ghost use Rattle.std.specs.VecDeque.{deque_len};
 ghost use Rattle.std.specs.declared.cmp.Ordering.TheVariants.{Less};
 ghost use Rattle.std.specs.Bool.{OnTrue, OnFalse};
 ghost use Rattle.sorted_pairs.specs.Places.{IsAt, IsGap, AreBelow, IsNotBelow};
-ghost use Rattle.join_law.specs.Maps.{IsHeld, IsMap, IsSinglePair, MapBelow};
+ghost use Rattle.join_law.specs.Maps.{IsHeld, IsMap, MapBelow};
 ghost use Rattle.join_law.specs.Order.{IsBetween, IsJoin, IsLeast, IsPartialJoin};
+ghost use Rattle.join_law.specs.Outcomes.{AreCopiesJoined, ArePairsJoined};
 
 use crate::joins::{Join, Rest};
 use plain_values::Key;
@@ -118,14 +119,8 @@ fn pass_pairs<K: Key, V: Join>(
     requires none { passed.old.items ≡ [] }
     requires map { IsMap K.cmp V.below V.is_valid ahead.old.items }
     requires other_map { IsMap K.cmp V.below V.is_valid other.old.items }
-    ensures map { IsMap K.cmp V.below V.is_valid (passed.new.items ++ ahead.new.items) }
-    ensures other_map { IsMap K.cmp V.below V.is_valid other.new.items }
-    ensures ok { OnTrue result (IsJoin (MapBelow K.cmp V.below) ahead.old.items other.old.items
-        (passed.new.items ++ ahead.new.items)) }
-    ensures refused { OnFalse result (IsPartialJoin (MapBelow K.cmp V.below) ahead.old.items other.old.items
-        (passed.new.items ++ ahead.new.items) other.new.items) }
-    ensures single { OnFalse result (IsSinglePair V.is_single other.old.items →
-        passed.new.items ++ ahead.new.items ≡ ahead.old.items) }
+    ensures joined { ArePairsJoined K.cmp V.below V.is_valid V.is_single result ahead.old.items other.old.items
+        (passed.new.items ++ ahead.new.items) other.new.items }
     ensures room { vec_len passed.new + deque_len ahead.new ≤ vec_capacity passed.new }
 {
     while let Some((key, value)) = other.pop_front() {
@@ -151,13 +146,8 @@ fn pass_copies<K: Key, V: Join>(
     requires none { passed.old.items ≡ [] }
     requires map { IsMap K.cmp V.below V.is_valid ahead.old.items }
     requires other_map { IsMap K.cmp V.below V.is_valid other.now }
-    ensures map { IsMap K.cmp V.below V.is_valid (passed.new.items ++ ahead.new.items) }
-    ensures ok { OnOk result (IsJoin (MapBelow K.cmp V.below) ahead.old.items other.now
-        (passed.new.items ++ ahead.new.items)) }
-    ensures refused { OnErr result (IsBetween (MapBelow K.cmp V.below) ahead.old.items other.now
-        (passed.new.items ++ ahead.new.items)) }
-    ensures single { OnErr result (IsSinglePair V.is_single other.now →
-        passed.new.items ++ ahead.new.items ≡ ahead.old.items) }
+    ensures joined { AreCopiesJoined K.cmp V.below V.is_valid V.is_single result ahead.old.items other.now
+        (passed.new.items ++ ahead.new.items) }
     ensures room { vec_len passed.new + deque_len ahead.new ≤ vec_capacity passed.new }
 {
     for pair in other {
@@ -172,13 +162,9 @@ pub fn join_copies_in_one<K: Key, V: Join>(
     pairs: &mut Vec<(K, V)>,
     other: &[(K, V)],
 ) -> Result<(), AllocError>
-    requires map { IsMap K.cmp V.below V.is_valid pairs.old.items }
-    requires other_map { IsMap K.cmp V.below V.is_valid other.now }
-    ensures map { IsMap K.cmp V.below V.is_valid pairs.new.items }
-    ensures ok { OnOk result (IsJoin (MapBelow K.cmp V.below) pairs.old.items other.now pairs.new.items) }
-    ensures refused { OnErr result (IsBetween (MapBelow K.cmp V.below) pairs.old.items other.now
-        pairs.new.items) }
-    ensures single { OnErr result (IsSinglePair V.is_single other.now → pairs.new.items ≡ pairs.old.items) }
+    requires maps { IsMap K.cmp V.below V.is_valid pairs.old.items × IsMap K.cmp V.below V.is_valid other.now }
+    ensures joined { AreCopiesJoined K.cmp V.below V.is_valid V.is_single result pairs.old.items other.now
+        pairs.new.items }
 {
     let alloc = *pairs.allocator();
     let room = pairs.len().checked_add(other.len()).ok_or(AllocError)?;
@@ -193,17 +179,10 @@ pub fn join_copies_in_one<K: Key, V: Join>(
 // Joins all pairs of `other`, by one growth, then one pass over both, and answers whether all went
 // in. Linear.
 pub fn join_pairs_in_one<K: Key, V: Join>(pairs: &mut Vec<(K, V)>, other: &mut Vec<(K, V)>) -> bool
-    requires map { IsMap K.cmp V.below V.is_valid pairs.old.items }
-    requires other_map { IsMap K.cmp V.below V.is_valid other.old.items }
+    requires maps { IsMap K.cmp V.below V.is_valid pairs.old.items × IsMap K.cmp V.below V.is_valid other.old.items }
     requires some { 0 < vec_len other.old }
-    ensures map { IsMap K.cmp V.below V.is_valid pairs.new.items }
-    ensures other_map { IsMap K.cmp V.below V.is_valid other.new.items }
-    ensures ok { OnTrue result (IsJoin (MapBelow K.cmp V.below) pairs.old.items other.old.items
-        pairs.new.items) }
-    ensures refused { OnFalse result (IsPartialJoin (MapBelow K.cmp V.below) pairs.old.items other.old.items
-        pairs.new.items other.new.items) }
-    ensures single { OnFalse result (IsSinglePair V.is_single other.old.items →
-        pairs.new.items ≡ pairs.old.items) }
+    ensures joined { ArePairsJoined K.cmp V.below V.is_valid V.is_single result pairs.old.items other.old.items
+        pairs.new.items other.new.items }
 {
     let alloc = *pairs.allocator();
     let Some(room) = pairs.len().checked_add(other.len()) else {

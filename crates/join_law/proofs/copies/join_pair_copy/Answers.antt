@@ -4,32 +4,14 @@ use Rattle.sorted_pairs.specs.PlaceLaws.{find_gap}
 use Rattle.join_law.proofs.Outcomes.{on_err}
 use Rattle.join_law.proofs.copies.join_pair_copy.Goals as goal
 
-pub returns-in_err-copy-in-Err-clause-known : goal.returns-in_err-copy-in-Err-clause-known
-returns-in_err-copy-in-Err-clause-known g c =
+pub returns-in_err-insert_copy-in-Err-clause-known : goal.returns-in_err-insert_copy-in-Err-clause-known
+returns-in_err-insert_copy-in-Err-clause-known g c =
     λ h. absurd (not_known g.K.Ord.cmp g.met.K.Ord.total g.V.Join.is_valid g.V.Join.below g.met.V.Join.reflexive g.met.V.Join.transitive c.args.key.now _ _ c.requires.map c.args.value.now c.requires.held.not_least (rw c.deref.ensures.value at c.in-Err.ensures.absent) h)
 
-pub returns-in_err-copy-in-Err-clause-refused : goal.returns-in_err-copy-in-Err-clause-refused
-returns-in_err-copy-in-Err-clause-refused g c =
+pub returns-in_err-insert_copy-in-Err-clause-refused : goal.returns-in_err-insert_copy-in-Err-clause-refused
+returns-in_err-insert_copy-in-Err-clause-refused g c =
     let between = unchanged_is_between g.K.Ord.cmp g.met.K.Ord.total g.V.Join.is_valid g.V.Join.below g.met.V.Join.reflexive g.met.V.Join.transitive c.args.key.now _ c.in-Err.at c.requires.map c.args.value.now c.requires.held.not_least in
-    on_err _ between
-
-pub returns-in_err-try_clone-in-Err-clause-known : goal.returns-in_err-try_clone-in-Err-clause-known
-returns-in_err-try_clone-in-Err-clause-known g c =
-    λ h. absurd (not_known g.K.Ord.cmp g.met.K.Ord.total g.V.Join.is_valid g.V.Join.below g.met.V.Join.reflexive g.met.V.Join.transitive c.args.key.now _ _ c.requires.map c.args.value.now c.requires.held.not_least (rw c.deref.ensures.value at c.in-Err.ensures.absent) h)
-
-pub returns-in_err-try_clone-in-Err-clause-refused : goal.returns-in_err-try_clone-in-Err-clause-refused
-returns-in_err-try_clone-in-Err-clause-refused g c =
-    let between = unchanged_is_between g.K.Ord.cmp g.met.K.Ord.total g.V.Join.is_valid g.V.Join.below g.met.V.Join.reflexive g.met.V.Join.transitive c.args.key.now _ c.in-Err.at c.requires.map c.args.value.now c.requires.held.not_least in
-    on_err _ between
-
-pub returns-in_err-insert-in-Err-clause-known : goal.returns-in_err-insert-in-Err-clause-known
-returns-in_err-insert-in-Err-clause-known g c =
-    λ h. absurd (not_known g.K.Ord.cmp g.met.K.Ord.total g.V.Join.is_valid g.V.Join.below g.met.V.Join.reflexive g.met.V.Join.transitive c.args.key.now _ _ c.requires.map c.args.value.now c.requires.held.not_least (rw c.deref.ensures.value at c.in-Err.ensures.absent) h)
-
-pub returns-in_err-insert-in-Err-clause-refused : goal.returns-in_err-insert-in-Err-clause-refused
-returns-in_err-insert-in-Err-clause-refused g c =
-    let between = unchanged_is_between g.K.Ord.cmp g.met.K.Ord.total g.V.Join.is_valid g.V.Join.below g.met.V.Join.reflexive g.met.V.Join.transitive c.args.key.now _ c.in-Err.at c.requires.map c.args.value.now c.requires.held.not_least in
-    rw c.in_err-insert-in-Err.ensures.items (on_err _ between)
+    rw c.in_err-insert_copy-in-Err.ensures.err (on_err _ between)
 
 pub returns-in_ok-join_copy-in-Ok-clause-map : goal.returns-in_ok-join_copy-in-Ok-clause-map
 returns-in_ok-join_copy-in-Ok-clause-map g c =
@@ -60,14 +42,14 @@ returns-in_err-join_copy-in-Ok-clause-single g c =
     set_same items c.in-Ok.at c.index_mut-place.result.now c.index_mut-place.ensures.value in
     on_err _ kept
 
-pub returns-in_ok-insert-in-Err-clause-map : goal.returns-in_ok-insert-in-Err-clause-map
-returns-in_ok-insert-in-Err-clause-map g c =
-    rw (c.in_ok-insert-in-Err.ensures.items, c.in_ok-copy-in-Err.ensures.copy, c.in_ok-try_clone-in-Err.ensures.copy)
+pub returns-in_ok-insert_copy-in-Err-clause-map : goal.returns-in_ok-insert_copy-in-Err-clause-map
+returns-in_ok-insert_copy-in-Err-clause-map g c =
+    rw c.in_ok-insert_copy-in-Err.ensures.ok
     (inserted_is_map g.K.Ord.cmp g.met.K.Ord.total g.V.Join.is_valid g.V.Join.below g.met.V.Join.reflexive g.met.V.Join.transitive c.args.key.now _ _ c.requires.map c.args.value.now c.requires.held.not_least (rw c.deref.ensures.value at c.in-Err.ensures.absent) c.requires.held.lawful)
 
-pub returns-in_ok-insert-in-Err-clause-ok : goal.returns-in_ok-insert-in-Err-clause-ok
-returns-in_ok-insert-in-Err-clause-ok g c =
-    rw (c.in_ok-insert-in-Err.ensures.items, c.in_ok-copy-in-Err.ensures.copy, c.in_ok-try_clone-in-Err.ensures.copy)
+pub returns-in_ok-insert_copy-in-Err-clause-ok : goal.returns-in_ok-insert_copy-in-Err-clause-ok
+returns-in_ok-insert_copy-in-Err-clause-ok g c =
+    rw c.in_ok-insert_copy-in-Err.ensures.ok
     (inserted_is_join g.K.Ord.cmp g.met.K.Ord.total g.V.Join.is_valid g.V.Join.below g.met.V.Join.reflexive g.met.V.Join.transitive c.args.key.now _ _ c.requires.map c.args.value.now c.requires.held.not_least (rw c.deref.ensures.value at c.in-Err.ensures.absent))
 
 pub returns-then-not-are_few-clause-absent : goal.returns-then-not-are_few-clause-absent

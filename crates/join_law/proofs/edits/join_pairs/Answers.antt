@@ -1,15 +1,18 @@
-use Rattle.join_law.proofs.Ends.{under_way_more, stopped_is_join, stopped_is_map}
+use Rattle.join_law.proofs.Ends.{under_way_more, single_stopped, stopped_is_join, stopped_is_map}
 use Rattle.join_law.proofs.edits.join_pairs.Goals as goal
 
-pub returns-in-Ok-clause-other_map : goal.returns-in-Ok-clause-other_map
-returns-in-Ok-clause-other_map g c = rw c.in-Ok.ensures.items
-    (stopped_is_map g.K.Ord.cmp g.met.K.Ord.total g.V.Join.is_valid g.V.Join.below g.met.V.Join.reflexive g.met.V.Join.transitive g.V.Join.is_single _ _ _ _ c.in-Some.key c.in-Some.value
-    (rw c.in-Some.ensures.items at c.loop-key.invariant) _ _ c.in-Err.ensures.key c.in-Err.ensures.refused c.in-Err.ensures.left c.in-Err.ensures.rest_valid)
-
-pub returns-in-Ok-clause-refused : goal.returns-in-Ok-clause-refused
-returns-in-Ok-clause-refused g c = rw c.in-Ok.ensures.items
-    (stopped_is_join g.K.Ord.cmp g.met.K.Ord.total g.V.Join.is_valid g.V.Join.below g.met.V.Join.reflexive g.met.V.Join.transitive g.V.Join.is_single _ _ _ _ c.in-Some.key c.in-Some.value
-    (rw c.in-Some.ensures.items at c.loop-key.invariant) _ _ c.in-Err.ensures.key c.in-Err.ensures.refused c.in-Err.ensures.left)
+pub returns-in-Ok : goal.returns-in-Ok
+returns-in-Ok g c =
+    let u = rw c.in-Some.ensures.items at c.loop-key.invariant in
+    record {
+      joined = record {
+        map = c.in-Err.ensures.map;
+        other_map = rw c.in-Ok.ensures.items (stopped_is_map g.K.Ord.cmp g.met.K.Ord.total g.V.Join.is_valid g.V.Join.below g.met.V.Join.reflexive g.met.V.Join.transitive g.V.Join.is_single _ _ _ _ c.in-Some.key c.in-Some.value u _ _ c.in-Err.ensures.key c.in-Err.ensures.refused c.in-Err.ensures.left c.in-Err.ensures.rest_valid);
+        ok = tt;
+        refused = rw c.in-Ok.ensures.items (stopped_is_join g.K.Ord.cmp g.met.K.Ord.total g.V.Join.is_valid g.V.Join.below g.met.V.Join.reflexive g.met.V.Join.transitive g.V.Join.is_single _ _ _ _ c.in-Some.key c.in-Some.value u _ _ c.in-Err.ensures.key c.in-Err.ensures.refused c.in-Err.ensures.left);
+        single = single_stopped g.K.Ord.cmp g.met.K.Ord.total g.V.Join.is_valid g.V.Join.below g.met.V.Join.reflexive g.met.V.Join.transitive g.V.Join.is_single _ _ _ _ c.in-Some.key c.in-Some.value u _ c.in-Err.ensures.single;
+      };
+    }
 
 pub loop-key-preserved : goal.loop-key-preserved
 loop-key-preserved g c =

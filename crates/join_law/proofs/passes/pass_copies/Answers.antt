@@ -3,9 +3,8 @@ use Rattle.std.specs.declared.cmp.Ordering.TheVariants.{Less}
 use Rattle.sorted_pairs.specs.Places.{AreBelow}
 use Rattle.join_law.specs.Order.{IsBetween, IsJoin}
 use Rattle.join_law.specs.Maps.{IsHeld, IsMap, MapBelow}
-use Rattle.join_law.proofs.Outcomes.{on_err}
 use Rattle.join_law.proofs.Behind.{keys_rise}
-use Rattle.join_law.proofs.CopyWalks.{held_at, copied_first, copied_all, copied_more, copied_stopped, copied_single}
+use Rattle.join_law.proofs.CopyWalks.{held_at, copied_first, copied_all, copied_more, stopped_joined}
 use Rattle.join_law.proofs.passes.pass_copies.Goals as goal
 
 pub loop-pair-init : goal.loop-pair-init
@@ -41,14 +40,17 @@ loop-pair-preserved g c =
       room = omega arith;
     }
 
-pub returns-in_err-place_copy-clause-refused : goal.returns-in_err-place_copy-clause-refused
-returns-in_err-place_copy-clause-refused g c =
+pub returns-in_err-place_copy-clause-joined : goal.returns-in_err-place_copy-clause-joined
+returns-in_err-place_copy-clause-joined g c =
     let new = c.place_copy.new.passed.items ++ c.place_copy.new.ahead.items in
-    on_err _ (copied_stopped g.K.Ord.cmp g.met.K.Ord.total g.V.Join.below g.met.V.Join.reflexive g.met.V.Join.transitive g.V.Join.is_valid _ _ _ _ c.loop-pair.invariant.copied c.pair-item.result c.pair-item.is c.loop-pair-test.true c.requires.other_map _ (subst (λ now. IsBetween (MapBelow g.K.Ord.cmp g.V.Join.below) now ((c.pair-item.result.0, c.pair-item.result.1) ∷ []) new) c.pass_below.ensures.pairs c.in_err-place_copy.ensures.refused))
+    stopped_joined g.K.Ord.cmp g.met.K.Ord.total g.V.Join.below g.met.V.Join.reflexive g.met.V.Join.transitive g.V.Join.is_valid _ _ _ _ c.loop-pair.invariant.copied c.pair-item.result c.pair-item.is c.loop-pair-test.true c.requires.other_map g.V.Join.is_single _ _ c.from_residual.ensures.0 c.in_err-place_copy.ensures.map
+    (subst (λ now. IsBetween (MapBelow g.K.Ord.cmp g.V.Join.below) now ((c.pair-item.result.0, c.pair-item.result.1) ∷ []) new) c.pass_below.ensures.pairs c.in_err-place_copy.ensures.refused)
+    (λ single. c.in_err-place_copy.ensures.single single ∙ c.pass_below.ensures.pairs)
 
-pub returns-in_err-place_copy-clause-single : goal.returns-in_err-place_copy-clause-single
-returns-in_err-place_copy-clause-single g c =
-    on_err _ (copied_single g.K.Ord.cmp g.met.K.Ord.total g.V.Join.below g.met.V.Join.reflexive g.met.V.Join.transitive g.V.Join.is_valid _ _ _ _ c.loop-pair.invariant.copied c.pair-item.result c.pair-item.is c.loop-pair-test.true c.requires.other_map g.V.Join.is_single _ (λ single. c.in_err-place_copy.ensures.single single ∙ c.pass_below.ensures.pairs))
-
-pub returns-clause-ok : goal.returns-clause-ok
-returns-clause-ok g c = copied_all g.K.Ord.cmp g.met.K.Ord.total g.V.Join.below g.met.V.Join.reflexive g.met.V.Join.transitive g.V.Join.is_valid _ _ _ _ c.loop-pair.invariant.copied (omega arith)
+pub returns-clause-joined : goal.returns-clause-joined
+returns-clause-joined g c = record {
+  map = c.loop-pair.invariant.copied.map;
+  ok = copied_all g.K.Ord.cmp g.met.K.Ord.total g.V.Join.below g.met.V.Join.reflexive g.met.V.Join.transitive g.V.Join.is_valid _ _ _ _ c.loop-pair.invariant.copied (omega arith);
+  refused = tt;
+  single = tt;
+}

@@ -39,17 +39,14 @@ loop-key-preserved g c =
       room = omega (arith, c.in-Some.ensures.len);
     }
 
-pub returns-in-Ok-clause-other_map : goal.returns-in-Ok-clause-other_map
-returns-in-Ok-clause-other_map g c =
+pub returns-in-Ok-clause-joined : goal.returns-in-Ok-clause-joined
+returns-in-Ok-clause-joined g c =
     let u = subst (λ left. IsUnderWay g.K.Ord.cmp g.V.Join.is_valid g.V.Join.below g.V.Join.is_single c.args.ahead.now.items c.args.other.now.items (c.loop-key.passed.items ++ c.loop-key.ahead.items) left) c.in-Some.ensures.items c.loop-key.invariant.under_way in
-    rw c.in-Ok.ensures.items (front_back g.K.Ord.cmp g.met.K.Ord.total g.V.Join.is_valid g.V.Join.below g.met.V.Join.reflexive g.met.V.Join.transitive g.V.Join.is_single c.args.ahead.now.items c.args.other.now.items (c.loop-key.passed.items ++ c.loop-key.ahead.items) c.in-Some.key c.in-Some.value c.pop_front.new.self.items u _ _ c.in-Err.ensures.key (subst (λ now. IsPartialJoin (MapBelow g.K.Ord.cmp g.V.Join.below) now ((c.in-Some.key, c.in-Some.value) ∷ []) (c.place_pair.new.passed.items ++ c.place_pair.new.ahead.items) (c.in-Err.field-0.rest ∷ [])) c.pass_below.ensures.pairs c.in-Err.ensures.refused) c.in-Err.ensures.left c.in-Err.ensures.rest_valid)
-
-pub returns-in-Ok-clause-refused : goal.returns-in-Ok-clause-refused
-returns-in-Ok-clause-refused g c =
-    let u = subst (λ left. IsUnderWay g.K.Ord.cmp g.V.Join.is_valid g.V.Join.below g.V.Join.is_single c.args.ahead.now.items c.args.other.now.items (c.loop-key.passed.items ++ c.loop-key.ahead.items) left) c.in-Some.ensures.items c.loop-key.invariant.under_way in
-    rw c.in-Ok.ensures.items (front_stopped g.K.Ord.cmp g.met.K.Ord.total g.V.Join.is_valid g.V.Join.below g.met.V.Join.reflexive g.met.V.Join.transitive g.V.Join.is_single c.args.ahead.now.items c.args.other.now.items (c.loop-key.passed.items ++ c.loop-key.ahead.items) c.in-Some.key c.in-Some.value c.pop_front.new.self.items u _ _ c.in-Err.ensures.key (subst (λ now. IsPartialJoin (MapBelow g.K.Ord.cmp g.V.Join.below) now ((c.in-Some.key, c.in-Some.value) ∷ []) (c.place_pair.new.passed.items ++ c.place_pair.new.ahead.items) (c.in-Err.field-0.rest ∷ [])) c.pass_below.ensures.pairs c.in-Err.ensures.refused) c.in-Err.ensures.left)
-
-pub returns-in-Ok-clause-single : goal.returns-in-Ok-clause-single
-returns-in-Ok-clause-single g c =
-    let u = subst (λ left. IsUnderWay g.K.Ord.cmp g.V.Join.is_valid g.V.Join.below g.V.Join.is_single c.args.ahead.now.items c.args.other.now.items (c.loop-key.passed.items ++ c.loop-key.ahead.items) left) c.in-Some.ensures.items c.loop-key.invariant.under_way in
-    front_single g.K.Ord.cmp g.met.K.Ord.total g.V.Join.is_valid g.V.Join.below g.met.V.Join.reflexive g.met.V.Join.transitive g.V.Join.is_single c.args.ahead.now.items c.args.other.now.items (c.loop-key.passed.items ++ c.loop-key.ahead.items) c.in-Some.key c.in-Some.value c.pop_front.new.self.items u _ (λ single. c.in-Err.ensures.single single ∙ c.pass_below.ensures.pairs)
+    let partly = subst (λ now. IsPartialJoin (MapBelow g.K.Ord.cmp g.V.Join.below) now ((c.in-Some.key, c.in-Some.value) ∷ []) (c.place_pair.new.passed.items ++ c.place_pair.new.ahead.items) (c.in-Err.field-0.rest ∷ [])) c.pass_below.ensures.pairs c.in-Err.ensures.refused in
+    record {
+      map = c.in-Err.ensures.map;
+      other_map = rw c.in-Ok.ensures.items (front_back g.K.Ord.cmp g.met.K.Ord.total g.V.Join.is_valid g.V.Join.below g.met.V.Join.reflexive g.met.V.Join.transitive g.V.Join.is_single c.args.ahead.now.items c.args.other.now.items (c.loop-key.passed.items ++ c.loop-key.ahead.items) c.in-Some.key c.in-Some.value c.pop_front.new.self.items u _ _ c.in-Err.ensures.key partly c.in-Err.ensures.left c.in-Err.ensures.rest_valid);
+      ok = tt;
+      refused = rw c.in-Ok.ensures.items (front_stopped g.K.Ord.cmp g.met.K.Ord.total g.V.Join.is_valid g.V.Join.below g.met.V.Join.reflexive g.met.V.Join.transitive g.V.Join.is_single c.args.ahead.now.items c.args.other.now.items (c.loop-key.passed.items ++ c.loop-key.ahead.items) c.in-Some.key c.in-Some.value c.pop_front.new.self.items u _ _ c.in-Err.ensures.key partly c.in-Err.ensures.left);
+      single = front_single g.K.Ord.cmp g.met.K.Ord.total g.V.Join.is_valid g.V.Join.below g.met.V.Join.reflexive g.met.V.Join.transitive g.V.Join.is_single c.args.ahead.now.items c.args.other.now.items (c.loop-key.passed.items ++ c.loop-key.ahead.items) c.in-Some.key c.in-Some.value c.pop_front.new.self.items u _ (λ single. c.in-Err.ensures.single single ∙ c.pass_below.ensures.pairs);
+    }
