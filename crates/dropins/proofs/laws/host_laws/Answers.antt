@@ -2,9 +2,4 @@ use Rattle.dropins.specs.HostLaws.{drop_ins_are_the_fleets, hosts_without_places
 use Rattle.dropins.proofs.laws.host_laws.Goals as goal
 
 pub returns : goal.returns
-returns c = record {
-  drop_ins = hosts_without_places_have_these_drop_ins;
-  links = hosts_without_places_have_these_links;
-  fleets = drop_ins_are_the_fleets;
-  fleets_links = links_are_the_fleets;
-}
+returns c = record { drop_ins = hosts_without_places_have_these_drop_ins; links = hosts_without_places_have_these_links; fleets = drop_ins_are_the_fleets; fleets_links = links_are_the_fleets }
