@@ -1,6 +1,6 @@
 -- What is taken for a file name, found by walking through levels and folders: words for private clauses.
 -- Source: this project's own.
-use Rattle.std.specs.Prelude.{ℕ, Option, Some, None, if◌then◌else◌, List, [], ◌∷◌, ◌++◌}
+use Rattle.std.specs.Prelude.{◌≡◌, ℕ, Option, Some, None, if◌then◌else◌, List, [], ◌∷◌, ◌++◌}
 use Rattle.std.specs.Option.{option_and_then, option_map, option_or}
 use Rattle.std.specs.FinMap as finmap
 use Rattle.std.specs.Str.{bytes_eq}
@@ -39,6 +39,10 @@ take_at s x q = option_and_then (λ e. take_of x (q, e)) (finmap.get (seen s) q)
 -- what candidates give for a file name: the first that has it
 abbrev pub first_for : List (List ℕ × Take) → List ℕ → Option Take
 first_for cs f = first_said (λ c. if bytes_eq c.0 f then Some c.1 else None) cs
+
+-- so much more is given behind what was given, for each file name
+abbrev pub Adds : List (List ℕ × Take) → List (List ℕ × Take) → (List ℕ → Option Take) → Type 0
+Adds old new more = (f : List ℕ) → first_for new f ≡ option_or (first_for old f) (more f)
 
 -- what is taken for a file name at a level, in the first folder that has something
 abbrev pub took_in : View → Search → List (List ℕ) → List ℕ → ℕ → Option Take

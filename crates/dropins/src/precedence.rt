@@ -1,6 +1,5 @@
 //! What is taken for each file name of some folders of names and of types.
 ghost use Rattle.std.specs.Prelude.{◌≡◌, ℕ, ◌↔◌, List, IfOk, OnOk, Some, None, map};
-ghost use Rattle.std.specs.Option.{option_or};
 ghost use Rattle.std.specs.BTreeMap.{get, IsOrdered};
 ghost use Rattle.std.specs.FinMap as finmap;
 ghost use Rattle.path_maps.specs.Views.{seen as all_seen};
@@ -12,7 +11,7 @@ ghost use Rattle.unit_name.specs.Names.{name_cmp};
 ghost use Rattle.dropins.specs.Taken.{is_conf, is_null, IsTakenOver, entry_name};
 ghost use Rattle.dropins.specs.Taken.Candidate.{At};
 ghost use Rattle.dropins.specs.declared.precedence.Search.TheVariants.{DropIns, Links};
-ghost use Rattle.dropins.specs.Walks.{first_for, path, said_for, take_at, take_of, took, took_in, took_over, unmasked};
+ghost use Rattle.dropins.specs.Walks.{Adds, first_for, path, said_for, take_at, take_of, took, took_in, took_over, unmasked};
 
 use load_places::LEVELS;
 use plain_values::Bytes;
@@ -98,8 +97,7 @@ fn add_levels<'a>(
     search: Search,
     dirs: &[Bytes],
 ) -> Result<(), AllocError>
-    ensures added { OnOk result ((f : List ℕ) → first_for found.new.items f ≡ option_or
-        (first_for found.old.items f) (took seen.now search dirs.now f)) }
+    ensures added { OnOk result (Adds found.old.items found.new.items (took seen.now search dirs.now)) }
 {
     for level in 0..LEVELS {
         add_level(seen, found, search, level, dirs)?;
@@ -115,8 +113,7 @@ fn add_level<'a>(
     level: u8,
     dirs: &[Bytes],
 ) -> Result<(), AllocError>
-    ensures added { OnOk result ((f : List ℕ) → first_for found.new.items f ≡ option_or
-        (first_for found.old.items f) (took_in seen.now search dirs.now f level)) }
+    ensures added { OnOk result (Adds found.old.items found.new.items (λ f. took_in seen.now search dirs.now f level)) }
 {
     for dir in dirs {
         add_folder(seen, found, search, level, dir.as_slice())?;
@@ -132,8 +129,7 @@ fn add_folder<'a>(
     level: u8,
     dir: &[u8],
 ) -> Result<(), AllocError>
-    ensures added { OnOk result ((f : List ℕ) → first_for found.new.items f ≡ option_or
-        (first_for found.old.items f) (take_at seen.now search (path level dir.now f))) }
+    ensures added { OnOk result (Adds found.old.items found.new.items (λ f. take_at seen.now search (path level dir.now f))) }
 {
     let mut entries = seen.entries_in(level, dir);
     while let Some(placed) = entries.next_entry() {
@@ -148,8 +144,7 @@ fn add_entry<'a>(
     search: Search,
     placed: SeenEntry<'a>,
 ) -> Result<(), AllocError>
-    ensures added { OnOk result ((f : List ℕ) → first_for found.new.items f ≡ option_or
-        (first_for found.old.items f) (said_for search f placed.entry)) }
+    ensures added { OnOk result (Adds found.old.items found.new.items (λ f. said_for search f placed.entry)) }
 {
     let name = placed.name();
     if let Some(take) = take_of(search, placed) {
