@@ -3,7 +3,7 @@ ghost use Rattle.std.specs.Prelude.{◌≡◌, ◌∷◌, []};
 ghost use Rattle.node_histories.specs.declared.events.HistoryEvent.TheVariants.{Opening};
 ghost use Rattle.node_histories.specs.Books.{head_of};
 
-use crate::events::{Asked, HistoryEvent};
+use crate::events::{Asked, HistoryEvent, Takeable};
 use logbook::{Gain, Offer, Opening as Opens, Plain, Play, Rule, Seen, Start, Word};
 use replica_store::Replica;
 use std::marker::Brand;
@@ -47,10 +47,10 @@ impl Play<HistoryEvent, u64> for Add {
     ghost then = { Adds };
 }
 
-impl<A: Asked> Plain<A, HistoryEvent, u64> for Add {
+impl<T: Takeable> Plain<Asked<T>, HistoryEvent, u64> for Add {
     ghost use Rattle.std.specs.Prelude.{None};
 
-    ghost ask = { A.event };
+    ghost ask = { λ a. T.event a.seat a.what };
 
     ghost state = { λ a. None };
 }

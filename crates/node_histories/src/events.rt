@@ -14,35 +14,29 @@ pub enum HistoryEvent {
     Absorbed(u64, Piece),
 }
 
-// What a seat asks to take, and the event that it then is.
-pub(crate) trait Asked {
+// What a seat may ask to take, and the event that it then is.
+pub(crate) trait Takeable {
+    ghost use Rattle.std.specs.Prelude.{ℕ};
     ghost use Rattle.node_histories.specs.declared.events.HistoryEvent.{HistoryEvent};
 
-    ghost event: { Self → HistoryEvent };
+    ghost event: { ℕ → Self → HistoryEvent };
 }
 
-// An edit, with the seat that asks for it.
-#[derive(Drop)]
-pub(crate) struct AskedEdit {
-    pub(crate) seat: u64,
-    pub(crate) edit: Edit,
-}
-
-impl Asked for AskedEdit {
+impl Takeable for Edit {
     ghost use Rattle.node_histories.specs.declared.events.HistoryEvent.TheVariants.{Edited};
 
-    ghost event = { λ a. Edited a.seat a.edit };
+    ghost event = { Edited };
 }
 
-// A piece, with the seat that asks for it.
-#[derive(Drop)]
-pub(crate) struct AskedPiece {
-    pub(crate) seat: u64,
-    pub(crate) piece: Piece,
-}
-
-impl Asked for AskedPiece {
+impl Takeable for Piece {
     ghost use Rattle.node_histories.specs.declared.events.HistoryEvent.TheVariants.{Absorbed};
 
-    ghost event = { λ a. Absorbed a.seat a.piece };
+    ghost event = { Absorbed };
+}
+
+// What is asked for, with the seat that asks for it.
+#[derive(Drop)]
+pub(crate) struct Asked<T> {
+    pub(crate) seat: u64,
+    pub(crate) what: T,
 }

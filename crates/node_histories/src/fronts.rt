@@ -5,7 +5,7 @@ ghost use Rattle.node_histories.specs.Histories.{IsLegal, IsNext, takes_in, open
 ghost use Rattle.node_histories.specs.Books.{head_of};
 
 use crate::book::{Add, Asking, Head, History, NodeName, Nothing};
-use crate::events::Asked;
+use crate::events::{Asked, Takeable};
 use std::marker::{Model, PhantomData};
 
 /// A beginning of the history of the node that N names, as far as it was seen. Contracts see it as its events: the
@@ -149,14 +149,14 @@ impl<N: NodeName> Front<N> {
     }
 
     // This front, and what is asked for, which is to come next.
-    pub(crate) fn ask<A: Asked>(&self, asked: &A) -> Turn<N>
+    pub(crate) fn ask<T: Takeable>(&self, asked: &Asked<T>) -> Turn<N>
         ensures seen { result.seen ≡ self.now }
-        ensures ask { result.ask ≡ A.event asked.now }
+        ensures ask { result.ask ≡ T.event asked.now.seat asked.now.what }
     {
         Turn {
             takes: self.takes,
             seen: self.seen.again(),
-            offer: self.seen.plain::<Nothing, A, Add>(asked),
+            offer: self.seen.plain::<Nothing, Asked<T>, Add>(asked),
             of: PhantomData,
         }
     }

@@ -10,7 +10,7 @@ ghost use Rattle.node_histories.specs.Books.{head_of};
 ghost use Rattle.node_histories.specs.Codes.{replica-prop, IsLegal-prop};
 
 use crate::book::{Head, History, NodeName};
-use crate::events::{AskedEdit, AskedPiece};
+use crate::events::{Asked, Takeable};
 use crate::fronts::{Front, Turn};
 use delta_pieces::{Piece, take};
 use edit_sums::{Content, Edit};
@@ -137,36 +137,17 @@ impl Page {
         front.onward(self.takes, &self.seen)
     }
 
-    // What it has seen, with an edit that is to come next, and what the edit writes.
-    fn turn_to_edit<N: NodeName>(&self, seat: u64, edit: Edit) -> (Turn<N>, Place, Content)
+    // What it has seen, with what a seat takes next, which comes back.
+    fn turn_to<N: NodeName, T: Takeable>(&self, seat: u64, what: T) -> (Turn<N>, T)
         requires book { self.now.seen.book ≡ N.book }
         requires opening { opening_of self.now.seen.log ≡ N.opening }
         ensures seen { result.0.seen ≡ self.now.seen.log }
-        ensures ask { result.0.ask ≡ Edited seat edit }
-        ensures place { result.1 ≡ edit.place }
-        ensures content { result.2 ≡ edit.content }
+        ensures ask { result.0.ask ≡ T.event seat what }
+        ensures what { result.1 ≡ what }
     {
-        let asked = AskedEdit { seat, edit };
+        let asked = Asked { seat, what };
         let turn = self.front::<N>().ask(&asked);
-        let Edit {
-            place,
-            version: _,
-            content,
-        } = asked.edit;
-        (turn, place, content)
-    }
-
-    // What it has seen, with a piece that is to come next, and the piece.
-    fn turn_to_piece<N: NodeName>(&self, seat: u64, piece: Piece) -> (Turn<N>, Piece)
-        requires book { self.now.seen.book ≡ N.book }
-        requires opening { opening_of self.now.seen.log ≡ N.opening }
-        ensures seen { result.0.seen ≡ self.now.seen.log }
-        ensures ask { result.0.ask ≡ Absorbed seat piece }
-        ensures piece { result.1 ≡ piece }
-    {
-        let asked = AskedPiece { seat, piece };
-        let turn = self.front::<N>().ask(&asked);
-        (turn, asked.piece)
+        (turn, asked.what)
     }
 
     /// The page with an edit more, under the next version, which then stands in the history too. One copy of the
@@ -199,8 +180,8 @@ impl Page {
             version,
             content,
         };
-        let (turn, place, content) = self.turn_to_edit::<N>(seat, edit);
-        let Ok(version) = replica.put(place, content) else {
+        let (turn, edit) = self.turn_to::<N, Edit>(seat, edit);
+        let Ok(version) = replica.put(edit.place, edit.content) else {
             return Err(AllocError);
         };
         let page = turned_page(turn, head, replica)?;
@@ -225,7 +206,7 @@ impl Page {
         ensures opening { IfOk result (λ r. opening_of r.1.seen.log ≡ N.opening) }
     {
         let mut replica = self.replica.try_clone()?;
-        let (turn, piece) = self.turn_to_piece::<N>(seat, piece);
+        let (turn, piece) = self.turn_to::<N, Piece>(seat, piece);
         let Ok(changed) = take(&mut replica, piece) else {
             return Err(AllocError);
         };

@@ -9,11 +9,11 @@ pub turned_page-requires-clause-kept : goal.turned_page-requires-clause-kept
 turned_page-requires-clause-kept g c =
     let r = c.in_ok-replica.replica in
     let h = c.args.self.now.seen.log in
-    let t = c.turn_to_piece-turn.result.0 in
+    let t = c.turn_to-turn.result.0 in
     let seen : t.seen ≡ h = cc in
     let ask : t.ask ≡ Absorbed c.args.seat c.args.piece = cc in
     let kept : r ≡ replica_of h = c.in_ok-replica.ensures.copy ∙ c.deref.ensures ∙ c.args.self.now.kept in
-    let taken : c.take.new.replica ≡ record r { store = join r.store c.args.piece } = c.in-Ok.ensures.ok ∙ ap (λ (p : EntryMap). record r { store = join r.store p }) c.turn_to_piece-turn.ensures.piece in
+    let taken : c.take.new.replica ≡ record r { store = join r.store c.args.piece } = c.in-Ok.ensures.ok ∙ ap (λ (p : EntryMap). record r { store = join r.store p }) c.turn_to-turn.ensures.what in
     turned_piece t h c.args.seat c.args.piece r c.take.new.replica c.args.self.now.legal seen ask kept taken
 
 pub returns-clause-changed : goal.returns-clause-changed
