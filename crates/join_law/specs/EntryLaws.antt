@@ -4,8 +4,8 @@ use Rattle.std.specs.declared.cmp.Ordering.{Ordering}
 use Rattle.std.specs.declared.cmp.Ordering.TheVariants.{Less, Equal, Greater}
 use Rattle.std.specs.Ordering.{ordering_reverse, is_gt}
 use Rattle.std.specs.Cmp.{IsTotalOrder, then_total, on_total, tied_itself, upto}
-use Rattle.join_law.specs.VersionOrder.{entry_cmp, IsBelow, larger}
-use Rattle.join_law.specs.VersionOrderLaws.{version_cmp_total, version_cmp-IsAntisymmetric, tied_parts}
+use Rattle.join_law.specs.VersionOrder.{entry_cmp, version_cmp, IsBelow, larger}
+use Rattle.join_law.specs.VersionOrderLaws.{both_exact, version_cmp_total, version_cmp-IsAntisymmetric}
 use Rattle.join_law.specs.declared.versions.Entry.{Entry}
 
 -- an order at most both ways is a tie
@@ -80,10 +80,8 @@ module _ {C : Type 0} (R : C → C → Ordering) (o : IsTotalOrder R) where
     -- entries that compare as equal are equal
     pub entry_cmp-IsAntisymmetric : (x y : Entry C) → entry_cmp R x y ≡ Equal → x ≡ y
     entry_cmp-IsAntisymmetric x y e =
-        let h = tied_parts _ _ e in
-        let version = version_cmp-IsAntisymmetric x.version y.version h.0 in
-        let content = exact x.content y.content h.1 in
-        λ i. record { version = version i; content = content i }
+        let same = both_exact version_cmp R version_cmp-IsAntisymmetric exact x.version y.version x.content y.content e in
+        λ i. record { version = same.0 i; content = same.1 i }
 
     pub below_antisym : (x y : Option (Entry C)) → IsBelow R x y → IsBelow R y x → x ≡ y
     below_antisym None None h k = refl

@@ -17,10 +17,13 @@ tied_parts Less b h = cc (h)
 tied_parts Equal b h = (refl, h)
 tied_parts Greater b h = cc (h)
 
+-- two exact orders, one behind the other, are exact in both parts
+pub both_exact : {A B : Type 0} (R : A → A → Ordering) (S : B → B → Ordering) → ((x y : A) → R x y ≡ Equal → x ≡ y) → ((x y : B) → S x y ≡ Equal → x ≡ y)
+    → (a b : A) (c d : B) → ordering_then (R a b) (S c d) ≡ Equal → (a ≡ b) × (c ≡ d)
+both_exact R S first second a b c d h = let p = tied_parts (R a b) (S c d) h in (first a b p.0, second c d p.1)
+
 -- versions that compare as equal are equal
 pub version_cmp-IsAntisymmetric : (v w : Version) → version_cmp v w ≡ Equal → v ≡ w
 version_cmp-IsAntisymmetric v w h =
-    let p = tied_parts (nat_cmp v.counter w.counter) _ h in
-    let counter = nat_cmp-IsAntisymmetric v.counter w.counter p.0 in
-    let writer = nat_cmp-IsAntisymmetric v.writer w.writer p.1 in
-    λ i. record { counter = counter i; writer = writer i }
+    let same = both_exact nat_cmp nat_cmp nat_cmp-IsAntisymmetric nat_cmp-IsAntisymmetric v.counter w.counter v.writer w.writer h in
+    λ i. record { counter = same.0 i; writer = same.1 i }
