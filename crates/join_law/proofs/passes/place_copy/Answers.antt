@@ -1,31 +1,20 @@
-use Rattle.std.proofs.Common.{[], ◌∷◌, ◌++◌, length, sym, subst, ◌∙◌}
+use Rattle.std.proofs.Common.{[], ◌∷◌}
 use Rattle.sorted_pairs.specs.PlaceLaws.{below_append, below_further}
-use Rattle.join_law.specs.Order.{IsBetween, IsJoin}
-use Rattle.join_law.specs.Maps.{IsMap, MapBelow}
-use Rattle.join_law.proofs.MapEdits.{joined_is_map, joined_is_join, between_is_map, between_is_between, inserted_is_map, inserted_is_join}
 use Rattle.join_law.proofs.Outcomes.{on_err}
-use Rattle.join_law.proofs.Behind.{set_behind, get_behind, insert_behind, at_behind, gap_behind}
+use Rattle.join_law.proofs.PassEdits.{joined_is_map, joined_is_join, between_is_map, between_is_between, added_is_map, added_is_join}
 use Rattle.join_law.proofs.passes.place_copy.Goals as goal
 
 pub returns-in_err-join_copy-clause-map : goal.returns-in_err-join_copy-clause-map
-returns-in_err-join_copy-clause-map g c =
-    subst (IsMap g.K.Ord.cmp g.V.Join.below g.V.Join.is_valid) (set_behind c.args.passed.now.items c.args.ahead.now.items (c.index_mut-place.result.now.0, c.join_copy.new.self))
-    (between_is_map g.K.Ord.cmp g.met.K.Ord.total g.V.Join.is_valid g.V.Join.below g.met.V.Join.reflexive g.met.V.Join.transitive c.args.key.now (c.args.passed.now.items ++ c.args.ahead.now.items) (length c.args.passed.now.items) c.requires.map c.index_mut-place.result.now (at_behind g.K.Ord.cmp g.met.K.Ord.total c.args.key.now c.args.passed.now.items c.args.ahead.now.items c.requires.below c.if-is_first.ensures.at) (c.index_mut-place.ensures.value ∙ sym (get_behind c.args.passed.now.items c.args.ahead.now.items c.index_mut-place.result.now)) c.args.value.now c.join_copy.new.self c.join_copy.ensures.valid c.in_err-join_copy.ensures.refused)
+returns-in_err-join_copy-clause-map g c = between_is_map g.K.Ord.cmp g.met.K.Ord.total g.V.Join.is_valid g.V.Join.below g.met.V.Join.reflexive g.met.V.Join.transitive c.args.key.now c.args.passed.now.items c.args.ahead.now.items c.requires.map c.requires.below _ c.if-is_first.ensures.at c.index_mut-place.ensures.value c.args.value.now c.join_copy.new.self c.join_copy.ensures.valid c.in_err-join_copy.ensures.refused
 
 pub returns-in_err-join_copy-clause-refused : goal.returns-in_err-join_copy-clause-refused
-returns-in_err-join_copy-clause-refused g c =
-    on_err _ (subst (IsBetween (MapBelow g.K.Ord.cmp g.V.Join.below) (c.args.passed.now.items ++ c.args.ahead.now.items) ((c.args.key.now, c.args.value.now) ∷ [])) (set_behind c.args.passed.now.items c.args.ahead.now.items (c.index_mut-place.result.now.0, c.join_copy.new.self))
-    (between_is_between g.K.Ord.cmp g.met.K.Ord.total g.V.Join.is_valid g.V.Join.below g.met.V.Join.reflexive g.met.V.Join.transitive c.args.key.now (c.args.passed.now.items ++ c.args.ahead.now.items) (length c.args.passed.now.items) c.requires.map c.index_mut-place.result.now (at_behind g.K.Ord.cmp g.met.K.Ord.total c.args.key.now c.args.passed.now.items c.args.ahead.now.items c.requires.below c.if-is_first.ensures.at) (c.index_mut-place.ensures.value ∙ sym (get_behind c.args.passed.now.items c.args.ahead.now.items c.index_mut-place.result.now)) c.args.value.now c.join_copy.new.self c.in_err-join_copy.ensures.refused))
+returns-in_err-join_copy-clause-refused g c = on_err _ (between_is_between g.K.Ord.cmp g.met.K.Ord.total g.V.Join.is_valid g.V.Join.below g.met.V.Join.reflexive g.met.V.Join.transitive c.args.key.now c.args.passed.now.items c.args.ahead.now.items c.requires.map c.requires.below _ c.if-is_first.ensures.at c.index_mut-place.ensures.value c.args.value.now c.join_copy.new.self c.in_err-join_copy.ensures.refused)
 
 pub returns-then-is_first-clause-map : goal.returns-then-is_first-clause-map
-returns-then-is_first-clause-map g c =
-    subst (IsMap g.K.Ord.cmp g.V.Join.below g.V.Join.is_valid) (set_behind c.args.passed.now.items c.args.ahead.now.items (c.index_mut-place.result.now.0, c.join_copy.new.self))
-    (joined_is_map g.K.Ord.cmp g.met.K.Ord.total g.V.Join.is_valid g.V.Join.below g.met.V.Join.reflexive g.met.V.Join.transitive c.args.key.now (c.args.passed.now.items ++ c.args.ahead.now.items) (length c.args.passed.now.items) c.requires.map c.index_mut-place.result.now (at_behind g.K.Ord.cmp g.met.K.Ord.total c.args.key.now c.args.passed.now.items c.args.ahead.now.items c.requires.below c.if-is_first.ensures.at) (c.index_mut-place.ensures.value ∙ sym (get_behind c.args.passed.now.items c.args.ahead.now.items c.index_mut-place.result.now)) c.args.value.now c.join_copy.new.self c.join_copy.ensures.valid c.in_ok-join_copy.ensures.ok)
+returns-then-is_first-clause-map g c = joined_is_map g.K.Ord.cmp g.met.K.Ord.total g.V.Join.is_valid g.V.Join.below g.met.V.Join.reflexive g.met.V.Join.transitive c.args.key.now c.args.passed.now.items c.args.ahead.now.items c.requires.map c.requires.below _ c.if-is_first.ensures.at c.index_mut-place.ensures.value c.args.value.now c.join_copy.new.self c.join_copy.ensures.valid c.in_ok-join_copy.ensures.ok
 
 pub returns-then-is_first-clause-ok : goal.returns-then-is_first-clause-ok
-returns-then-is_first-clause-ok g c =
-    subst (IsJoin (MapBelow g.K.Ord.cmp g.V.Join.below) (c.args.passed.now.items ++ c.args.ahead.now.items) ((c.args.key.now, c.args.value.now) ∷ [])) (set_behind c.args.passed.now.items c.args.ahead.now.items (c.index_mut-place.result.now.0, c.join_copy.new.self))
-    (joined_is_join g.K.Ord.cmp g.met.K.Ord.total g.V.Join.is_valid g.V.Join.below g.met.V.Join.reflexive g.met.V.Join.transitive c.args.key.now (c.args.passed.now.items ++ c.args.ahead.now.items) (length c.args.passed.now.items) c.requires.map c.index_mut-place.result.now (at_behind g.K.Ord.cmp g.met.K.Ord.total c.args.key.now c.args.passed.now.items c.args.ahead.now.items c.requires.below c.if-is_first.ensures.at) (c.index_mut-place.ensures.value ∙ sym (get_behind c.args.passed.now.items c.args.ahead.now.items c.index_mut-place.result.now)) c.args.value.now c.join_copy.new.self c.in_ok-join_copy.ensures.ok)
+returns-then-is_first-clause-ok g c = joined_is_join g.K.Ord.cmp g.met.K.Ord.total g.V.Join.is_valid g.V.Join.below g.met.V.Join.reflexive g.met.V.Join.transitive c.args.key.now c.args.passed.now.items c.args.ahead.now.items c.requires.map c.requires.below _ c.if-is_first.ensures.at c.index_mut-place.ensures.value c.args.value.now c.join_copy.new.self c.in_ok-join_copy.ensures.ok
 
 pub returns-in_err-join_copy-clause-below : goal.returns-in_err-join_copy-clause-below
 returns-in_err-join_copy-clause-below g c = λ next less. below_further g.K.Ord.cmp g.met.K.Ord.total c.args.key.now next less c.args.passed.now.items c.requires.below
@@ -40,14 +29,10 @@ pub returns-in_err-try_clone-clause-below : goal.returns-in_err-try_clone-clause
 returns-in_err-try_clone-clause-below g c = λ next less. below_further g.K.Ord.cmp g.met.K.Ord.total c.args.key.now next less c.args.passed.now.items c.requires.below
 
 pub returns-clause-map : goal.returns-clause-map
-returns-clause-map g c =
-    rw (c.in-Ok.ensures.items, c.in_ok-copy.ensures.copy, c.in_ok-try_clone.ensures.copy)
-    (subst (IsMap g.K.Ord.cmp g.V.Join.below g.V.Join.is_valid) (insert_behind c.args.passed.now.items c.args.ahead.now.items (c.args.key.now, c.args.value.now)) (inserted_is_map g.K.Ord.cmp g.met.K.Ord.total g.V.Join.is_valid g.V.Join.below g.met.V.Join.reflexive g.met.V.Join.transitive c.args.key.now (c.args.passed.now.items ++ c.args.ahead.now.items) (length c.args.passed.now.items) c.requires.map c.args.value.now c.requires.held.not_least (gap_behind g.K.Ord.cmp g.met.K.Ord.total c.args.key.now c.args.passed.now.items c.args.ahead.now.items c.requires.below c.if-is_first.ensures.gap) c.requires.held.lawful))
+returns-clause-map g c = rw (c.in-Ok.ensures.items, c.in_ok-copy.ensures.copy, c.in_ok-try_clone.ensures.copy) (added_is_map g.K.Ord.cmp g.met.K.Ord.total g.V.Join.is_valid g.V.Join.below g.met.V.Join.reflexive g.met.V.Join.transitive c.args.key.now c.args.passed.now.items c.args.ahead.now.items c.requires.map c.requires.below c.args.value.now c.requires.held.not_least c.if-is_first.ensures.gap c.requires.held.lawful)
 
 pub returns-clause-ok : goal.returns-clause-ok
-returns-clause-ok g c =
-    rw (c.in-Ok.ensures.items, c.in_ok-copy.ensures.copy, c.in_ok-try_clone.ensures.copy)
-    (subst (IsJoin (MapBelow g.K.Ord.cmp g.V.Join.below) (c.args.passed.now.items ++ c.args.ahead.now.items) ((c.args.key.now, c.args.value.now) ∷ [])) (insert_behind c.args.passed.now.items c.args.ahead.now.items (c.args.key.now, c.args.value.now)) (inserted_is_join g.K.Ord.cmp g.met.K.Ord.total g.V.Join.is_valid g.V.Join.below g.met.V.Join.reflexive g.met.V.Join.transitive c.args.key.now (c.args.passed.now.items ++ c.args.ahead.now.items) (length c.args.passed.now.items) c.requires.map c.args.value.now c.requires.held.not_least (gap_behind g.K.Ord.cmp g.met.K.Ord.total c.args.key.now c.args.passed.now.items c.args.ahead.now.items c.requires.below c.if-is_first.ensures.gap)))
+returns-clause-ok g c = rw (c.in-Ok.ensures.items, c.in_ok-copy.ensures.copy, c.in_ok-try_clone.ensures.copy) (added_is_join g.K.Ord.cmp g.met.K.Ord.total g.V.Join.is_valid g.V.Join.below g.met.V.Join.reflexive g.met.V.Join.transitive c.args.key.now c.args.passed.now.items c.args.ahead.now.items c.requires.map c.requires.below c.args.value.now c.requires.held.not_least c.if-is_first.ensures.gap)
 
 pub returns-clause-below : goal.returns-clause-below
 returns-clause-below g c = λ next less.

@@ -1,30 +1,19 @@
-use Rattle.std.proofs.Common.{[], ◌∷◌, ◌++◌, length, sym, subst, ◌∙◌}
+use Rattle.std.proofs.Common.{[], ◌∷◌}
 use Rattle.sorted_pairs.specs.PlaceLaws.{below_append, below_further}
-use Rattle.join_law.specs.Order.{IsJoin, IsPartialJoin}
-use Rattle.join_law.specs.Maps.{IsMap, MapBelow}
-use Rattle.join_law.proofs.MapEdits.{joined_is_map, joined_is_join, partly_is_map, partly_is_join, inserted_is_map, inserted_is_join}
-use Rattle.join_law.proofs.Behind.{set_behind, get_behind, insert_behind, at_behind, gap_behind}
+use Rattle.join_law.proofs.PassEdits.{joined_is_map, joined_is_join, partly_is_map, partly_is_join, added_is_map, added_is_join}
 use Rattle.join_law.proofs.passes.place_pair.Goals as goal
 
 pub returns-in-Err-clause-map : goal.returns-in-Err-clause-map
-returns-in-Err-clause-map g c =
-    subst (IsMap g.K.Ord.cmp g.V.Join.below g.V.Join.is_valid) (set_behind c.args.passed.now.items c.args.ahead.now.items (c.index_mut-place.result.now.0, c.join_from.new.self))
-    (partly_is_map g.K.Ord.cmp g.met.K.Ord.total g.V.Join.is_valid g.V.Join.below g.met.V.Join.reflexive g.met.V.Join.transitive c.args.key (c.args.passed.now.items ++ c.args.ahead.now.items) (length c.args.passed.now.items) c.requires.map c.index_mut-place.result.now (at_behind g.K.Ord.cmp g.met.K.Ord.total c.args.key c.args.passed.now.items c.args.ahead.now.items c.requires.below c.if-is_first.ensures.at) (c.index_mut-place.ensures.value ∙ sym (get_behind c.args.passed.now.items c.args.ahead.now.items c.index_mut-place.result.now)) c.args.value c.join_from.new.self c.in-Err.field-0.rest c.join_from.ensures.valid c.in-Err.ensures.refused)
+returns-in-Err-clause-map g c = partly_is_map g.K.Ord.cmp g.met.K.Ord.total g.V.Join.is_valid g.V.Join.below g.met.V.Join.reflexive g.met.V.Join.transitive c.args.key c.args.passed.now.items c.args.ahead.now.items c.requires.map c.requires.below _ c.if-is_first.ensures.at c.index_mut-place.ensures.value c.args.value c.join_from.new.self c.in-Err.field-0.rest c.join_from.ensures.valid c.in-Err.ensures.refused
 
 pub returns-in-Err-clause-refused : goal.returns-in-Err-clause-refused
-returns-in-Err-clause-refused g c =
-    (subst (λ now. IsPartialJoin (MapBelow g.K.Ord.cmp g.V.Join.below) (c.args.passed.now.items ++ c.args.ahead.now.items) ((c.args.key, c.args.value) ∷ []) now ((c.args.key, c.in-Err.field-0.rest) ∷ [])) (set_behind c.args.passed.now.items c.args.ahead.now.items (c.index_mut-place.result.now.0, c.join_from.new.self))
-    (partly_is_join g.K.Ord.cmp g.met.K.Ord.total g.V.Join.is_valid g.V.Join.below g.met.V.Join.reflexive g.met.V.Join.transitive c.args.key (c.args.passed.now.items ++ c.args.ahead.now.items) (length c.args.passed.now.items) c.requires.map c.index_mut-place.result.now (at_behind g.K.Ord.cmp g.met.K.Ord.total c.args.key c.args.passed.now.items c.args.ahead.now.items c.requires.below c.if-is_first.ensures.at) (c.index_mut-place.ensures.value ∙ sym (get_behind c.args.passed.now.items c.args.ahead.now.items c.index_mut-place.result.now)) c.args.value c.join_from.new.self c.in-Err.field-0.rest c.in-Err.ensures.refused))
+returns-in-Err-clause-refused g c = partly_is_join g.K.Ord.cmp g.met.K.Ord.total g.V.Join.is_valid g.V.Join.below g.met.V.Join.reflexive g.met.V.Join.transitive c.args.key c.args.passed.now.items c.args.ahead.now.items c.requires.map c.requires.below _ c.if-is_first.ensures.at c.index_mut-place.ensures.value c.args.value c.join_from.new.self c.in-Err.field-0.rest c.in-Err.ensures.refused
 
 pub returns-in-Ok-clause-map : goal.returns-in-Ok-clause-map
-returns-in-Ok-clause-map g c =
-    subst (IsMap g.K.Ord.cmp g.V.Join.below g.V.Join.is_valid) (set_behind c.args.passed.now.items c.args.ahead.now.items (c.index_mut-place.result.now.0, c.join_from.new.self))
-    (joined_is_map g.K.Ord.cmp g.met.K.Ord.total g.V.Join.is_valid g.V.Join.below g.met.V.Join.reflexive g.met.V.Join.transitive c.args.key (c.args.passed.now.items ++ c.args.ahead.now.items) (length c.args.passed.now.items) c.requires.map c.index_mut-place.result.now (at_behind g.K.Ord.cmp g.met.K.Ord.total c.args.key c.args.passed.now.items c.args.ahead.now.items c.requires.below c.if-is_first.ensures.at) (c.index_mut-place.ensures.value ∙ sym (get_behind c.args.passed.now.items c.args.ahead.now.items c.index_mut-place.result.now)) c.args.value c.join_from.new.self c.join_from.ensures.valid c.in-Ok.ensures.ok)
+returns-in-Ok-clause-map g c = joined_is_map g.K.Ord.cmp g.met.K.Ord.total g.V.Join.is_valid g.V.Join.below g.met.V.Join.reflexive g.met.V.Join.transitive c.args.key c.args.passed.now.items c.args.ahead.now.items c.requires.map c.requires.below _ c.if-is_first.ensures.at c.index_mut-place.ensures.value c.args.value c.join_from.new.self c.join_from.ensures.valid c.in-Ok.ensures.ok
 
 pub returns-in-Ok-clause-ok : goal.returns-in-Ok-clause-ok
-returns-in-Ok-clause-ok g c =
-    subst (IsJoin (MapBelow g.K.Ord.cmp g.V.Join.below) (c.args.passed.now.items ++ c.args.ahead.now.items) ((c.args.key, c.args.value) ∷ [])) (set_behind c.args.passed.now.items c.args.ahead.now.items (c.index_mut-place.result.now.0, c.join_from.new.self))
-    (joined_is_join g.K.Ord.cmp g.met.K.Ord.total g.V.Join.is_valid g.V.Join.below g.met.V.Join.reflexive g.met.V.Join.transitive c.args.key (c.args.passed.now.items ++ c.args.ahead.now.items) (length c.args.passed.now.items) c.requires.map c.index_mut-place.result.now (at_behind g.K.Ord.cmp g.met.K.Ord.total c.args.key c.args.passed.now.items c.args.ahead.now.items c.requires.below c.if-is_first.ensures.at) (c.index_mut-place.ensures.value ∙ sym (get_behind c.args.passed.now.items c.args.ahead.now.items c.index_mut-place.result.now)) c.args.value c.join_from.new.self c.in-Ok.ensures.ok)
+returns-in-Ok-clause-ok g c = joined_is_join g.K.Ord.cmp g.met.K.Ord.total g.V.Join.is_valid g.V.Join.below g.met.V.Join.reflexive g.met.V.Join.transitive c.args.key c.args.passed.now.items c.args.ahead.now.items c.requires.map c.requires.below _ c.if-is_first.ensures.at c.index_mut-place.ensures.value c.args.value c.join_from.new.self c.in-Ok.ensures.ok
 
 pub returns-in-Err-clause-below : goal.returns-in-Err-clause-below
 returns-in-Err-clause-below g c = λ next less. below_further g.K.Ord.cmp g.met.K.Ord.total c.args.key next less c.args.passed.now.items c.requires.below
@@ -33,14 +22,10 @@ pub returns-in-Ok-clause-below : goal.returns-in-Ok-clause-below
 returns-in-Ok-clause-below g c = λ next less. below_further g.K.Ord.cmp g.met.K.Ord.total c.args.key next less c.args.passed.now.items c.requires.below
 
 pub returns-clause-map : goal.returns-clause-map
-returns-clause-map g c =
-    rw c.in-Ok-push.ensures.items
-    (subst (IsMap g.K.Ord.cmp g.V.Join.below g.V.Join.is_valid) (insert_behind c.args.passed.now.items c.args.ahead.now.items (c.args.key, c.args.value)) (inserted_is_map g.K.Ord.cmp g.met.K.Ord.total g.V.Join.is_valid g.V.Join.below g.met.V.Join.reflexive g.met.V.Join.transitive c.args.key (c.args.passed.now.items ++ c.args.ahead.now.items) (length c.args.passed.now.items) c.requires.map c.args.value c.requires.held.not_least (gap_behind g.K.Ord.cmp g.met.K.Ord.total c.args.key c.args.passed.now.items c.args.ahead.now.items c.requires.below c.if-is_first.ensures.gap) c.requires.held.lawful))
+returns-clause-map g c = rw c.in-Ok-push.ensures.items (added_is_map g.K.Ord.cmp g.met.K.Ord.total g.V.Join.is_valid g.V.Join.below g.met.V.Join.reflexive g.met.V.Join.transitive c.args.key c.args.passed.now.items c.args.ahead.now.items c.requires.map c.requires.below c.args.value c.requires.held.not_least c.if-is_first.ensures.gap c.requires.held.lawful)
 
 pub returns-clause-ok : goal.returns-clause-ok
-returns-clause-ok g c =
-    rw c.in-Ok-push.ensures.items
-    (subst (IsJoin (MapBelow g.K.Ord.cmp g.V.Join.below) (c.args.passed.now.items ++ c.args.ahead.now.items) ((c.args.key, c.args.value) ∷ [])) (insert_behind c.args.passed.now.items c.args.ahead.now.items (c.args.key, c.args.value)) (inserted_is_join g.K.Ord.cmp g.met.K.Ord.total g.V.Join.is_valid g.V.Join.below g.met.V.Join.reflexive g.met.V.Join.transitive c.args.key (c.args.passed.now.items ++ c.args.ahead.now.items) (length c.args.passed.now.items) c.requires.map c.args.value c.requires.held.not_least (gap_behind g.K.Ord.cmp g.met.K.Ord.total c.args.key c.args.passed.now.items c.args.ahead.now.items c.requires.below c.if-is_first.ensures.gap)))
+returns-clause-ok g c = rw c.in-Ok-push.ensures.items (added_is_join g.K.Ord.cmp g.met.K.Ord.total g.V.Join.is_valid g.V.Join.below g.met.V.Join.reflexive g.met.V.Join.transitive c.args.key c.args.passed.now.items c.args.ahead.now.items c.requires.map c.requires.below c.args.value c.requires.held.not_least c.if-is_first.ensures.gap)
 
 pub returns-clause-below : goal.returns-clause-below
 returns-clause-below g c = λ next less.
