@@ -11,7 +11,7 @@ use crate::faults::CrowdFault;
 use crate::threads::work_side_by_side;
 use node_histories::NodeName;
 use replica_store::Replica;
-use shared_node::{Blank, CloseFault, Closed, MOST_SEATS, Node, Seat};
+use shared_node::{Blank, Closed, MOST_SEATS, Node, Seat};
 use std::alloc::{AllocError, Global};
 use std::marker::Brand;
 use std::sync::Wait;
@@ -47,12 +47,7 @@ fn close<N: NodeName, R: Wait>(
     match node.close(rt, seats) {
         Ok(closed) => Ok(closed),
         Err(fault) => {
-            let CloseFault {
-                node,
-                seats: _,
-                cause: _,
-            } = fault;
-            node.end(rt);
+            fault.end(rt);
             Err(AllocError)
         }
     }

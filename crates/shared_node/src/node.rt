@@ -40,6 +40,18 @@ pub struct CloseFault<N: NodeName> {
     pub cause: CloseCause,
 }
 
+impl<N: NodeName> CloseFault<N> {
+    /// Ends the node that wasn't closed, and lets its seats go. A take that is pending is lost. It may wait.
+    pub fn end<R: Wait>(self, rt: &R) {
+        let CloseFault {
+            node,
+            seats: _seats,
+            cause: _,
+        } = self;
+        node.end(rt);
+    }
+}
+
 // The node of a keeper.
 fn node_of<N: NodeName>(keeper: Keeper<N>) -> Node<N> {
     Node {

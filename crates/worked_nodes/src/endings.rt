@@ -22,16 +22,6 @@ fn tell_closed<N: NodeName>(bench: &mut Bench<N>, closed: &Closed) -> Result<(),
     append_store(&mut bench.out, closed.takes, closed.replica.store())
 }
 
-/// Ends a node that wasn't closed.
-pub fn end_refused<N: NodeName, R: Wait>(rt: &R, fault: CloseFault<N>) {
-    let CloseFault {
-        node,
-        seats: _seats,
-        cause: _,
-    } = fault;
-    node.end(rt);
-}
-
 // Closes a node with these seats, and tells how that went. Where it was refused, what came back.
 fn close_told<N: NodeName, R: Wait>(
     rt: &R,
@@ -46,13 +36,11 @@ fn close_told<N: NodeName, R: Wait>(
         }
         Err(fault) => fault,
     };
-    match bench.tell_value(&fault.cause) {
-        Ok(()) => Ok(Some(fault)),
-        Err(untold) => {
-            end_refused(rt, fault);
-            Err(untold)
-        }
+    if let Err(untold) = bench.tell_value(&fault.cause) {
+        fault.end(rt);
+        return Err(untold);
     }
+    Ok(Some(fault))
 }
 
 // Closes a node with these seats; where memory is refused, again with what comes back.
@@ -70,7 +58,7 @@ fn close_with<N: NodeName, R: Wait>(
         return Ok(());
     }
     if let Some(fault) = close_told(rt, node, bench, seats)? {
-        end_refused(rt, fault);
+        fault.end(rt);
     }
     Ok(())
 }

@@ -4,6 +4,7 @@ use crate::beside::beside;
 use crate::edits::one_piece;
 use crate::serving::work_inbox;
 use node_histories::NodeName;
+use replica_store::{Content, Place};
 use shared_node::{Node, NodeFault, Seat, Told};
 use std::sync::Wait;
 use std::thread::Threads;
@@ -20,7 +21,7 @@ pub fn step<N: NodeName + Send + Sync, R: Threads + Wait + Clock + Sync>(
 ) -> Result<(), LineFault> {
     match_word!(word;
         b"seat" => take_seat(rt, node, bench),
-        b"edit" => edit(rt, node, bench, words),
+        b"edit" => edit(rt, node, bench, words.index()?, words.place()?, words.file()?),
         b"absorb" => absorb(rt, node, bench, words),
         b"learn" => learn(bench, words),
         b"view" => view(bench, words),
@@ -66,9 +67,10 @@ fn edit<N: NodeName, R: Wait>(
     rt: &R,
     node: &Node<N>,
     bench: &mut Bench<N>,
-    words: &mut Words,
+    at: usize,
+    place: Place,
+    content: Content,
 ) -> Result<(), LineFault> {
-    let (at, place, content) = (words.index()?, words.place()?, words.file()?);
     let Some(seat) = bench.seat(at) else {
         return bench.tell("no seat");
     };

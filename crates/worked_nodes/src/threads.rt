@@ -1,7 +1,6 @@
 //! Nodes at which threads work side by side.
 ghost use Rattle.std.specs.Prelude.{◌≡◌};
 
-use crate::endings::end_refused;
 use edit_sums::Content;
 use node_histories::NodeName;
 use replica_store::Place;
@@ -197,7 +196,7 @@ fn close_with<N: NodeName, R: Wait>(
     match node.close(rt, seats) {
         Ok(closed) => append_closed(out, &closed, are_fine),
         Err(fault) => {
-            end_refused(rt, fault);
+            fault.end(rt);
             Err(LineFault::Memory)
         }
     }
