@@ -3,7 +3,7 @@ ghost use Rattle.std.specs.Prelude.{◌≡◌, ◌≤◌, ◌⊎◌, length, Err
 ghost use Rattle.std.specs.List.{list_all};
 ghost use Rattle.edit_sums.specs.Limits.{is_target, is_graphic};
 
-use plain_values::{Key, SharedBytes, TryClone};
+use plain_values::{Key, SharedBytes, TryClone, same};
 use std::alloc::AllocError;
 use std::cmp::Ordering;
 use std::marker::Model;
@@ -231,7 +231,7 @@ impl PartialEq for Content {
     ghost laws = { partial_equiv_from_equiv (eq_by_cmp_equiv content_cmp_total) };
 
     fn eq(&self, other: &Self) -> bool {
-        self.cmp(other).is_eq()
+        self.sort() == other.sort() && same(self.bytes(), other.bytes())
     }
 }
 

@@ -28,13 +28,13 @@ use Rattle.path_maps.proofs.Rises.{found_entry}
 abbrev Placed : Type 0
 Placed = PlaceParts × Entry
 
-abbrev IsAbove : {X : Type 0} → PlaceParts → List (PlaceParts × X) → Type 0
+abbrev pub IsAbove : {X : Type 0} → PlaceParts → List (PlaceParts × X) → Type 0
 IsAbove k es = IsTrue (below_all place_cmp k es)
 
-abbrev AreSorted : {X : Type 0} → List (PlaceParts × X) → Type 0
+abbrev pub AreSorted : {X : Type 0} → List (PlaceParts × X) → Type 0
 AreSorted es = IsTrue (is_sorted place_cmp es)
 
-both : (a b : Bool) → IsTrue a → IsTrue b → IsTrue (a && b)
+pub both : (a b : Bool) → IsTrue a → IsTrue b → IsTrue (a && b)
 both true b p q = q
 both false b p q = cc (p)
 
@@ -103,12 +103,12 @@ sorted_together (e ∷ es) fs s t = let p = and_parts _ _ s in sorted_beside e e
 
 -- ---- at each place stands what both show
 
-abbrev or_none : Option Contents → Contents
+abbrev pub or_none : Option Contents → Contents
 or_none None = (None, None)
 or_none (Some c) = c
 
 module _ (q : PlaceParts) where
-  abbrev contents_in : List Shown → Contents
+  abbrev pub contents_in : List Shown → Contents
   contents_in ss = or_none (find place_cmp q ss)
 
   abbrev visible_in : List Placed → Option Content
@@ -175,7 +175,7 @@ module _ (q : PlaceParts) where
 
 -- ---- where that differs
 
-abbrev unlike : Contents → Bool
+abbrev pub unlike : Contents → Bool
 unlike c = not (same_contents c.0 c.1)
 
 -- with one more in front
@@ -203,7 +203,7 @@ there q (s ∷ ss) h = by (eq_by_cmp place_cmp q s.0) refl h (there q ss)
     by true t h more = first_there q s ss (differ s) refl h (sym (tied q s.0 t))
     by false t h more = further q s ss (differ s) (more h)
 
-back : (q : PlaceParts) (ss : List Shown) → AreSorted ss → IsAmong q (differing ss) → unlike (contents_in q ss) ≡ true
+pub back : (q : PlaceParts) (ss : List Shown) → AreSorted ss → IsAmong q (differing ss) → unlike (contents_in q ss) ≡ true
 back q [] s a = absurd a
 back q (s ∷ ss) sorted a = by (differ s) refl a (back q ss p.1)
   where
@@ -245,9 +245,37 @@ rises (s ∷ ss) h =
 
 -- ---- of two stores
 
+-- a list in place order that has at each place what both show
+module _ (new old : EntryMap) (ss : List Shown) (sorted : AreSorted ss) (each : (q : PlaceParts) → contents_in q ss ≡ (visible_at new q, visible_at old q)) where
+  pub list_rises : IsStrictlySortedBy place_cmp (differing ss)
+  list_rises = rises ss sorted
+
+  pub list_exact : (q : PlaceParts) → IsAmong q (differing ss) ↔ (visible_at new q ≢ visible_at old q)
+  list_exact q = (forward, backward)
+    where
+      forward : IsAmong q (differing ss) → visible_at new q ≢ visible_at old q
+      forward a e =
+          let differs = sym (ap unlike (each q)) ∙ back q ss sorted a in
+          let same = ap (λ y. not (same_contents (visible_at new q) y)) (sym e) ∙ ap not (same_contents-itself (visible_at new q)) in
+          let wrong : false ≡ true = sym same ∙ differs in cc (wrong)
+
+      by : (b : Bool) → same_contents (visible_at new q) (visible_at old q) ≡ b → visible_at new q ≢ visible_at old q → IsAmong q (differing ss)
+      by true h n = absurd (n (same_contents-true _ _ h))
+      by false h n = there q ss (ap unlike (each q) ∙ ap not h)
+
+      backward : visible_at new q ≢ visible_at old q → IsAmong q (differing ss)
+      backward n = by _ refl n
+
+pub none_among : (ps : List PlaceParts) → ((q : PlaceParts) → IsAmong q ps → ⊥) → ps ≡ []
+none_among [] none = refl
+none_among (p ∷ ps) none = absurd (none p (inl refl))
+
 module _ (new old : EntryMap) where
+  abbrev both_shown : List Shown
+  both_shown = together (finmap.entries new) (finmap.entries old)
+
   abbrev pub changed_in : List PlaceParts
-  changed_in = differing (together (finmap.entries new) (finmap.entries old))
+  changed_in = differing both_shown
 
   new_sorted : AreSorted (finmap.entries new)
   new_sorted = from_T _ (finmap.entries_sorted new)
@@ -255,37 +283,19 @@ module _ (new old : EntryMap) where
   old_sorted : AreSorted (finmap.entries old)
   old_sorted = from_T _ (finmap.entries_sorted old)
 
-  all_sorted : AreSorted (together (finmap.entries new) (finmap.entries old))
+  all_sorted : AreSorted both_shown
   all_sorted = sorted_together (finmap.entries new) (finmap.entries old) new_sorted old_sorted
 
-  pub changed_rises : IsStrictlySortedBy place_cmp changed_in
-  changed_rises = rises (together (finmap.entries new) (finmap.entries old)) all_sorted
-
-  contents_there : (q : PlaceParts)
-      → contents_in q (together (finmap.entries new) (finmap.entries old)) ≡ (visible_at new q, visible_at old q)
+  contents_there : (q : PlaceParts) → contents_in q both_shown ≡ (visible_at new q, visible_at old q)
   contents_there q =
       shown_together q (finmap.entries new) (finmap.entries old) new_sorted old_sorted
       ∙ (λ i. (option_and_then shown (sym (found_entry new q) i), option_and_then shown (sym (found_entry old q) i)))
 
+  pub changed_rises : IsStrictlySortedBy place_cmp changed_in
+  changed_rises = list_rises new old both_shown all_sorted contents_there
+
   pub changed_exact : (q : PlaceParts) → IsAmong q changed_in ↔ (visible_at new q ≢ visible_at old q)
-  changed_exact q = (forward, backward)
-    where
-      forward : IsAmong q changed_in → visible_at new q ≢ visible_at old q
-      forward a e =
-          let differs = sym (ap unlike (contents_there q)) ∙ back q (together (finmap.entries new) (finmap.entries old)) all_sorted a in
-          let same = ap (λ y. not (same_contents (visible_at new q) y)) (sym e) ∙ ap not (same_contents-itself (visible_at new q)) in
-          let wrong : false ≡ true = sym same ∙ differs in cc (wrong)
-
-      by : (b : Bool) → same_contents (visible_at new q) (visible_at old q) ≡ b → visible_at new q ≢ visible_at old q → IsAmong q changed_in
-      by true h n = absurd (n (same_contents-true _ _ h))
-      by false h n = there q (together (finmap.entries new) (finmap.entries old)) (ap unlike (contents_there q) ∙ ap not h)
-
-      backward : visible_at new q ≢ visible_at old q → IsAmong q changed_in
-      backward n = by _ refl n
+  changed_exact = list_exact new old both_shown all_sorted contents_there
 
   pub nothing_changed : ((q : PlaceParts) → visible_at new q ≡ visible_at old q) → changed_in ≡ []
-  nothing_changed same = empty changed_in (λ q a. (changed_exact q).0 a (same q))
-    where
-      empty : (ps : List PlaceParts) → ((q : PlaceParts) → IsAmong q ps → ⊥) → ps ≡ []
-      empty [] none = refl
-      empty (p ∷ ps) none = absurd (none p (inl refl))
+  nothing_changed same = none_among changed_in (λ q a. (changed_exact q).0 a (same q))

@@ -13,3 +13,4 @@ pub mod Singles
 pub mod Removals
 pub mod Scopes
 pub mod Differing
+pub mod DifferingBeside

@@ -230,3 +230,10 @@ module _ (n : ℕ) (b : Compared PlaceParts) (rest : List (Compared PlaceParts))
 
 pub rise_none : (x : Option Entry) (y : Entry) → x ≡ None → is_rise x y ≡ true
 rise_none x y h = ap (λ (z : Option Entry). is_rise z y) h
+
+-- no more are added than there are
+pub additions_within : (s t : EntryMap) → additions s (finmap.entries t) ≤ finmap.len t
+additions_within s t =
+    let most = count_by-le-length (λ (x : PlaceParts × Entry). not (is_some (finmap.get s x.0))) (finmap.entries t) in
+    let len = finmap.len-entries t in
+    omega (arith, most, len)

@@ -1,13 +1,14 @@
 -- The places of two stores in one list, each with what both show there, and those where that differs.
 -- Source: this project's own.
 use Rattle.std.specs.Prelude.{Bool, not, List, [], ◌∷◌, Option, Some, None, map, filter}
-use Rattle.std.specs.Option.{option_eq}
+use Rattle.std.specs.Option.{option_and_then, option_eq}
 use Rattle.std.specs.Ordering.{eq_by_cmp, match_ordering}
 use Rattle.load_places.specs.Places.{PlaceParts, place_cmp}
 use Rattle.edit_sums.specs.declared.contents.Content.{Content}
 use Rattle.edit_sums.specs.Contents.{content_cmp}
 use Rattle.edit_sums.specs.Entries.{Entry}
 use Rattle.edit_sums.specs.Sums as sums
+use Rattle.path_maps.specs.Beside.{Compared}
 
 -- what a store shows at a place, and what an older one does
 abbrev pub Contents : Type 0
@@ -45,6 +46,14 @@ differ s = not (option_eq (eq_by_cmp content_cmp) s.1.0 s.1.1)
 -- the places where it does
 abbrev pub differing : List Shown → List PlaceParts
 differing ss = map (λ s. s.0) (filter differ ss)
+
+-- of an entry of one store, beside what an older one holds at its place
+abbrev pub shown_beside : Compared PlaceParts → Shown
+shown_beside c = (c.0.0, (sums.shown c.0.1, option_and_then sums.shown c.1))
+
+-- the places of such entries where what is shown differs
+abbrev pub differing_beside : List (Compared PlaceParts) → List PlaceParts
+differing_beside cs = differing (map shown_beside cs)
 
 -- a list by its first, and what is behind that
 abbrev pub from_first : {A : Type 0} → Option A → List A → List A

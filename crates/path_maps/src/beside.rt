@@ -39,7 +39,7 @@ impl<'a, P: Drop> Model for Both<'a, P> {
 // The names that are left of a folder, and those of the same folder of another store.
 #[derive(Drop)]
 struct NamesBeside<'a> {
-    rank: u8,
+    rank: usize,
     folder: &'a Bytes,
     names: &'a [(Bytes, Versioned<Content>)],
     others: &'a [(Bytes, Versioned<Content>)],
@@ -89,7 +89,7 @@ fn entry_of<'a>(held: Option<&'a Versioned<Content>>) -> Option<&'a Entry>
 // The folders that are left of a rank, and those of the same rank of another store.
 #[derive(Drop)]
 struct FoldersBeside<'a> {
-    rank: u8,
+    rank: usize,
     folders: &'a [(Bytes, NameMap)],
     others: &'a [(Bytes, NameMap)],
 }
@@ -166,7 +166,7 @@ impl<'a> Cursor<FoldersBeside<'a>> for RanksBeside<'a> {
         let ((rank, folders), rest) = self.ranks.split_first()?;
         self.ranks = rest;
         Some(FoldersBeside {
-            rank: *rank,
+            rank: *rank as usize,
             folders: folders.pairs(),
             others: folders_of(self.others, *rank),
         })

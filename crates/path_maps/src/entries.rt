@@ -22,7 +22,8 @@ use std::marker::Model;
 /// An entry with its path, lent.
 #[derive(Drop)]
 pub struct PathEntry<'a> {
-    rank: u8,
+    // Words alone, so that an entry is passed on in registers.
+    rank: usize,
     folder: &'a Bytes,
     name: &'a Bytes,
     entry: &'a Entry,
@@ -41,7 +42,7 @@ impl<'a> Model for PathEntry<'a> {
 
 impl<'a> PathEntry<'a> {
     // An entry at a lawful path.
-    pub(crate) fn new(rank: u8, folder: &'a Bytes, name: &'a Bytes, entry: &'a Entry) -> Self
+    pub(crate) fn new(rank: usize, folder: &'a Bytes, name: &'a Bytes, entry: &'a Entry) -> Self
         requires path { IsPath (path_at rank folder.now name.now) }
         ensures placed { result ≡ (path_at rank folder.now name.now, entry.now) }
     {
@@ -58,7 +59,8 @@ impl<'a> PathEntry<'a> {
         ensures path { IfOk result (λ path. path ≡ self.now.0) }
     {
         let folder = self.folder.try_clone()?;
-        Ok(Path::from_parts(self.rank, folder, self.name.try_clone()?))
+        let rank = self.rank as u8;
+        Ok(Path::from_parts(rank, folder, self.name.try_clone()?))
     }
 
     /// The name in its folder, which is the last component of its path. It takes no memory.
@@ -84,7 +86,7 @@ impl<'a> PathEntry<'a> {
     {
         let within = order(path.folder(), self.folder.as_slice());
         let within = within.then(order(path.name(), self.name.as_slice()));
-        path.rank().cmp(&self.rank).then(within)
+        (path.rank() as usize).cmp(&self.rank).then(within)
     }
 
     // Where its path stands: before that of another entry, at it, or behind it.
@@ -107,7 +109,7 @@ impl<'a> PathEntry<'a> {
 // The names that are left of a folder.
 #[derive(Drop)]
 struct NamesLeft<'a> {
-    rank: u8,
+    rank: usize,
     folder: &'a Bytes,
     names: &'a [(Bytes, Versioned<Content>)],
 }
@@ -141,7 +143,7 @@ impl<'a> Cursor<PathEntry<'a>> for NamesLeft<'a> {
 // The folders that are left of a rank.
 #[derive(Drop)]
 struct FoldersLeft<'a> {
-    rank: u8,
+    rank: usize,
     folders: &'a [(Bytes, NameMap)],
 }
 
@@ -199,7 +201,7 @@ impl<'a> Cursor<FoldersLeft<'a>> for RanksLeft<'a> {
         let ((rank, folders), rest) = self.ranks.split_first()?;
         self.ranks = rest;
         Some(FoldersLeft {
-            rank: *rank,
+            rank: *rank as usize,
             folders: folders.pairs(),
         })
     }
@@ -251,7 +253,7 @@ impl<'a> PathEntries<'a> {
         let names = match found {
             None => None,
             Some((folder, names)) => Some(NamesLeft {
-                rank,
+                rank: rank as usize,
                 folder,
                 names: names.pairs(),
             }),

@@ -66,7 +66,7 @@ impl<'a> Held<'a> {
         let (folder, names) = folder_at(self.ranks, rank, folder)?;
         let (name, value) = pair_at(names.pairs(), name)?;
         let entry = value.entry()?;
-        Some(PathEntry::new(rank, folder, name, entry))
+        Some(PathEntry::new(rank as usize, folder, name, entry))
     }
 
     /// What is held at a path, a removal too. O(log n), without memory.

@@ -8,6 +8,7 @@ mod beside;
 mod changes;
 mod counts;
 mod cursors;
+mod differences;
 mod entries;
 mod held;
 mod laws;

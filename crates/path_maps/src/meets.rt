@@ -7,7 +7,6 @@ ghost use Rattle.path_maps.specs.PathMaps.{bytes_cmp};
 
 use plain_values::Bytes;
 use sorted_pairs::seek;
-use std::cmp::Ordering;
 
 // How many pairs are passed one by one before the others are searched.
 const NEAR: usize = 8;
@@ -27,11 +26,13 @@ pub fn meet<'a, V>(pairs: &'a [(Bytes, V)], key: &Bytes) -> (Option<&'a V>, &'a 
         let Some((pair, rest)) = left.split_first() else {
             return (None, left);
         };
-        match pair.0.cmp(key) {
-            Ordering::Less => left = rest,
-            Ordering::Equal => return (Some(&pair.1), rest),
-            Ordering::Greater => return (None, left),
+        if pair.0 == *key {
+            return (Some(&pair.1), rest);
         }
+        if pair.0.cmp(key).is_gt() {
+            return (None, left);
+        }
+        left = rest;
     }
     search(left, key)
 }

@@ -10,6 +10,7 @@ ghost use Rattle.edit_sums.specs.declared.contents.Content.TheVariants.{Gone};
 ghost use Rattle.edit_sums.specs.Flat.{at_fleet};
 ghost use Rattle.edit_sums.specs.Sums.{changed_places, high_of, join, sum_of, visible_at, with_edit, IsStoreBelow};
 ghost use Rattle.path_maps.specs.Beside.{beside};
+ghost use Rattle.path_maps.specs.Changes.{additions};
 ghost use Rattle.path_maps.specs.Folders.{is_within};
 ghost use Rattle.path_maps.specs.PlaceMaps.{AreScopes, all_held};
 ghost use Rattle.path_maps.specs.Scopes.{scope_of};
@@ -17,6 +18,7 @@ ghost use Rattle.path_maps.specs.Views.{own_of, view_of};
 
 use crate::changes::count_changes;
 use crate::counts::{Counts, count_entries};
+use crate::differences::find_unlike;
 use crate::held::Held;
 use crate::look_ups::host_at;
 use crate::places::Entries;
@@ -216,15 +218,28 @@ impl Store {
     /// The places at which something else is visible than in an older store, in place order: where a content was put, made
     /// another or removed since. A content that only has another version is none, nor is a removal where nothing was visible.
     ///
-    /// It reads both once: linear in the places that both hold, and in the bytes of contents that stand in both. It fails for
-    /// want of memory alone, where the list grows, and copies no bytes.
+    /// It reads both once: linear in the places that both hold, and in the bytes of contents that stand in both; and once
+    /// more, where the older one holds a place that this one doesn't. It fails for want of memory alone, where the list
+    /// grows, and copies no bytes.
     pub fn changed(&self, older: &Store) -> Result<Vec<Place>, AllocError>
         ensures rising { IfOk result (λ places. IsStrictlySortedBy place_cmp places.items) }
         ensures exact { IfOk result (λ places. (p : PlaceParts) →
             IsAmong p places.items ↔ (visible_at self.now p ≢ visible_at older.now p)) }
         ensures without_memory { ((p : PlaceParts) → visible_at self.now p ≡ visible_at older.now p) → IsOk result }
     {
+        let found = find_unlike(self, older)?;
+        if self.has_all_of(older, found.added) {
+            return Ok(found.places);
+        }
         Together::of(self.entries(), older.entries()).differing(self.allocator())
+    }
+
+    // Whether all places of an older store are held too, where so many are held that it doesn't have.
+    fn has_all_of(&self, older: &Store, added: usize) -> bool
+        requires added { added ≡ additions older.now (finmap.entries self.now) }
+        ensures all { IsTrue result → (p : PlaceParts) → finmap.get self.now p ≡ None → finmap.get older.now p ≡ None }
+    {
+        self.len - added == older.len
     }
 
     /// Whether both hold the same. Linear, without memory.

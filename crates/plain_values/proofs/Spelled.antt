@@ -1,7 +1,8 @@
 -- Bytes are ordered as the numbers that they spell.
-use Rattle.std.proofs.Common.{◌≡◌, ◌<◌, ◌≤◌, ◌+◌, ◌*◌, ◌-◌, ℕ, zero, suc, List, [], ◌∷◌, length, min, take, drop, get_or, refl, sym, ap, ◌∙◌, subst, Fits, w8, arith}
+use Rattle.std.proofs.Common.{◌≡◌, ◌<◌, ◌≤◌, ◌+◌, ◌*◌, ◌-◌, ℕ, zero, suc, false, List, [], ◌∷◌, length, min, take, drop, get_or, refl, sym, ap, ◌∙◌, subst, Fits, w8, arith}
 use Rattle.std.proofs.lemmas.List.{take_rest, get_or-drop}
-use Rattle.std.specs.Ordering.{nat_cmp, ordering_then, MatchOrdering}
+use Rattle.std.specs.Ordering.{eq_by_cmp, is_eq, nat_cmp, ordering_then, MatchOrdering}
+use Rattle.std.specs.FinMap.{slice_cmp-IsAntisymmetric, nat_cmp-IsAntisymmetric}
 use Rattle.std.specs.Cmp.{nat_cmp_is, ranks}
 use Rattle.std.specs.Cmp.Lexicographic.{slice_cmp}
 use Rattle.std.specs.declared.cmp.Ordering.{Ordering}
@@ -42,33 +43,33 @@ by_numbers (suc k) (x ∷ xs) (y ∷ ys) m hx hy bx by =
         ap (λ o. ordering_then o (slice_cmp nat_cmp (drop k xs) (drop k ys)))
         (nat_cmp_is _ _ Greater (lesser k ys xs (m * 256 + y) (m * 256 + x) (omega (arith, gt)) (omega (arith, hy)) (omega (arith, hx)) (λ i. by (suc i)) (λ i. bx (suc i))))
 
--- where the numbers of eight bytes differ they decide
-pub decided : (xs ys : List ℕ) (x y : ℕ) → 8 ≤ length xs → 8 ≤ length ys → AreBytes xs → AreBytes ys
-    → x ≡ spelled 0 (take 8 xs) → y ≡ spelled 0 (take 8 ys) → (x ≡ y → ⊥) → nat_cmp x y ≡ slice_cmp nat_cmp xs ys
-decided xs ys x y hx hy bx by is_x is_y apart =
+-- where the numbers of so many bytes differ they decide
+pub decided : (k : ℕ) (xs ys : List ℕ) (x y : ℕ) → k ≤ length xs → k ≤ length ys → AreBytes xs → AreBytes ys
+    → x ≡ spelled 0 (take k xs) → y ≡ spelled 0 (take k ys) → (x ≡ y → ⊥) → nat_cmp x y ≡ slice_cmp nat_cmp xs ys
+decided k xs ys x y hx hy bx by is_x is_y apart =
     by_rank (nat_cmp x y) (ranks x y)
-    ∙ ap (λ z. ordering_then (nat_cmp z y) behind) is_x ∙ ap (λ z. ordering_then (nat_cmp (spelled 0 (take 8 xs)) z) behind) is_y
-    ∙ sym (by_numbers 8 xs ys 0 hx hy bx by)
+    ∙ ap (λ z. ordering_then (nat_cmp z y) behind) is_x ∙ ap (λ z. ordering_then (nat_cmp (spelled 0 (take k xs)) z) behind) is_y
+    ∙ sym (by_numbers k xs ys 0 hx hy bx by)
   where
     behind : Ordering
-    behind = slice_cmp nat_cmp (drop 8 xs) (drop 8 ys)
+    behind = slice_cmp nat_cmp (drop k xs) (drop k ys)
 
     by_rank : (o : Ordering) → MatchOrdering o (x < y) (x ≡ y) (y < x) → o ≡ ordering_then o behind
     by_rank Less _ = refl
     by_rank Equal is = absurd (apart is)
     by_rank Greater _ = refl
 
--- where they don't, what is left behind the eight bytes decides
-pub left_decides : (xs ys : List ℕ) → 8 ≤ length xs → 8 ≤ length ys → AreBytes xs → AreBytes ys
-    → spelled 0 (take 8 xs) ≡ spelled 0 (take 8 ys)
-    → slice_cmp nat_cmp (take (length xs - 8) (drop 8 xs)) (take (length ys - 8) (drop 8 ys)) ≡ slice_cmp nat_cmp xs ys
-left_decides xs ys hx hy bx by same =
-    ap (λ z. slice_cmp nat_cmp z (take (length ys - 8) (drop 8 ys))) (take_rest xs 8) ∙ ap (slice_cmp nat_cmp (drop 8 xs)) (take_rest ys 8)
-    ∙ sym (by_numbers 8 xs ys 0 hx hy bx by ∙ ap (λ o. ordering_then o (slice_cmp nat_cmp (drop 8 xs) (drop 8 ys))) (sym (nat_cmp_is _ _ Equal same)))
+-- where they don't, what is left behind these bytes decides
+pub left_decides : (k : ℕ) (xs ys : List ℕ) → k ≤ length xs → k ≤ length ys → AreBytes xs → AreBytes ys
+    → spelled 0 (take k xs) ≡ spelled 0 (take k ys)
+    → slice_cmp nat_cmp (take (length xs - k) (drop k xs)) (take (length ys - k) (drop k ys)) ≡ slice_cmp nat_cmp xs ys
+left_decides k xs ys hx hy bx by same =
+    ap (λ z. slice_cmp nat_cmp z (take (length ys - k) (drop k ys))) (take_rest xs k) ∙ ap (slice_cmp nat_cmp (drop k xs)) (take_rest ys k)
+    ∙ sym (by_numbers k xs ys 0 hx hy bx by ∙ ap (λ o. ordering_then o (slice_cmp nat_cmp (drop k xs) (drop k ys))) (sym (nat_cmp_is _ _ Equal same)))
 
 -- and it is bytes
-pub left_bytes : (xs : List ℕ) → AreBytes xs → AreBytes (take (length xs - 8) (drop 8 xs))
-left_bytes xs bytes i = subst (λ z. Fits w8 (get_or z i 0)) (sym (take_rest xs 8)) (subst (Fits w8) (sym (get_or-drop 8 xs i 0)) (bytes (8 + i)))
+pub left_bytes : (k : ℕ) (xs : List ℕ) → AreBytes xs → AreBytes (take (length xs - k) (drop k xs))
+left_bytes k xs bytes i = subst (λ z. Fits w8 (get_or z i 0)) (sym (take_rest xs k)) (subst (Fits w8) (sym (get_or-drop k xs i 0)) (bytes (k + i)))
 
 -- of strings that are the same as far as the shorter goes, the shorter is less
 pub by_lengths : (xs ys : List ℕ) (n : ℕ) → n ≡ min (length xs) (length ys) → slice_cmp nat_cmp (drop n xs) (drop n ys) ≡ nat_cmp (length xs) (length ys)
@@ -85,3 +86,19 @@ by_lengths (x ∷ xs) (y ∷ ys) (suc n) is = by_lengths xs ys n (omega (arith, 
     more Less h = nat_cmp_is (suc (length xs)) (suc (length ys)) Less (omega (arith, h))
     more Equal h = nat_cmp_is (suc (length xs)) (suc (length ys)) Equal (ap suc h)
     more Greater h = nat_cmp_is (suc (length xs)) (suc (length ys)) Greater (omega (arith, h))
+
+-- what isn't ordered as equal is not the same
+pub unlike : (o : Ordering) → (o ≡ Equal → ⊥) → false ≡ is_eq o
+unlike Less apart = refl
+unlike Equal apart = absurd (apart refl)
+unlike Greater apart = refl
+
+-- strings of two lengths are not the same
+pub other_lengths : (xs ys : List ℕ) → (length xs ≡ length ys → ⊥) → false ≡ eq_by_cmp (slice_cmp nat_cmp) xs ys
+other_lengths xs ys apart = unlike (slice_cmp nat_cmp xs ys) (λ e. apart (ap length (slice_cmp-IsAntisymmetric nat_cmp-IsAntisymmetric xs ys e)))
+
+-- nor are those of which so many bytes spell two numbers
+pub other_words : (k : ℕ) (xs ys : List ℕ) (x y : ℕ) → k ≤ length xs → k ≤ length ys → AreBytes xs → AreBytes ys
+    → x ≡ spelled 0 (take k xs) → y ≡ spelled 0 (take k ys) → (x ≡ y → ⊥) → false ≡ eq_by_cmp (slice_cmp nat_cmp) xs ys
+other_words k xs ys x y hx hy bx by is_x is_y apart =
+    unlike (nat_cmp x y) (λ e. apart (nat_cmp-IsAntisymmetric x y e)) ∙ ap is_eq (decided k xs ys x y hx hy bx by is_x is_y apart)

@@ -2,7 +2,7 @@
 ghost use Rattle.std.specs.Prelude.{◌≡◌, ◌++◌, IfOk};
 
 use crate::keys::{Key, TryClone};
-use crate::orders::order;
+use crate::orders::{order, same};
 use crate::shared::SharedBytes;
 use crate::short::{SHORT, ShortBytes};
 use std::alloc::{AllocError, Global};
@@ -123,7 +123,7 @@ impl PartialEq for Bytes {
     ghost laws = { partial_equiv_from_equiv (eq_by_cmp_equiv nat_list_cmp_total) };
 
     fn eq(&self, other: &Self) -> bool {
-        self.cmp(other).is_eq()
+        same(self.as_slice(), other.as_slice())
     }
 }
 

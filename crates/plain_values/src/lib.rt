@@ -16,6 +16,6 @@ mod short;
 pub use bytes::Bytes;
 pub use items::Items;
 pub use keys::{Key, TryClone};
-pub use orders::order;
+pub use orders::{order, same};
 pub use shared::SharedBytes;
 pub use sharing::Shared;

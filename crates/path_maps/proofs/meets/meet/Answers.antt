@@ -1,9 +1,23 @@
-use Rattle.std.proofs.Common.{◌∙◌, ap, sym, subst, IsTrue}
+use Rattle.std.proofs.Common.{◌≡◌, ◌∙◌, ap, refl, sym, subst, true, false, IsTrue}
+use Rattle.std.specs.Ordering.{is_eq, is_gt}
+use Rattle.std.specs.declared.cmp.Ordering.{Ordering}
+use Rattle.std.specs.declared.cmp.Ordering.TheVariants.{Less, Equal, Greater}
+use Rattle.list_laws.specs.Orderings.{is_equal}
 use Rattle.std.proofs.lemmas.Bool.{and_parts}
 use Rattle.std.specs.FinMap.Entries.{find, is_sorted, below_all}
 use Rattle.path_maps.specs.PathMaps.{bytes_cmp}
 use Rattle.path_maps.proofs.FoundBehind.{not_below_itself, not_below, none_of, past_lesser, past_equal, found_first, none_first}
 use Rattle.path_maps.proofs.meets.meet.Goals as goal
+
+is_beyond : (o : Ordering) → is_gt o ≡ true → o ≡ Greater
+is_beyond Less h = cc (h)
+is_beyond Equal h = cc (h)
+is_beyond Greater h = refl
+
+is_before : (o : Ordering) → is_eq o ≡ false → is_gt o ≡ false → o ≡ Less
+is_before Less e g = refl
+is_before Equal e g = cc (e)
+is_before Greater e g = cc (g)
 
 pub returns-in_default-clause-found : goal.returns-in_default-clause-found
 returns-in_default-clause-found g c =
@@ -12,31 +26,32 @@ returns-in_default-clause-found g c =
 pub returns-in_default-clause-behind : goal.returns-in_default-clause-behind
 returns-in_default-clause-behind g c k less = c.loop.invariant.held k (not_below c.args.key.now k less)
 
-pub returns-in-Equal-clause-found : goal.returns-in-Equal-clause-found
-returns-in-Equal-clause-found g c =
-    found_first c.args.key.now c.in-Some.pair.now c.in-Some.rest.now (sym c.cmp.ensures ∙ c.in-Equal.is)
+pub returns-then-eq-clause-found : goal.returns-then-eq-clause-found
+returns-then-eq-clause-found g c =
+    found_first c.args.key.now c.in-Some.pair.now c.in-Some.rest.now (is_equal (bytes_cmp c.in-Some.pair.now.0 c.args.key.now) (sym c.eq.ensures ∙ c.if-eq.true))
     ∙ ap (find bytes_cmp c.args.key.now) (sym c.in-Some.ensures.cases.0) ∙ c.loop.invariant.held c.args.key.now (not_below_itself c.args.key.now)
 
-pub returns-in-Equal-clause-behind : goal.returns-in-Equal-clause-behind
-returns-in-Equal-clause-behind g c k less =
-    past_equal c.args.key.now c.in-Some.pair.now c.in-Some.rest.now (sym c.cmp.ensures ∙ c.in-Equal.is) k less
+pub returns-then-eq-clause-behind : goal.returns-then-eq-clause-behind
+returns-then-eq-clause-behind g c k less =
+    past_equal c.args.key.now c.in-Some.pair.now c.in-Some.rest.now (is_equal (bytes_cmp c.in-Some.pair.now.0 c.args.key.now) (sym c.eq.ensures ∙ c.if-eq.true)) k less
     ∙ ap (find bytes_cmp k) (sym c.in-Some.ensures.cases.0) ∙ c.loop.invariant.held k (not_below c.args.key.now k less)
 
-pub returns-in-Greater-clause-found : goal.returns-in-Greater-clause-found
-returns-in-Greater-clause-found g c =
+pub returns-then-is_gt-clause-found : goal.returns-then-is_gt-clause-found
+returns-then-is_gt-clause-found g c =
     let sorted = subst (λ es. IsTrue (is_sorted bytes_cmp es)) c.in-Some.ensures.cases.0 c.loop.invariant.sorted in
-    none_first c.args.key.now c.in-Some.pair.now c.in-Some.rest.now (sym c.cmp.ensures ∙ c.in-Greater.is) sorted
+    none_first c.args.key.now c.in-Some.pair.now c.in-Some.rest.now (is_beyond (bytes_cmp c.in-Some.pair.now.0 c.args.key.now) (ap is_gt (sym c.cmp.ensures) ∙ sym c.is_gt.ensures ∙ c.if-is_gt.true)) sorted
     ∙ ap (find bytes_cmp c.args.key.now) (sym c.in-Some.ensures.cases.0) ∙ c.loop.invariant.held c.args.key.now (not_below_itself c.args.key.now)
 
-pub returns-in-Greater-clause-behind : goal.returns-in-Greater-clause-behind
-returns-in-Greater-clause-behind g c k less = c.loop.invariant.held k (not_below c.args.key.now k less)
+pub returns-then-is_gt-clause-behind : goal.returns-then-is_gt-clause-behind
+returns-then-is_gt-clause-behind g c k less = c.loop.invariant.held k (not_below c.args.key.now k less)
 
 pub loop-preserved : goal.loop-preserved
 loop-preserved g c =
     let sorted = subst (λ es. IsTrue (is_sorted bytes_cmp es)) c.in-Some.ensures.cases.0 c.loop.invariant.sorted in
+    let before = is_before (bytes_cmp c.in-Some.pair.now.0 c.args.key.now) (sym c.eq.ensures ∙ c.if-eq.false) (ap is_gt (sym c.cmp.ensures) ∙ sym c.is_gt.ensures ∙ c.if-is_gt.false) in
     record {
       sorted = (and_parts (below_all bytes_cmp c.in-Some.pair.now.0 c.in-Some.rest.now) _ sorted).1;
-      held = λ q n. sym (past_lesser c.args.key.now c.in-Some.pair.now c.in-Some.rest.now (sym c.cmp.ensures ∙ c.in-Less.is) q n)
+      held = λ q n. sym (past_lesser c.args.key.now c.in-Some.pair.now c.in-Some.rest.now before q n)
           ∙ ap (find bytes_cmp q) (sym c.in-Some.ensures.cases.0) ∙ c.loop.invariant.held q n;
     }
 
