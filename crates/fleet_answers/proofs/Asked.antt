@@ -7,16 +7,18 @@ use Rattle.std.proofs.lemmas.Bool.{cases_eq, ne_eqb}
 use Rattle.std.specs.Cmp.Lexicographic.{pointwise}
 use Rattle.std.specs.Ordering.{eq_by_cmp}
 use Rattle.list_laws.specs.Members.{IsAmong}
+use Rattle.load_places.specs.Levels.{Looker}
 use Rattle.load_places.specs.Places.{PlaceParts}
 use Rattle.edit_sums.specs.Sums.{EntryMap, visible_at}
 use Rattle.parallel_load.specs.AskedLaws.{AreSources, asked_for, sources_make_the_load, sources_make_the_size}
 use Rattle.parallel_load.specs.Loads.{LoadMap}
 use Rattle.path_maps.specs.DifferenceLaws.{changed_or_same}
-use Rattle.path_maps.specs.Views.{View}
+use Rattle.path_maps.specs.SeenLaws.{one_looker}
+use Rattle.path_maps.specs.Views.{View, view_of}
 use Rattle.unit_name.specs.Names.{Name, name_cmp}
-use Rattle.fleet_answers.specs.Answers.{IsSnapshot}
+use Rattle.fleet_answers.specs.Answers.{IsSnapshot, IsSnapshotOf}
 use Rattle.unit_name.specs.NameLaws.{name_eq-Decides}
-use Rattle.fleet_answers.specs.ShownLaws.{ShowTheSame}
+use Rattle.fleet_answers.specs.ShownLaws.{ShowTheSame, snapshots_stay}
 
 first_true : (a b : Bool) → (a && b) ≡ true → a ≡ true
 first_true true b h = refl
@@ -72,3 +74,9 @@ asked_otherwise s extra names load these those w = record {
   within = λ large. w.within (sources_make_the_size s names extra those these large);
   is_load = sources_make_the_load s extra names load these those w.is_load;
 }
+
+-- a snapshot of a store is one of each that shows the same
+pub shown_elsewhere : (s own : EntryMap) (host : Looker) (extra : List Name) (load : LoadMap) → ShowTheSame s own → IsSnapshot (view_of s host) extra load → IsSnapshotOf own load
+shown_elsewhere s own host extra load same made =
+    subst (λ (h : Looker). IsSnapshot (view_of own h) load.extra load) (sym (made.is_load.host_is ∙ one_looker s host))
+    (subst (λ (es : List Name). IsSnapshot (view_of own host) es load) (sym made.is_load.extra_is) (snapshots_stay s own host extra load same made))

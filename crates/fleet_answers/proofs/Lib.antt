@@ -2,3 +2,4 @@ mod Asked
 mod Fleets
 mod Held
 mod Told
+pub mod Mirrors

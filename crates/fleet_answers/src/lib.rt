@@ -10,6 +10,7 @@
 
 mod answers;
 mod laws;
+mod mirrored;
 mod names;
 mod questions;
 mod remembered;

@@ -9,6 +9,7 @@ ghost use Rattle.parallel_load.specs.Universe.{IsTooLarge};
 ghost use Rattle.fleet_answers.specs.Answers.{AreKnown, IsAnswer, IsSnapshot, IsSnapshotOf, IsTold, host_asked, names_asked};
 ghost use Rattle.fleet_answers.specs.declared.questions.AnswerFault.TheVariants.{Workers};
 
+use crate::mirrored::mirrored;
 use crate::names::{copies_of, whole_names};
 use crate::questions::{Answer, AnswerFault, Question};
 use crate::snapshots::Snapshot;
@@ -107,9 +108,10 @@ impl Remembered {
             });
         }
         let snapshot = snapshot.refreshed(store, &touched)?;
+        let kept_with = mirrored(own, store, &touched);
         Ok(Found {
             snapshot,
-            kept_with: None,
+            kept_with,
         })
     }
 }

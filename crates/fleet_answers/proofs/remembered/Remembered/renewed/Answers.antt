@@ -1,9 +1,11 @@
 use Rattle.std.proofs.Common.{subst}
 use Rattle.path_maps.specs.Views.{view_of}
 use Rattle.parallel_load.specs.Loads.{LoadMap}
-use Rattle.fleet_answers.specs.Answers.{IsSnapshot}
-use Rattle.fleet_answers.specs.ShownLaws.{snapshots_stay}
-use Rattle.fleet_answers.proofs.Asked.{none_told, rest_is, same_shown}
+use Rattle.edit_sums.specs.Sums.{EntryMap}
+use Rattle.fleet_answers.specs.Answers.{IsSnapshot, IsSnapshotOf}
+use Rattle.fleet_answers.specs.ShownLaws.{ShowTheSame, snapshots_stay}
+use Rattle.fleet_answers.proofs.Asked.{none_told, rest_is, same_shown, shown_elsewhere}
+use Rattle.fleet_answers.proofs.Held.{if_some}
 use Rattle.fleet_answers.proofs.remembered.Remembered.renewed.Goals as goal
 
 pub returns-then-is_empty-clause-snapshot : goal.returns-then-is_empty-clause-snapshot
@@ -22,3 +24,16 @@ refreshed-requires c = record {
     rest = rest_is c.args.store.now c.self.inside.store c.in_ok-touched.touched.items c.deref.result.now c.deref.ensures.value c.in_ok-touched.ensures.exact;
   };
 }
+
+pub mirrored-kept_with-requires : goal.mirrored-kept_with-requires
+mirrored-kept_with-requires c = record {
+  rest = rest_is c.args.store.now c.self.inside.store c.in_ok-touched.touched.items c.deref-2.result.now c.deref-2.ensures.value c.in_ok-touched.ensures.exact;
+}
+
+pub returns-clause-own : goal.returns-clause-own
+returns-clause-own c =
+    let was : LoadMap = c.self.inside.snapshot in
+    let load = c.in_ok-snapshot.snapshot in
+    if_some (ShowTheSame c.args.store.now) (λ (own : EntryMap). IsSnapshotOf own load)
+    (λ own same. shown_elsewhere c.args.store.now own was.host was.extra load same c.in_ok-snapshot.ensures.snapshot)
+    c.mirrored-kept_with.result c.mirrored-kept_with.ensures.same

@@ -1,0 +1,84 @@
+-- An edit with a counter above all that is held decides what is shown at its place, and nothing elsewhere.
+use Rattle.std.proofs.Common.{◌≡◌, ◌≢◌, ◌⊎◌, ◌+◌, ◌<◌, ◌≤◌, ℕ, Bool, true, false, cond, List, [], ◌∷◌, Option, Some, None, refl, sym, ap, subst, ◌∙◌, inl, inr, length, get_or, drop, drop-cons, arith}
+use Rattle.std.specs.Prelude.{unwrap_or}
+use Rattle.std.specs.Cmp.{nat_cmp_is}
+use Rattle.std.specs.FinMap as finmap
+use Rattle.std.specs.Option.{option_and_then}
+use Rattle.std.specs.Ordering.{eq_by_cmp, is_gt, nat_cmp, ordering_then}
+use Rattle.std.specs.declared.cmp.Ordering.TheVariants.{Less}
+use Rattle.join_law.specs.declared.versions.Version.{Version}
+use Rattle.list_laws.specs.Members.{IsAmong}
+use Rattle.load_places.specs.Places.{PlaceParts, place_cmp}
+use Rattle.edit_sums.specs.declared.contents.Content.{Content}
+use Rattle.edit_sums.specs.declared.contents.Content.TheVariants.{Gone, Link, File}
+use Rattle.edit_sums.specs.declared.entries.Edit.{Edit}
+use Rattle.edit_sums.specs.Contents.{content_cmp}
+use Rattle.edit_sums.specs.CounterLaws.{high_of-above}
+use Rattle.edit_sums.specs.Entries.{Entry, IsBelow, larger}
+use Rattle.edit_sums.specs.EntryLaws.{larger-absorb}
+use Rattle.edit_sums.specs.GreatestLaws.{get-with_edit, same_place, tied}
+use Rattle.edit_sums.specs.Sums.{EntryMap, entry_of, high_of, shown, visible_at, with_edit}
+
+-- a content that is shown is shown under any version
+shown_again : (x : Entry) (c : Content) (v : Version) → shown x ≡ Some c → shown (record { version = v; content = c }) ≡ Some c
+shown_again x c v h = by x.content h
+  where
+    by : (y : Content) → shown (record { version = x.version; content = y }) ≡ Some c → shown (record { version = v; content = c }) ≡ Some c
+    by Gone e = cc (e)
+    by (Link target) e = subst (λ d. shown (record { version = v; content = d }) ≡ Some d) (ap (λ (o : Option Content). unwrap_or o c) e) refl
+    by (File bytes) e = subst (λ d. shown (record { version = v; content = d }) ≡ Some d) (ap (λ (o : Option Content). unwrap_or o c) e) refl
+
+pub visible_again : (s : EntryMap) (q : PlaceParts) (c : Content) (v : Version) → Some c ≡ visible_at s q → shown (record { version = v; content = c }) ≡ visible_at s q
+visible_again s q c v h = by (finmap.get s q) h ∙ h
+  where
+    by : (y : Option Entry) → Some c ≡ option_and_then shown y → shown (record { version = v; content = c }) ≡ Some c
+    by None e = cc (e)
+    by (Some x) e = shown_again x c v (sym e)
+
+module _ (s : EntryMap) (e : Edit) where
+  wins : high_of s < e.version.counter → (q : PlaceParts) → larger (Some (entry_of e)) (finmap.get s q) ≡ Some (entry_of e)
+  wins above q = larger-absorb (Some (entry_of e)) (finmap.get s q) (by (finmap.get s q) refl)
+    where
+      by : (y : Option Entry) → finmap.get s q ≡ y → IsBelow y (Some (entry_of e))
+      by None h = tt
+      by (Some x) h =
+          let most = high_of-above s q x h in
+          sym (ap (λ o. is_gt (ordering_then (ordering_then o (nat_cmp x.version.writer e.version.writer)) (content_cmp x.content e.content)))
+          (nat_cmp_is x.version.counter e.version.counter Less (omega (arith, most, above))))
+
+  pub put_there : high_of s < e.version.counter → visible_at (with_edit s e) e.place ≡ shown (entry_of e)
+  put_there above =
+      ap (option_and_then shown)
+      (get-with_edit s e e.place ∙ ap (λ b. cond b (larger (Some (entry_of e)) (finmap.get s e.place)) (finmap.get s e.place)) (same_place e.place) ∙ wins above e.place)
+
+  pub put_elsewhere : (p : PlaceParts) → p ≢ e.place → visible_at (with_edit s e) p ≡ visible_at s p
+  put_elsewhere p apart = ap (option_and_then shown) (get-with_edit s e p ∙ by (eq_by_cmp place_cmp p e.place) refl)
+    where
+      by : (b : Bool) → eq_by_cmp place_cmp p e.place ≡ b → cond b (larger (Some (entry_of e)) (finmap.get s p)) (finmap.get s p) ≡ finmap.get s p
+      by true t = absurd (apart (tied p e.place t))
+      by false t = refl
+
+-- one place fewer is left where stores may show otherwise
+module _ (places : List PlaceParts) (k : ℕ) (place : PlaceParts) (old new other : EntryMap) where
+  pub one_fewer : drop k places ≡ place ∷ drop (k + 1) places
+      → ((p : PlaceParts) → IsAmong p (drop k places) ⊎ (visible_at old p ≡ visible_at other p))
+      → visible_at new place ≡ visible_at other place
+      → ((p : PlaceParts) → p ≢ place → visible_at new p ≡ visible_at old p)
+      → (p : PlaceParts) → IsAmong p (drop (k + 1) places) ⊎ (visible_at new p ≡ visible_at other p)
+  one_fewer cut before there elsewhere p = by (eq_by_cmp place_cmp p place) refl
+    where
+      further : p ≢ place → IsAmong p (drop k places) ⊎ (visible_at old p ≡ visible_at other p)
+          → IsAmong p (drop (k + 1) places) ⊎ (visible_at new p ≡ visible_at other p)
+      further apart (inl a) = rest (subst (IsAmong p) cut a)
+        where
+          rest : IsAmong p (place ∷ drop (k + 1) places) → IsAmong p (drop (k + 1) places) ⊎ (visible_at new p ≡ visible_at other p)
+          rest (inl e) = absurd (apart (sym e))
+          rest (inr a) = inl a
+      further apart (inr e) = inr (elsewhere p apart ∙ e)
+
+      by : (b : Bool) → eq_by_cmp place_cmp p place ≡ b → IsAmong p (drop (k + 1) places) ⊎ (visible_at new p ≡ visible_at other p)
+      by true t = inr (subst (λ q. visible_at new q ≡ visible_at other q) (sym (tied p place t)) there)
+      by false t = further (λ e. apart_of e) (before p)
+        where
+          apart_of : p ≡ place → ⊥
+          apart_of e = let wrong = sym t ∙ ap (λ q. eq_by_cmp place_cmp q place) e ∙ same_place place in cc (wrong)
