@@ -40,23 +40,23 @@ node_word-other b node (Some host) = refl
 
 -- ---- the laws
 
+both_in-node_word : (node : List ℕ) (host : Option (List ℕ)) → AllByRecursion (λ b. b ≢ 64) node → (node_in (node_word node host) ≡ node) × (host_in (node_word node host) ≡ host)
+both_in-node_word [] None all = (refl, refl)
+both_in-node_word [] (Some host) all = (node_in-at 64 host refl, host_in-at 64 host refl)
+both_in-node_word (b ∷ node) host all =
+    let rest = both_in-node_word node host all.1 in
+    let other = ne_eqb b 64 all.0 in (
+      ap node_in (node_word-other b node host) ∙ node_in-other b (node_word node host) other ∙ ap (λ v. b ∷ v) rest.0,
+      ap host_in (node_word-other b node host) ∙ host_in-other b (node_word node host) other ∙ rest.1,
+    )
+
 -- a node without an at sign is read back, whatever host is asked for
 pub node_in-node_word : (node : List ℕ) (host : Option (List ℕ)) → AllByRecursion (λ b. b ≢ 64) node → node_in (node_word node host) ≡ node
-node_in-node_word [] None all = refl
-node_in-node_word [] (Some host) all = node_in-at 64 host refl
-node_in-node_word (b ∷ node) host all =
-    ap node_in (node_word-other b node host)
-    ∙ node_in-other b (node_word node host) (ne_eqb b 64 all.0)
-    ∙ ap (λ v. b ∷ v) (node_in-node_word node host all.1)
+node_in-node_word node host all = (both_in-node_word node host all).0
 
 -- so is the host, whatever its bytes are
 pub host_in-node_word : (node : List ℕ) (host : Option (List ℕ)) → AllByRecursion (λ b. b ≢ 64) node → host_in (node_word node host) ≡ host
-host_in-node_word [] None all = refl
-host_in-node_word [] (Some host) all = host_in-at 64 host refl
-host_in-node_word (b ∷ node) host all =
-    ap host_in (node_word-other b node host)
-    ∙ host_in-other b (node_word node host) (ne_eqb b 64 all.0)
-    ∙ host_in-node_word node host all.1
+host_in-node_word node host all = (both_in-node_word node host all).1
 
 node_word-next : (b : ℕ) (word : List ℕ) (t : Bool) → is_at b ≡ t → node_word (node_in word) (host_in word) ≡ word
     → node_word (node_in (b ∷ word)) (host_in (b ∷ word)) ≡ b ∷ word
