@@ -31,9 +31,9 @@ use Rattle.unit_loads.specs.declared.units.Status.TheVariants.{Loaded, NotFound,
 use Rattle.unit_loads.specs.declared.units.Unit.{Unit as LoadedUnit}
 use Rattle.unit_loads.specs.AssignedLaws.{words_are_assigned}
 use Rattle.unit_loads.specs.MemberLaws.{HasSource, among_filter, among_filter_map, among_map, filter_among, filter_map_among, map_among}
-use Rattle.unit_loads.specs.NamedUnits.{IsAssigned, IsListed, IsNamed, kind_of}
+use Rattle.unit_loads.specs.NamedUnits.{IsAssigned, IsListed, IsNamed, IsNamedByLink, kind_of}
 use Rattle.unit_loads.specs.UnitLaws.{one_dropins}
-use Rattle.unit_loads.specs.Units.{AreDropIns, HasAllOf, HasSettings, IsStatus, IsUnit, items_of, linked_by, links_for, list_with, no_names, settings_in}
+use Rattle.unit_loads.specs.Units.{AreDropIns, AreLinks, HasAllOf, HasSettings, IsStatus, IsUnit, items_of, linked_by, links_for, list_with, no_names, settings_in}
 
 -- A unit has a list for each kind that a unit file may set, in the order of the kinds, whatever its status.
 abbrev pub UnitsListAllKinds : Type 0
@@ -136,33 +136,20 @@ module _ (entries : SettingMap) (unit : Name) (links : LinkNames) where
 -- ---- what a loaded unit names
 
 module _ (s : View) (unit : LoadedUnit) (names_are : AreNames s unit.name unit.names) (fragment : PlaceParts) (fragment_is : (resolution s unit.name).choice ≡ choice.Fragment fragment) (has : HasSettings s fragment unit) where
+  link_names : (sort : Folder) (links : List Name) (v : Name) → AreLinks s unit.names sort links → HasSource (λ link z. for_unit unit.name link ≡ Some z) links v → IsNamedByLink s unit.name sort v
+  link_names sort links v are from = record {
+    names = unit.names;
+    names_are = names_are;
+    fragment = fragment;
+    fragment_is = fragment_is;
+    link = from.source;
+    linked = (are.exact from.source).0 (contains_from_among from.source links from.there);
+    named = from.makes;
+  }
+
   named_by_link : (dep : DepKind) (v : Name) → HasSource (λ link z. for_unit unit.name link ≡ Some z) (links_for has.links dep) v → IsNamed s unit.name dep v
-  named_by_link Wants v from = inr (
-    folder.Wants,
-    refl,
-    record {
-      names = unit.names;
-      names_are = names_are;
-      fragment = fragment;
-      fragment_is = fragment_is;
-      link = from.source;
-      linked = (has.links_are.wanted_are.exact from.source).0 (contains_from_among from.source has.links.wanted from.there);
-      named = from.makes;
-    },
-  )
-  named_by_link Requires v from = inr (
-    folder.Requires,
-    refl,
-    record {
-      names = unit.names;
-      names_are = names_are;
-      fragment = fragment;
-      fragment_is = fragment_is;
-      link = from.source;
-      linked = (has.links_are.required_are.exact from.source).0 (contains_from_among from.source has.links.required from.there);
-      named = from.makes;
-    },
-  )
+  named_by_link Wants v from = inr (folder.Wants, refl, link_names folder.Wants has.links.wanted v has.links_are.wanted_are from)
+  named_by_link Requires v from = inr (folder.Requires, refl, link_names folder.Requires has.links.required v has.links_are.required_are from)
   named_by_link other v from = absurd from.there
 
   named_by_word : (dep : DepKind) (v : Name) → IsTrue (is_settable dep) → HasSource (λ text z. result_ok (named_by unit.name text) ≡ Some z) (words_for (settings_in s fragment unit.dropins) dep) v → IsNamed s unit.name dep v

@@ -2,9 +2,4 @@ use Rattle.unit_loads.specs.NameLaws.{lists_have_what_is_named, lists_rise, othe
 use Rattle.unit_loads.proofs.laws.named_unit_laws.Goals as goal
 
 pub returns : goal.returns
-returns c = record {
-  kinds = units_list_all_kinds;
-  rise = lists_rise;
-  exact = lists_have_what_is_named;
-  loaded = others_name_none;
-}
+returns c = record { kinds = units_list_all_kinds; rise = lists_rise; exact = lists_have_what_is_named; loaded = others_name_none }
