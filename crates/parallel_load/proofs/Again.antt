@@ -1,8 +1,9 @@
 -- A load of rows of which some were read again, where each unit names what it named.
-use Rattle.std.proofs.Common.{◌≡◌, ◌<◌, ◌≤◌, ◌+◌, ℕ, zero, suc, List, [], ◌∷◌, ◌++◌, take, get_or, length, map, refl, ap, sym, ◌∙◌, subst, inl, inr, arith}
+use Rattle.std.proofs.Common.{◌≡◌, ◌<◌, ◌≤◌, ◌+◌, ℕ, zero, suc, Option, Some, List, [], ◌∷◌, ◌++◌, take, get_or, length, map, refl, ap, sym, ◌∙◌, subst, inl, inr, arith}
 use Rattle.std.specs.Prelude.{◌⊎◌}
 use Rattle.std.specs.List.{All, flat_map}
 use Rattle.std.specs.Map.{keys_of}
+use Rattle.std.specs.Option.{IfSome}
 use Rattle.std.proofs.lemmas.List.{take_more}
 use Rattle.std.proofs.lemmas.List.Elements.{All-nil, All-cons, All-head, All-tail}
 use Rattle.list_laws.specs.Members.{IsAmong}
@@ -25,6 +26,7 @@ use Rattle.parallel_load.specs.declared.loaded.Dependency.{Dependency}
 use Rattle.parallel_load.specs.declared.loaded.NameLoad.{NameLoad}
 use Rattle.parallel_load.specs.declared.loaded.NameLoad.TheVariants.{Unit as OfUnit, Alias as OfAlias}
 use Rattle.parallel_load.specs.declared.mains.Settled.{Settled}
+use Rattle.parallel_load.specs.declared.patching.LoadsAgain.{LoadsAgain}
 use Rattle.parallel_load.specs.Alone.{IsLoadAlone}
 use Rattle.parallel_load.specs.Found.{IsFound}
 use Rattle.parallel_load.specs.KeptLoadLaws.{KeepsItsNames, same_names_keep_the_universe, words_keep_visible_names}
@@ -204,7 +206,7 @@ again_next t folders ms names named i news old lists new l each o e n r h =
     taken (x ∷ xs) (suc k) h = ap suc (taken xs k (omega arith))
 
 -- they are that for an equal host
-pub again_as : (store : EntryMap) (h k : Looker) (folders : List (List ℕ)) (ms ns : List (Name × ℕ)) (olds names : List (Name × NameLoad)) (lists named : List (List DependencyList))
+again_as : (store : EntryMap) (h k : Looker) (folders : List (List ℕ)) (ms ns : List (Name × ℕ)) (olds names : List (Name × NameLoad)) (lists named : List (List DependencyList))
     (news : List (Name × NameLoad)) → h ≡ k → ms ≡ ns → olds ≡ names → lists ≡ named → AreLoadsAgain (view_of store h) folders ms olds lists news → AreLoadsAgain (view_of store k) folders ns names named news
 again_as store h k folders ms ns olds names lists named news e f g d a =
     let P : Looker → Type 0 = λ x. AreLoadsAgain (view_of store x) folders ns names named news in
@@ -212,6 +214,14 @@ again_as store h k folders ms ns olds names lists named news e f g d a =
     let R : List (Name × NameLoad) → Type 0 = λ x. AreLoadsAgain (view_of store h) folders ms x named news in
     let S : List (List DependencyList) → Type 0 = λ x. AreLoadsAgain (view_of store h) folders ms olds x news in
     subst P e (subst Q f (subst R g (subst S d a)))
+
+-- the same of what is there
+pub again_there : (store : EntryMap) (h k : Looker) (folders : List (List ℕ)) (ms ns : List (Name × ℕ)) (olds names : List (Name × NameLoad)) (lists named : List (List DependencyList))
+    (o : Option LoadsAgain) (x : LoadsAgain) → h ≡ k → ms ≡ ns → olds ≡ names → lists ≡ named → o ≡ Some x → IfSome o (λ all. AreLoadsAgain (view_of store h) folders ms olds lists all.names.items)
+    → AreLoadsAgain (view_of store k) folders ns names named x.names.items
+again_there store h k folders ms ns olds names lists named o x e f g d is a =
+    let P : Option LoadsAgain → Type 0 = λ one. IfSome one (λ all. AreLoadsAgain (view_of store h) folders ms olds lists all.names.items) in
+    again_as store h k folders ms ns olds names lists named x.names.items e f g d (subst P is a)
 
 -- rows with what their names stand for now
 abbrev rows_with : List Settled → List (Name × NameLoad) → List Settled

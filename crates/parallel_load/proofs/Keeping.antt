@@ -1,5 +1,5 @@
 -- Facts that hold of each element of a list, and lists that are compared.
-use Rattle.std.proofs.Common.{◌≡◌, ◌<◌, ◌+◌, ◌&&◌, ◌||◌, ℕ, Bool, true, false, List, [], ◌∷◌, ◌++◌, length, get_or, take, refl, ap, sym, ◌∙◌, subst, inl, inr}
+use Rattle.std.proofs.Common.{◌≡◌, ◌<◌, ◌+◌, ◌||◌, ℕ, Bool, true, false, List, [], ◌∷◌, ◌++◌, length, get_or, take, refl, ap, sym, ◌∙◌, subst, inl, inr}
 use denote.Enum.Bare.{same_true}
 use Rattle.std.specs.Prelude.{◌↔◌, IsPermutation, IsSorted}
 use Rattle.std.specs.List.{All, dedup, list_any}
@@ -18,6 +18,7 @@ use Rattle.setting_rules.specs.declared.kinds.DepKind.{DepKind}
 use Rattle.setting_rules.specs.Dependencies.{in_byte_order}
 use Rattle.setting_rules.specs.OrderLaws.{names_rise, names_stay}
 use Rattle.setting_rules.specs.SortedLaws.{sorted_is}
+use Rattle.parallel_load.specs.SameLaws.{first_true, same_by, second_true}
 
 -- one more element of which it holds
 pub all_more : {X : Type 0} (P : X → Type 0) (xs : List X) (i : ℕ) (d x : X) → i < length xs → x ≡ get_or xs i d → All P (take i xs) → P x → All P (take (i + 1) xs)
@@ -25,22 +26,6 @@ all_more P xs i d x l e h p =
     subst (All P) (sym (take_more xs i d l ∙ ap (λ y. take i xs ++ y ∷ []) (sym e))) (All-append P (take i xs) (x ∷ []) h (All-cons P x [] p (All-nil P)))
 
 -- ---- lists that are compared
-
-first_true : (a b : Bool) → (a && b) ≡ true → a ≡ true
-first_true true b h = refl
-first_true false b h = cc (h)
-
-second_true : (a b : Bool) → (a && b) ≡ true → b ≡ true
-second_true true b h = h
-second_true false b h = cc (h)
-
--- what a test of all elements has told
-pub same_by : {X : Type 0} (E : X → X → Bool) → ((x y : X) → E x y ≡ true → x ≡ y) → (xs ys : List X) → pointwise E xs ys ≡ true → xs ≡ ys
-same_by E f [] [] h = refl
-same_by E f [] (y ∷ ys) h = cc (h)
-same_by E f (x ∷ xs) [] h = cc (h)
-same_by E f (x ∷ xs) (y ∷ ys) h =
-    ap (λ z. z ∷ xs) (f x y (first_true (E x y) (pointwise E xs ys) h)) ∙ ap (λ zs. y ∷ zs) (same_by E f xs ys (second_true (E x y) (pointwise E xs ys) h))
 
 one_same : (x y : DependencyList) → (list_eq.eq-value).it x y ≡ true → x ≡ y
 one_same x y h =

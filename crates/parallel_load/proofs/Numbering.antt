@@ -10,6 +10,7 @@ use Rattle.std.specs.Result.{IfOk}
 use Rattle.std.proofs.lemmas.List.Elements.{All-nil, All-cons}
 use Rattle.std.proofs.lemmas.Option.{none-some, same_Some}
 use Rattle.list_laws.specs.Members.{IsAmong, among_from_contains, contains_from_among, none_there}
+use Rattle.load_places.specs.Levels.{Looker}
 use Rattle.sorted_pairs.specs.Places.{IsAt, IsGap}
 use Rattle.sorted_pairs.specs.PlaceLaws.{at_within, find_at, find_gap}
 use Rattle.unit_name.specs.Names.{Name, name_cmp}
@@ -32,8 +33,9 @@ use Rattle.parallel_load.specs.LoadRows.{IsKept, IsSettledRow}
 use Rattle.parallel_load.specs.Loads.{LoadMap, lists_in, unit_part}
 use Rattle.parallel_load.specs.Numbering.{AreNumbered, IsMainNumber, main_name}
 use Rattle.parallel_load.specs.Numbers.{AreDependenciesOf, AreDependencyRows, HasNumber, IsDependencyOf, IsUnitAmong, name_of}
+use Rattle.parallel_load.specs.OwnWords.{NamedWords}
 use Rattle.parallel_load.specs.PairLaws.{among_find, find_among}
-use Rattle.parallel_load.specs.Settled.{AreSettled, IsWhole, dependency_of, list_numbers, list_settled, load_numbers, load_settled, name_lists, name_loads, name_numbers, other_number, other_numbers, settled_name, unit_settled, unless_unit}
+use Rattle.parallel_load.specs.Settled.{AreSettled, IsSettledLoad, IsWhole, dependency_of, list_numbers, list_settled, load_numbers, load_settled, name_lists, name_loads, name_numbers, other_number, other_numbers, settled_name, unit_settled, unless_unit}
 
 -- ---- names with the numbers of their main names
 
@@ -326,13 +328,14 @@ is_ready found pairs ms all sorted whole few numbered e f =
     })
 
 -- and the load is made of it
-pub settled_load : {F : Type 0} (found : List (Name × NameLoad)) (all : List Settled) → AreSettled found (name_loads all) (name_lists all) → (r : Result LoadMap F)
-    → IfOk r (λ load. load.names ≡ name_loads all) → IfOk r (λ load. load.named ≡ name_lists all) → IfOk r (λ load. AreSettled found load.names load.named)
-settled_load found all h (Ok load) e f =
+pub settled_load : {F : Type 0} (found : List (Name × NameLoad)) (all : List Settled) (host : Looker) (extra : List Name) (words : NamedWords) → AreSettled found (name_loads all) (name_lists all)
+    → (r : Result LoadMap F) → IfOk r (λ load. load.host ≡ host) → IfOk r (λ load. load.extra ≡ extra) → IfOk r (λ load. load.names ≡ name_loads all) → IfOk r (λ load. load.named ≡ name_lists all)
+    → IfOk r (λ load. load.words ≡ words) → IfOk r (IsSettledLoad found host extra words)
+settled_load found all host extra words h (Ok load) own asked e f kept =
     let P : List (Name × NameLoad) → Type 0 = λ names. AreSettled found names load.named in
     let Q : List (List DependencyList) → Type 0 = λ named. AreSettled found (name_loads all) named in
-    subst P (sym e) (subst Q (sym f) h)
-settled_load found all h (Err x) e f = tt
+    record { host_is = own; extra_is = asked; settled = subst P (sym e) (subst Q (sym f) h); words_are = kept }
+settled_load found all host extra words h (Err x) own asked e f kept = tt
 
 -- ---- how the numbers are found
 

@@ -10,6 +10,7 @@ use Rattle.std.specs.Result.{IfErr, IsErrAnd}
 use Rattle.std.proofs.lemmas.List.{length-map}
 use Rattle.std.proofs.lemmas.List.Elements.{All-nil, All-cons, All-head, All-tail}
 use Rattle.list_laws.specs.Members.{IsAmong}
+use Rattle.load_places.specs.Levels.{Looker}
 use Rattle.path_maps.specs.Views.{View, looker_of}
 use Rattle.unit_name.specs.Names.{Name, name_cmp}
 use Rattle.setting_rules.specs.declared.dependency_lists.DependencyList.{DependencyList}
@@ -40,7 +41,7 @@ use Rattle.parallel_load.specs.Indexes.{key_at}
 use Rattle.parallel_load.specs.Loads.{AreNamedAlone, IsLoad, IsNameLoad, IsNamedAlone, LoadMap, by_mains, list_by_mains, lists_in}
 use Rattle.parallel_load.specs.Numbering.{AreNumbered, main_name}
 use Rattle.parallel_load.specs.OwnWords.{AreOwnWords, NamedWords}
-use Rattle.parallel_load.specs.Settled.{AreSettled, IsWhole, list_settled, load_settled, name_lists, name_loads, other_mains, other_numbers, settled_name, unit_settled, unless_unit}
+use Rattle.parallel_load.specs.Settled.{AreSettled, IsSettledLoad, IsWhole, list_settled, load_settled, name_lists, name_loads, other_mains, other_numbers, settled_name, unit_settled, unless_unit}
 use Rattle.parallel_load.specs.Universe.{AreUniverse, IsSource, IsTooLarge, LeadsTo}
 use Rattle.parallel_load.specs.UniverseLaws.{all_among, sorted_from}
 use Rattle.parallel_load.proofs.Closing.{step_leads, too_large, universe_is}
@@ -183,6 +184,10 @@ module _ (s : View) (extra : List Name) (found : List (Name × NameLoad)) (f : I
     named = named_is s _ load.names _ load.named (sym settled.names_are) (sym settled.named_are) (named_all s settled.mains found f.loaded);
     words = words;
   }
+
+  -- made of it for the host that looks, with the words of what is seen
+  pub load_made : (host : Looker) (words : NamedWords) (load : LoadMap) → host ≡ looker_of s → AreOwnWords s words → IsSettledLoad found host extra words load → IsLoad s extra load
+  load_made host words load e own made = load_is load (made.host_is ∙ e) made.extra_is made.settled (subst (AreOwnWords s) (sym made.words_are) own)
 
   -- which isn't too large
   pub not_too_large : ¬ IsTooLarge s extra

@@ -19,6 +19,7 @@ pub mod OwnWords
 pub mod PairLaws
 pub mod Refreshes
 pub mod Refusals
+pub mod SameLaws
 pub mod Settled
 pub mod Sources
 pub mod Touched

@@ -5,6 +5,7 @@ use Rattle.std.specs.FinMap.{find}
 use Rattle.std.specs.List.{filter_map, flat_map}
 use Rattle.std.specs.Option.{option_and_then}
 use Rattle.list_laws.specs.Members.{IsAmong}
+use Rattle.load_places.specs.Levels.{Looker}
 use Rattle.unit_name.specs.Names.{Name, name_cmp}
 use Rattle.setting_rules.specs.declared.dependency_lists.DependencyList.{DependencyList}
 use Rattle.setting_rules.specs.declared.kinds.DepKind.{DepKind}
@@ -17,8 +18,9 @@ use Rattle.parallel_load.specs.declared.loaded.NameLoad.TheVariants.{Unit as OfU
 use Rattle.parallel_load.specs.declared.mains.Settled.{Settled}
 use Rattle.parallel_load.specs.Alone.{named_in}
 use Rattle.parallel_load.specs.Indexes.{key_at}
-use Rattle.parallel_load.specs.Loads.{lists_in}
+use Rattle.parallel_load.specs.Loads.{LoadMap, lists_in}
 use Rattle.parallel_load.specs.Numbering.{AreNumbered}
+use Rattle.parallel_load.specs.OwnWords.{NamedWords}
 
 -- ---- dependencies by the numbers of main names
 
@@ -93,3 +95,10 @@ pub record AreSettled (found names : List (Name × NameLoad)) (named : List (Lis
   pub numbered : AreNumbered found found mains
   pub names_are : names ≡ name_loads (map (settled_name mains) found)
   pub named_are : named ≡ name_lists (map (settled_name mains) found)
+
+-- This load is made of what was found, for a host or without one, with these names asked for and these words.
+pub record IsSettledLoad (found : List (Name × NameLoad)) (host : Looker) (extra : List Name) (words : NamedWords) (load : LoadMap) : Type 0 where
+  pub host_is : load.host ≡ host
+  pub extra_is : load.extra ≡ extra
+  pub settled : AreSettled found load.names load.named
+  pub words_are : load.words ≡ words

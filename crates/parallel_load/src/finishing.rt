@@ -7,7 +7,7 @@ ghost use Rattle.std.specs.List.Sorted.{IsStrictlySortedBy};
 ghost use Rattle.unit_name.specs.Names.{name_cmp};
 ghost use Rattle.parallel_load.specs.LoadRows.{IsKept};
 ghost use Rattle.parallel_load.specs.Numbering.{AreNumbered};
-ghost use Rattle.parallel_load.specs.Settled.{AreSettled, IsWhole, name_lists, name_loads, name_numbers, settled_name};
+ghost use Rattle.parallel_load.specs.Settled.{IsSettledLoad, IsWhole, name_lists, name_loads, name_numbers, settled_name};
 
 use crate::kept::{Kept, NamedLists};
 use crate::loaded::{Dependency, KeptRows, Loaded, NameLoad};
@@ -33,15 +33,11 @@ pub(crate) fn settled(
     requires rising { IsStrictlySortedBy name_cmp (keys found) }
     requires whole { IsWhole found.entries }
     requires few { length found.entries ≤ 4096 }
-    ensures host { IfOk result (λ load. load.host ≡ option_copied host.entry) }
-    ensures extra { IfOk result (λ load. load.extra ≡ extra.now) }
-    ensures names { IfOk result (λ load. AreSettled found.entries load.names load.named) }
-    ensures words { IfOk result (λ load. load.words ≡ words) }
+    ensures load { IfOk result (IsSettledLoad found.entries (option_copied host.entry) extra.now words) }
 {
-    let Found { pairs, mains } = found_of(alloc, found)?;
-    let fresh = fresh_among(&pairs);
+    let Found { pairs, mains, read } = found_of(alloc, found)?;
     let names = mains.settle_all(alloc, pairs)?;
-    load_of(alloc, host, extra, words, names, mains, fresh)
+    load_of(alloc, host, extra, words, names, mains, read)
 }
 
 /// The same, where so many workers put the main names in, each for a share of the names. It may wait for threads.
@@ -58,22 +54,19 @@ pub(crate) fn settled_by_workers<R: Threads + Sync>(
     requires rising { IsStrictlySortedBy name_cmp (keys found) }
     requires whole { IsWhole found.entries }
     requires few { length found.entries ≤ 4096 }
-    ensures host { IfOk result (λ load. load.host ≡ option_copied host.entry) }
-    ensures extra { IfOk result (λ load. load.extra ≡ extra.now) }
-    ensures names { IfOk result (λ load. AreSettled found.entries load.names load.named) }
-    ensures words { IfOk result (λ load. load.words ≡ words) }
+    ensures load { IfOk result (IsSettledLoad found.entries (option_copied host.entry) extra.now words) }
 {
-    let Found { pairs, mains } = found_of(alloc, found)?;
-    let fresh = fresh_among(&pairs);
+    let Found { pairs, mains, read } = found_of(alloc, found)?;
     let names = settle_by_workers(rt, alloc, &mains, pairs, workers)?;
-    load_of(alloc, host, extra, words, names, mains, fresh)
+    load_of(alloc, host, extra, words, names, mains, read)
 }
 
-// What was found, in order, and the numbers of main names.
+// What was found, in order, the numbers of main names, and how many units were read.
 #[derive(Drop)]
 struct Found {
     pairs: Vec<(UnitName, Kept)>,
     mains: Mains,
+    read: u64,
 }
 
 // What was found, in order.
@@ -84,7 +77,8 @@ fn found_of(alloc: Global, found: BTreeMap<UnitName, Kept>) -> Result<Found, All
 {
     let pairs = pairs_of(alloc, found)?;
     let mains = Mains::of(alloc, pairs.as_slice())?;
-    Ok(Found { pairs, mains })
+    let read = fresh_among(&pairs);
+    Ok(Found { pairs, mains, read })
 }
 
 // The entries of a map in the order of their keys.

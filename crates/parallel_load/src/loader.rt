@@ -1,13 +1,10 @@
 //! What is loaded for one name.
 ghost use Rattle.std.specs.Prelude.{◌≡◌, ◌++◌, ◌∷◌, [], IfOk, OnOk};
-ghost use Rattle.std.specs.Option.{option_copied};
-ghost use Rattle.path_maps.specs.Views.{view_of};
 ghost use Rattle.parallel_load.specs.Alone.{named_in, names_in_lists};
 
 use crate::kept::Kept;
 use fragment_choice::AliasIndex;
 use name_closure::Loads;
-use replica_store::{HostName, Store};
 use setting_rules::DependencyList;
 use std::alloc::{AllocError, Global};
 use unit_loads::load_resolved;
@@ -20,16 +17,11 @@ pub(crate) struct UnitLoader<'a> {
 }
 
 impl<'a> UnitLoader<'a> {
-    /// The loader of a store for a host, or without one. It fails for want of memory alone.
-    pub fn of(
-        alloc: Global,
-        store: &'a Store,
-        host: Option<&'a HostName>,
-    ) -> Result<UnitLoader<'a>, AllocError>
-        ensures seen { IfOk result (λ loader. loader.index ≡ view_of store.now (option_copied host.entry)) }
+    /// The loader of the store of an index. It takes no memory.
+    pub fn new(index: AliasIndex<'a>) -> UnitLoader<'a>
+        ensures index { result.index ≡ index.entry }
     {
-        let index = AliasIndex::of(alloc, store, host)?;
-        Ok(UnitLoader { index })
+        UnitLoader { index }
     }
 }
 

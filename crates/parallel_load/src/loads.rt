@@ -2,9 +2,11 @@
 ghost use Rattle.std.specs.Prelude.{◌≡◌, ◌↔◌, ◌⊎◌, ◌<◌, Err, IfOk, IfErr};
 ghost use Rattle.std.specs.Option.{option_copied};
 ghost use Rattle.path_maps.specs.Views.{view_of};
+ghost use Rattle.list_laws.specs.Members.{IsAmong};
 ghost use Rattle.parallel_load.specs.Loads.{IsLoad};
+ghost use Rattle.parallel_load.specs.OwnWords.{AreOwnWords};
 ghost use Rattle.parallel_load.specs.Refusals.{OnTooMany, OnWorkers};
-ghost use Rattle.parallel_load.specs.Universe.{IsTooLarge};
+ghost use Rattle.parallel_load.specs.Universe.{IsSource, IsTooLarge};
 ghost use Rattle.parallel_load.specs.declared.faults.LoadFault.TheVariants.{Workers};
 
 use crate::faults::LoadFault;
@@ -13,10 +15,11 @@ use crate::loaded::Loaded;
 use crate::loader::UnitLoader;
 use crate::sources::sources;
 use crate::words::KeptWords;
+use fragment_choice::AliasIndex;
 use name_closure::close_loaded;
 use plain_values::Shared;
 use replica_store::{HostName, Store};
-use std::alloc::Global;
+use std::alloc::{AllocError, Global};
 use std::thread::Threads;
 use unit_name::UnitName;
 use worker_rounds::{Gate, close_loaded_by_workers, is_crew};
@@ -41,10 +44,11 @@ pub fn load_here(
     ensures not_over { IfOk result (λ _. ¬ IsTooLarge (view_of store.now (option_copied host.entry)) extra.now) }
     ensures no_workers { IfErr result (λ fault. OnWorkers fault ⊥) }
 {
-    let words = KeptWords::of(alloc, &store.seen_by(host))?;
-    let sources = sources(alloc, &words, extra)?;
-    let words = Shared::new(alloc, words)?;
-    let loader = UnitLoader::of(alloc, store, host)?;
+    let Start {
+        words,
+        sources,
+        loader,
+    } = start_of(alloc, store, host, extra)?;
     let found = close_loaded(alloc, &loader, &sources, MOST_NAMES)?;
     Ok(settled(alloc, host, extra, words, found)?)
 }
@@ -72,10 +76,44 @@ pub fn load_fleet<R: Threads + Sync, G: Gate + Sync>(
     if !is_crew(workers) {
         return Err(LoadFault::Workers);
     }
+    let Start {
+        words,
+        sources,
+        loader,
+    } = start_of(alloc, store, host, extra)?;
+    let found = close_loaded_by_workers(rt, alloc, &loader, &sources, MOST_NAMES, workers, gate)?;
+    Ok(settled_by_workers(rt, alloc, host, extra, words, found, workers)?)
+}
+
+// Where a load begins: the words of what is seen, the names that are asked for and all at which something is visible, and what
+// loads names.
+#[derive(Drop)]
+struct Start<'a> {
+    words: Shared<KeptWords>,
+    sources: Vec<UnitName>,
+    loader: UnitLoader<'a>,
+}
+
+// Where the load of a store begins for a host, or without one. It fails for want of memory alone.
+fn start_of<'a>(
+    alloc: Global,
+    store: &'a Store,
+    host: Option<&'a HostName>,
+    extra: &[UnitName],
+) -> Result<Start<'a>, AllocError>
+    ensures words { IfOk result (λ start. AreOwnWords (view_of store.now (option_copied host.entry)) start.words) }
+    ensures sources { IfOk result (λ start. (n : _) → IsAmong n start.sources.items
+        ↔ IsSource (view_of store.now (option_copied host.entry)) extra.now n) }
+    ensures seen { IfOk result (λ start. start.loader.index ≡ view_of store.now (option_copied host.entry)) }
+{
     let words = KeptWords::of(alloc, &store.seen_by(host))?;
     let sources = sources(alloc, &words, extra)?;
     let words = Shared::new(alloc, words)?;
-    let loader = UnitLoader::of(alloc, store, host)?;
-    let found = close_loaded_by_workers(rt, alloc, &loader, &sources, MOST_NAMES, workers, gate)?;
-    Ok(settled_by_workers(rt, alloc, host, extra, words, found, workers)?)
+    let index = AliasIndex::of(alloc, store, host)?;
+    let loader = UnitLoader::new(index);
+    Ok(Start {
+        words,
+        sources,
+        loader,
+    })
 }

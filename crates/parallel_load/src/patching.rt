@@ -6,7 +6,7 @@ ghost use Rattle.path_maps.specs.Views.{view_of};
 ghost use Rattle.fragment_choice.specs.Resolutions.{main};
 ghost use Rattle.fragment_choice.specs.UnitNames.{AreNames};
 ghost use Rattle.unit_loads.specs.Units.{IsUnit};
-ghost use Rattle.parallel_load.specs.LoadRows.{AreLoadsAgain, IsLoadAgain, IsOwnUnit, IsReadAgain};
+ghost use Rattle.parallel_load.specs.LoadRows.{AreLoadsAgain, IsLoadAgain, IsOwnUnit};
 ghost use Rattle.parallel_load.specs.Loads.{IsLoad};
 ghost use Rattle.parallel_load.specs.Refreshes.{IsBefore};
 ghost use Rattle.parallel_load.specs.Touched.{HasParts, KeepsWords};
@@ -95,7 +95,8 @@ struct LoadAgain {
     is_fresh: bool,
 }
 
-// What a name stands for: as it was, or read again where one of these parts is in its unit's footprint.
+// What a name stands for: as it was, or read again where one of these parts is in its unit's footprint. None where it then names
+// otherwise than it did.
 fn load_again(
     alloc: Global,
     store: &Store,
@@ -117,29 +118,6 @@ fn load_again(
             is_fresh: false,
         }));
     }
-    match read_again(alloc, store, host, mains, one, lists)? {
-        Some(load) => Ok(Some(LoadAgain {
-            load,
-            is_fresh: true,
-        })),
-        None => Ok(None),
-    }
-}
-
-// A unit that is read again, where it names what it named.
-fn read_again(
-    alloc: Global,
-    store: &Store,
-    host: Option<&HostName>,
-    mains: &Mains,
-    one: &(UnitName, NameLoad),
-    lists: &NamedLists,
-) -> Result<Option<NameLoad>, AllocError>
-    requires own { IsOwnUnit (view_of store.now (option_copied host)) one.now }
-    ensures again { IfOk result (λ again. IfSome again (IsReadAgain (view_of store.now (option_copied host.entry))
-        mains.now one.now lists.now)) }
-{
-    let (name, load) = one;
     let NameLoad::Unit(was) = load else {
         return Ok(None);
     };
@@ -147,7 +125,10 @@ fn read_again(
     if unit.deps.as_slice() == lists.as_slice() {
         let kept = Kept::fresh(alloc, unit)?;
         let settled = mains.settle(alloc, name.try_clone()?, kept)?;
-        Ok(Some(settled.load))
+        Ok(Some(LoadAgain {
+            load: settled.load,
+            is_fresh: true,
+        }))
     } else {
         Ok(None)
     }

@@ -1,7 +1,11 @@
 //! Loads that are refreshed where little changed.
-ghost use Rattle.std.specs.Prelude.{◌≡◌, IfOk, IfErr};
+ghost use Rattle.std.specs.Prelude.{◌≡◌, ◌≤◌, IfOk, IfErr, length};
+ghost use Rattle.std.specs.BTreeMap.{keys};
 ghost use Rattle.std.specs.List.{All};
+ghost use Rattle.std.specs.List.Sorted.{IsStrictlySortedBy};
 ghost use Rattle.path_maps.specs.Views.{view_of};
+ghost use Rattle.unit_name.specs.Names.{name_cmp};
+ghost use Rattle.parallel_load.specs.Found.{IsFound};
 ghost use Rattle.parallel_load.specs.Loads.{IsLoad};
 ghost use Rattle.parallel_load.specs.Refreshes.{IsBefore};
 ghost use Rattle.parallel_load.specs.Refusals.{OnTooMany, OnWorkers};
@@ -12,15 +16,19 @@ use crate::apart::TouchedPart;
 use crate::faults::LoadFault;
 use crate::finishing::settled;
 use crate::held::{HeldLoader, still_of};
+use crate::kept::Kept;
 use crate::loaded::Loaded;
 use crate::loader::UnitLoader;
 use crate::loads::{MOST_NAMES, load_here};
 use crate::patching::patched;
 use crate::sources::sources;
 use crate::touched::{keeps_words, parts_touched};
+use fragment_choice::AliasIndex;
 use name_closure::close_loaded;
 use plain_values::TryClone;
 use replica_store::{Place, Store};
+use std::collections::BTreeMap;
+use unit_name::UnitName;
 
 /// The load of a store, made from the load of another, where these places are all at which the two show otherwise: what
 /// `load_here` gives from the store for the same host with the same names asked for, refusals too.
@@ -41,35 +49,36 @@ pub fn refresh(loaded: &Loaded, store: &Store, touched: &[Place]) -> Result<Load
         return load_here(alloc, store, host, loaded.extra());
     }
     let parts = parts_touched(alloc, host, touched)?;
-    match patched(loaded, store, touched, &parts)? {
-        Some(load) => Ok(load),
-        None => close_again(loaded, store, touched, &parts),
+    if let Some(load) = patched(loaded, store, touched, &parts)? {
+        return Ok(load);
     }
+    let found = found_again(loaded, store, touched, &parts)?;
+    let words = loaded.words().try_clone()?;
+    Ok(settled(alloc, host, loaded.extra(), words, found)?)
 }
 
-// The same where words stay, and all paths that changed begin with these parts: what stays is taken from the load.
-fn close_again(
+// What is found where words stay, and all paths that changed begin with these parts: what stays is taken from the load.
+fn found_again(
     loaded: &Loaded,
     store: &Store,
     touched: &[Place],
     parts: &[TouchedPart],
-) -> Result<Loaded, LoadFault>
+) -> Result<BTreeMap<UnitName, Kept>, LoadFault>
     requires before { IsBefore loaded.now store.now touched.now }
     requires words { All (KeepsWords loaded.now.host loaded.now.words (view_of store.now loaded.now.host)) touched.now }
     requires parts { All (HasParts loaded.now.host parts.now) touched.now }
-    ensures load { IfOk result (IsLoad (view_of store.now loaded.now.host) loaded.now.extra) }
+    ensures found { IfOk result (λ found. IsFound (view_of store.now loaded.now.host) loaded.now.extra found.entries) }
+    ensures rising { IfOk result (λ found. IsStrictlySortedBy name_cmp (keys found)) }
+    ensures few { IfOk result (λ found. length found.entries ≤ 4096) }
     ensures over { IfErr result (λ fault. OnTooMany fault (IsTooLarge (view_of store.now loaded.now.host) loaded.now.extra)) }
-    ensures not_over { IfOk result (λ _. ¬ IsTooLarge (view_of store.now loaded.now.host) loaded.now.extra) }
     ensures no_workers { IfErr result (λ fault. OnWorkers fault ⊥) }
 {
     let alloc = loaded.allocator();
     let host = loaded.host();
-    let extra = loaded.extra();
-    let held = still_of(alloc, loaded, parts)?;
     let words = loaded.words();
-    let sources = sources(alloc, words.get(), extra)?;
-    let reader = UnitLoader::of(alloc, store, host)?;
-    let loader = HeldLoader::of(reader, held);
-    let found = close_loaded(alloc, &loader, &sources, MOST_NAMES)?;
-    Ok(settled(alloc, host, extra, words.try_clone()?, found)?)
+    let sources = sources(alloc, words.get(), loaded.extra())?;
+    let held = still_of(alloc, loaded, parts)?;
+    let index = AliasIndex::of(alloc, store, host)?;
+    let loader = HeldLoader::of(UnitLoader::new(index), held);
+    Ok(close_loaded(alloc, &loader, &sources, MOST_NAMES)?)
 }

@@ -1,3 +1,4 @@
+use Rattle.std.specs.Option.{option_copied}
 use Rattle.parallel_load.specs.UniverseLaws.{sorted_from}
 use Rattle.parallel_load.proofs.Numbering.{is_ready, settled_load}
 use Rattle.parallel_load.proofs.finishing.settled.Goals as goal
@@ -7,7 +8,8 @@ load_of-requires c =
     let ready = is_ready c.args.found.entries _ _ c.in_ok-names.names.items (sorted_from c.args.found.entries c.requires.rising) c.requires.whole c.requires.few c.in_ok-pairs.ensures.mains c.in_ok-pairs.ensures.pairs c.in_ok-names.ensures.names in
     record { kept = ready.kept }
 
-pub returns-clause-names : goal.returns-clause-names
-returns-clause-names c =
+pub returns : goal.returns
+returns c =
     let ready = is_ready c.args.found.entries _ _ c.in_ok-names.names.items (sorted_from c.args.found.entries c.requires.rising) c.requires.whole c.requires.few c.in_ok-pairs.ensures.mains c.in_ok-pairs.ensures.pairs c.in_ok-names.ensures.names in
-    settled_load c.args.found.entries c.in_ok-names.names.items ready.settled c.load_of.result c.load_of.ensures.names c.load_of.ensures.named
+    let made = c.load_of.ensures in
+    record { load = settled_load c.args.found.entries c.in_ok-names.names.items (option_copied c.args.host) c.args.extra.now c.args.words ready.settled c.load_of.result made.host made.extra made.names made.named made.words }

@@ -1,47 +1,32 @@
-use Rattle.std.proofs.Common.{sym, ◌∙◌, subst}
+use Rattle.std.proofs.Common.{sym}
 use Rattle.std.specs.Option.{option_copied}
 use Rattle.path_maps.specs.SeenLaws.{one_looker}
-use Rattle.path_maps.specs.Views.{View, view_of}
-use Rattle.parallel_load.specs.OwnWords.{AreOwnWords}
+use Rattle.path_maps.specs.Views.{view_of}
 use Rattle.parallel_load.specs.Universe.{IsTooLarge}
-use Rattle.parallel_load.proofs.Settling.{found_from, load_is, not_too_large, over_here, refused_over, seen_words, whole_found}
+use Rattle.parallel_load.proofs.Settling.{found_from, load_made, not_too_large, over_here, refused_over, whole_found}
 use Rattle.parallel_load.proofs.loads.load_here.Goals as goal
 
 pub returns-in_err-found-clause-over : goal.returns-in_err-found-clause-over
 returns-in_err-found-clause-over c =
-    refused_over c.from_residual-in_err-found.result _ (IsTooLarge (view_of c.args.store.now (option_copied c.args.host)) c.args.extra.now)
-    c.from_residual-in_err-found.ensures.1
-    (over_here (view_of c.args.store.now (option_copied c.args.host)) c.in_ok-loader.loader.index c.in_ok-loader.ensures.seen
-    c.args.extra.now c.in_ok-sources.sources.items c.deref.result.now
-    (c.in_ok-sources.ensures.sources (view_of c.args.store.now (option_copied c.args.host))
-    (subst (λ (v : View). AreOwnWords v c.in_ok-words.words) c.seen_by.ensures.view c.in_ok-words.ensures.words)) c.deref.ensures.value
-    c.in_err-found.field-0.0 c.in_err-found.ensures.over)
+    let s = view_of c.args.store.now (option_copied c.args.host) in
+    refused_over c.from_residual-in_err-found.result _ (IsTooLarge s c.args.extra.now) c.from_residual-in_err-found.ensures.1
+    (over_here s c.in_ok-words.field-0.loader.index c.in_ok-words.ensures.seen c.args.extra.now c.in_ok-words.field-0.sources.items c.deref.result.now c.in_ok-words.ensures.sources c.deref.ensures.value c.in_err-found.field-0.0 c.in_err-found.ensures.over)
 
 pub settled-requires-clause-whole : goal.settled-requires-clause-whole
 settled-requires-clause-whole c =
-    whole_found (view_of c.args.store.now (option_copied c.args.host)) c.args.extra.now c.in_ok-found.found.entries
-    (found_from (view_of c.args.store.now (option_copied c.args.host)) c.in_ok-loader.loader.index c.in_ok-loader.ensures.seen
-    c.args.extra.now c.in_ok-sources.sources.items c.deref.result.now
-    (c.in_ok-sources.ensures.sources (view_of c.args.store.now (option_copied c.args.host))
-    (subst (λ (v : View). AreOwnWords v c.in_ok-words.words) c.seen_by.ensures.view c.in_ok-words.ensures.words)) c.deref.ensures.value
-    c.in_ok-found.found.entries c.in_ok-found.ensures.closure c.in_ok-found.ensures.loaded c.in_ok-found.ensures.room)
+    let s = view_of c.args.store.now (option_copied c.args.host) in
+    whole_found s c.args.extra.now c.in_ok-found.found.entries
+    (found_from s c.in_ok-words.field-0.loader.index c.in_ok-words.ensures.seen c.args.extra.now c.in_ok-words.field-0.sources.items c.deref.result.now c.in_ok-words.ensures.sources c.deref.ensures.value c.in_ok-found.found.entries c.in_ok-found.ensures.closure c.in_ok-found.ensures.loaded c.in_ok-found.ensures.room)
 
 pub returns-clause-load : goal.returns-clause-load
 returns-clause-load c =
-    load_is (view_of c.args.store.now (option_copied c.args.host)) c.args.extra.now c.in_ok-found.found.entries
-    (found_from (view_of c.args.store.now (option_copied c.args.host)) c.in_ok-loader.loader.index c.in_ok-loader.ensures.seen
-    c.args.extra.now c.in_ok-sources.sources.items c.deref.result.now
-    (c.in_ok-sources.ensures.sources (view_of c.args.store.now (option_copied c.args.host))
-    (subst (λ (v : View). AreOwnWords v c.in_ok-words.words) c.seen_by.ensures.view c.in_ok-words.ensures.words)) c.deref.ensures.value
-    c.in_ok-found.found.entries c.in_ok-found.ensures.closure c.in_ok-found.ensures.loaded c.in_ok-found.ensures.room)
-    c.in_ok-settled.field-0 (c.in_ok-settled.ensures.host ∙ sym (one_looker c.args.store.now (option_copied c.args.host))) c.in_ok-settled.ensures.extra c.in_ok-settled.ensures.names
-    (seen_words c.seen_by.result (view_of c.args.store.now (option_copied c.args.host)) c.in_ok-settled.field-0.words c.in_ok-words.words c.seen_by.ensures.view (c.in_ok-settled.ensures.words ∙ c.in_ok-words-2.ensures.value) c.in_ok-words.ensures.words)
+    let s = view_of c.args.store.now (option_copied c.args.host) in
+    load_made s c.args.extra.now c.in_ok-found.found.entries
+    (found_from s c.in_ok-words.field-0.loader.index c.in_ok-words.ensures.seen c.args.extra.now c.in_ok-words.field-0.sources.items c.deref.result.now c.in_ok-words.ensures.sources c.deref.ensures.value c.in_ok-found.found.entries c.in_ok-found.ensures.closure c.in_ok-found.ensures.loaded c.in_ok-found.ensures.room)
+    (option_copied c.args.host) c.in_ok-words.field-0.words c.in_ok-settled.field-0 (sym (one_looker c.args.store.now (option_copied c.args.host))) c.in_ok-words.ensures.words c.in_ok-settled.ensures.load
 
 pub returns-clause-not_over : goal.returns-clause-not_over
 returns-clause-not_over c =
-    not_too_large (view_of c.args.store.now (option_copied c.args.host)) c.args.extra.now c.in_ok-found.found.entries
-    (found_from (view_of c.args.store.now (option_copied c.args.host)) c.in_ok-loader.loader.index c.in_ok-loader.ensures.seen
-    c.args.extra.now c.in_ok-sources.sources.items c.deref.result.now
-    (c.in_ok-sources.ensures.sources (view_of c.args.store.now (option_copied c.args.host))
-    (subst (λ (v : View). AreOwnWords v c.in_ok-words.words) c.seen_by.ensures.view c.in_ok-words.ensures.words)) c.deref.ensures.value
-    c.in_ok-found.found.entries c.in_ok-found.ensures.closure c.in_ok-found.ensures.loaded c.in_ok-found.ensures.room)
+    let s = view_of c.args.store.now (option_copied c.args.host) in
+    not_too_large s c.args.extra.now c.in_ok-found.found.entries
+    (found_from s c.in_ok-words.field-0.loader.index c.in_ok-words.ensures.seen c.args.extra.now c.in_ok-words.field-0.sources.items c.deref.result.now c.in_ok-words.ensures.sources c.deref.ensures.value c.in_ok-found.found.entries c.in_ok-found.ensures.closure c.in_ok-found.ensures.loaded c.in_ok-found.ensures.room)

@@ -4,7 +4,7 @@ use Rattle.std.specs.Ordering.{eq_by_cmp}
 use Rattle.unit_name.specs.NameLaws.{name_eq-Decides}
 use Rattle.unit_name.specs.Names.{name_cmp}
 use Rattle.parallel_load.specs.OwnWords.{words_with}
-use Rattle.parallel_load.proofs.Keeping.{same_by}
+use Rattle.parallel_load.specs.SameLaws.{same_by}
 use Rattle.parallel_load.proofs.words.AliasWords.is.Goals as goal
 
 same_ends : (a b : Bool) → beq a b ≡ true → a ≡ b

@@ -1,0 +1,36 @@
+use Rattle.std.proofs.Common.{◌≡◌, ap, sym, ◌∙◌, subst}
+use Rattle.std.specs.List.{All}
+use Rattle.path_maps.specs.Views.{View, view_of}
+use Rattle.parallel_load.specs.Refreshes.{IsHeldOn}
+use Rattle.parallel_load.specs.Universe.{IsTooLarge}
+use Rattle.parallel_load.specs.UniverseLaws.{sorted_from}
+use Rattle.parallel_load.proofs.Settling.{found_from, over_here, refused_over}
+use Rattle.parallel_load.proofs.Staying.{held_loaded, held_sorted, same_sources, words_stay}
+use Rattle.parallel_load.proofs.refreshing.found_again.Goals as goal
+
+pub of-loader-requires-clause-sorted : goal.of-loader-requires-clause-sorted
+of-loader-requires-clause-sorted c =
+    held_sorted c.args.loaded.now.names c.in_ok-held.held.items c.in_ok-held.ensures.still.keys_are (sorted_from c.args.loaded.now.names c.requires.before.load_is.universe.rising)
+
+pub of-loader-requires-clause-loaded : goal.of-loader-requires-clause-loaded
+of-loader-requires-clause-loaded c =
+    subst (λ (v : View). All (IsHeldOn v) c.in_ok-held.held.items) (sym (c.new.ensures.index ∙ c.in_ok-index.ensures.seen ∙ ap (view_of c.args.store.now) c.host-host.ensures.host))
+    (held_loaded c.args.loaded.now c.args.store.now c.args.touched.now c.requires.before c.requires.words c.args.parts.now c.requires.parts c.in_ok-held.held.items c.in_ok-held.ensures.still.each)
+
+pub returns-in_err-close_loaded-clause-over : goal.returns-in_err-close_loaded-clause-over
+returns-in_err-close_loaded-clause-over c =
+    let v = view_of c.args.store.now c.args.loaded.now.host in
+    let is : c.of-loader.result ≡ v = c.of-loader.ensures.seen ∙ c.new.ensures.index ∙ c.in_ok-index.ensures.seen ∙ ap (view_of c.args.store.now) c.host-host.ensures.host in
+    let own = words_stay c.args.loaded.now c.args.store.now c.args.touched.now c.requires.before c.requires.words in
+    let same = same_sources v c.args.loaded.now.words c.get.result.now c.extra.result.now c.args.loaded.now.extra c.in_ok-sources.sources.items (c.get.ensures.value ∙ c.words-words.ensures.words) c.extra.ensures.extra own c.in_ok-sources.ensures.sources in
+    refused_over c.from_residual-in_err-close_loaded.result _ (IsTooLarge v c.args.loaded.now.extra) c.from_residual-in_err-close_loaded.ensures.1
+    (over_here v c.of-loader.result is c.args.loaded.now.extra c.in_ok-sources.sources.items c.deref.result.now same c.deref.ensures.value c.in_err-close_loaded.field-0.0 c.in_err-close_loaded.ensures.over)
+
+pub returns-clause-found : goal.returns-clause-found
+returns-clause-found c =
+    let v = view_of c.args.store.now c.args.loaded.now.host in
+    let is : c.of-loader.result ≡ v = c.of-loader.ensures.seen ∙ c.new.ensures.index ∙ c.in_ok-index.ensures.seen ∙ ap (view_of c.args.store.now) c.host-host.ensures.host in
+    let own = words_stay c.args.loaded.now c.args.store.now c.args.touched.now c.requires.before c.requires.words in
+    let same = same_sources v c.args.loaded.now.words c.get.result.now c.extra.result.now c.args.loaded.now.extra c.in_ok-sources.sources.items (c.get.ensures.value ∙ c.words-words.ensures.words) c.extra.ensures.extra own c.in_ok-sources.ensures.sources in
+    found_from v c.of-loader.result is c.args.loaded.now.extra c.in_ok-sources.sources.items c.deref.result.now same c.deref.ensures.value
+    c.in_ok-close_loaded.field-0.entries c.in_ok-close_loaded.ensures.closure c.in_ok-close_loaded.ensures.loaded c.in_ok-close_loaded.ensures.room
