@@ -1,5 +1,5 @@
 -- Loads with the same names and the same dependencies by numbers have the same edges.
-use Rattle.std.proofs.Common.{◌≡◌, ◌<◌, ◌+◌, ◌&&◌, ◌++◌, ◌⊎◌, eqb, ℕ, Bool, true, false, not, List, [], ◌∷◌, length, get_or, take, inl, inr, IsTrue, refl, ap, sym, subst, ◌∙◌, arith}
+use Rattle.std.proofs.Common.{◌≡◌, ◌<◌, ◌+◌, ◌++◌, ◌⊎◌, eqb, ℕ, Bool, true, false, not, List, [], ◌∷◌, length, get_or, take, inl, inr, IsTrue, refl, ap, sym, subst, ◌∙◌, arith}
 use Rattle.std.specs.Map.{keys_of}
 use Rattle.std.specs.Cmp.Lexicographic.{pointwise}
 use Rattle.std.specs.Ordering.{eq_by_cmp}
@@ -17,7 +17,9 @@ use Rattle.parallel_load.specs.declared.loaded.Dependency.{Dependency}
 use Rattle.parallel_load.specs.declared.loaded.NameLoad.{NameLoad}
 use Rattle.parallel_load.specs.Loads.{LoadMap}
 use Rattle.parallel_load.specs.Numbers.{AreDependencyRows}
-use Rattle.inverse_deps.specs.Edges.{AreEdges, DependsOn, EdgeMap, HaveSameEdges, IsEdge}
+use Rattle.parallel_load.specs.SameLaws.{first_true, same_by, second_true}
+use Rattle.inverse_deps.specs.EdgeLaws.{edges_go_over}
+use Rattle.inverse_deps.specs.Edges.{DependsOn, HaveSameEdges, IsEdge}
 use Rattle.inverse_deps.specs.Numbers.{count_of, name_at}
 use Rattle.inverse_deps.specs.NumberLaws.{key_at_place, keys_length, unit_number}
 use Rattle.inverse_deps.proofs.Stepping.{rows_named}
@@ -48,40 +50,10 @@ module _ (rows : List (List Dependency)) (a b : LoadMap) (in_a : HasRows a rows)
   edge dep u v (inl d) = inl (depends dep u v d)
   edge dep u v (inr d) = inr (depends (inverse dep) v u d)
 
-module _ (rows : List (List Dependency)) (a b : LoadMap) (in_a : HasRows a rows) (in_b : HasRows b rows) (names : keys_of a.names ≡ keys_of b.names) where
-  one_way : (edges : EdgeMap) → AreEdges a edges → AreEdges b edges
-  one_way edges e = record {
-    names = e.names ∙ names;
-    in_order = e.in_order;
-    lists = λ dep u. record {
-      rising = (e.lists dep u).rising;
-      exact = λ v. (
-        λ h. edge rows a b in_a in_b names dep u v (((e.lists dep u).exact v).0 h),
-        λ h. ((e.lists dep u).exact v).1 (edge rows b a in_b in_a (sym names) dep u v h),
-      );
-    };
-  }
-
 pub same_edges : (rows : List (List Dependency)) (a b : LoadMap) → HasRows a rows → HasRows b rows → keys_of a.names ≡ keys_of b.names → HaveSameEdges a b
-same_edges rows a b in_a in_b names edges = (one_way rows a b in_a in_b names edges, one_way rows b a in_b in_a (sym names) edges)
+same_edges rows a b in_a in_b names = edges_go_over a b names (λ dep u v. (edge rows a b in_a in_b names dep u v, edge rows b a in_b in_a (sym names) dep u v))
 
 -- ---- lists that a test finds the same
-
-first_true : (x y : Bool) → (x && y) ≡ true → x ≡ true
-first_true true y h = refl
-first_true false y h = cc (h)
-
-second_true : (x y : Bool) → (x && y) ≡ true → y ≡ true
-second_true true y h = h
-second_true false y h = cc (h)
-
-pub pointwise_same : {X : Type 0} (test : X → X → Bool) → ((x y : X) → test x y ≡ true → x ≡ y) → (xs ys : List X) → pointwise test xs ys ≡ true → xs ≡ ys
-pointwise_same test decides [] [] h = refl
-pointwise_same test decides [] (y ∷ ys) h = cc (h)
-pointwise_same test decides (x ∷ xs) [] h = cc (h)
-pointwise_same {X} test decides (x ∷ xs) (y ∷ ys) h =
-    ap (λ (z : X). z ∷ xs) (decides x y (first_true (test x y) (pointwise test xs ys) h))
-    ∙ ap (λ (zs : List X). y ∷ zs) (pointwise_same test decides xs ys (second_true (test x y) (pointwise test xs ys) h))
 
 one_same : (x y : Dependency) → (dep_eq.eq-value).it x y ≡ true → x ≡ y
 one_same x y h =
@@ -97,7 +69,7 @@ pub linked_alike : (a b : LoadMap) (ns ms : List (Name × NameLoad)) (rows other
     → keys_of ns ≡ keys_of ms → AreDependencyRows a.names rows → AreDependencyRows b.names others → pointwise (pointwise (dep_eq.eq-value).it) rows others ≡ true → HaveSameEdges a b
 linked_alike a b ns ms rows others e f in_order also_in_order names in_a in_b told =
     let S : List (Name × NameLoad) → Type 0 = λ es. IsTrue (is_sorted name_cmp es) in
-    let same : rows ≡ others = pointwise_same (pointwise (dep_eq.eq-value).it) (pointwise_same (dep_eq.eq-value).it one_same) rows others told in
+    let same : rows ≡ others = same_by (pointwise (dep_eq.eq-value).it) (same_by (dep_eq.eq-value).it one_same) rows others told in
     same_edges rows a b (record { sorted = subst S e in_order; are = in_a })
     (record { sorted = subst S f also_in_order; are = subst (λ (rs : List (List Dependency)). AreDependencyRows b.names rs) (sym same) in_b })
     (ap keys_of (sym e) ∙ names ∙ ap keys_of f)

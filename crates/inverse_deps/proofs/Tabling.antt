@@ -24,6 +24,7 @@ use Rattle.parallel_load.specs.Loads.{LoadMap}
 use Rattle.inverse_deps.specs.EdgeLaws.{edges_join_units}
 use Rattle.inverse_deps.specs.EdgeRows.{listed_name, rows_at}
 use Rattle.inverse_deps.specs.Edges.{IsEdge, AreEdgesFrom, AreEdges, EdgeMap, list_at, names_in, place}
+use Rattle.inverse_deps.specs.MakingLaws.{AreMade}
 use Rattle.inverse_deps.specs.Numbers.{count_of, name_at}
 use Rattle.inverse_deps.specs.NumberLaws.{find_place, keys_length, load_numbering, place_of_found, unit_number}
 use Rattle.inverse_deps.specs.Tables.{AreKept, AreListsFrom, AreNamingRows, AreNamingTables, AreTables, lists_from}
@@ -83,6 +84,14 @@ by_kinds P tables each dep =
     let at = stands_at dep in
     let Q : DepKind → Type 0 = λ d. P d (rows_at tables dep) in
     subst Q at.there (each (place dep) [] at.below)
+
+-- what was made for each of some kinds in order is there for all of them by kind, where they are all kinds
+pub made_by_kinds : (P : DepKind → List (Vec ℕ Global) → Type 0) (items : List DepKind) (tables : List (List (Vec ℕ Global))) (i : ℕ) → items ≡ kinds → i ≡ length items
+    → AreMade (λ k rows. P (get_or items k Before) rows) i tables → (length tables ≡ length kinds) × ((dep : DepKind) → P dep (rows_at tables dep))
+made_by_kinds P items tables i are end made =
+    let same : length items ≡ length kinds = ap length are in
+    let Q : List DepKind → Type 0 = λ ks. (k : ℕ) (d : List (Vec ℕ Global)) → k < length kinds → P (get_or ks k Before) (get_or tables k d) in
+    (made.count ∙ end ∙ same, by_kinds P tables (subst Q are (λ k d l. made.each k d (omega (arith, l, same, end)))))
 
 -- what stands at a place of a mapped list
 get_mapped : {X Y : Type 0} (f : X → Y) (xs : List X) (k : ℕ) (x : X) (y : Y) → k < length xs → get_or (map f xs) k y ≡ f (get_or xs k x)

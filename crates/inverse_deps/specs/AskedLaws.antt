@@ -1,13 +1,14 @@
 -- Which names were asked for makes no edge: a load has the edges that it has for others.
 -- Source: this project's own.
-use Rattle.std.proofs.Common.{List, inl, inr}
+use Rattle.std.proofs.Common.{List, inl, inr, refl}
 use Rattle.std.specs.Prelude.{◌↔◌}
 use Rattle.unit_name.specs.Names.{Name}
 use Rattle.setting_rules.specs.declared.kinds.DepKind.{DepKind}
 use Rattle.setting_rules.specs.Kinds.{inverse}
 use Rattle.parallel_load.specs.AskedLaws.{asked_for}
 use Rattle.parallel_load.specs.Loads.{LoadMap}
-use Rattle.inverse_deps.specs.Edges.{AreEdges, DependsOn, EdgeMap, HaveSameEdges, IsEdge}
+use Rattle.inverse_deps.specs.EdgeLaws.{edges_go_over}
+use Rattle.inverse_deps.specs.Edges.{DependsOn, HaveSameEdges, IsEdge}
 
 abbrev pub AskingMakesNoEdges : Type 0
 AskingMakesNoEdges = (load : LoadMap) (extra : List Name) → HaveSameEdges load (asked_for extra load)
@@ -30,25 +31,5 @@ module _ (load : LoadMap) (extra : List Name) where
       from (inl d) = inl (depended dep u v d)
       from (inr d) = inr (depended (inverse dep) v u d)
 
-  there : (edges : EdgeMap) → AreEdges load edges → AreEdges (asked_for extra load) edges
-  there edges e = record {
-    names = e.names;
-    in_order = e.in_order;
-    lists = λ dep u. record {
-      rising = (e.lists dep u).rising;
-      exact = λ v. (λ h. (same_edges dep u v).0 (((e.lists dep u).exact v).0 h), λ h. ((e.lists dep u).exact v).1 ((same_edges dep u v).1 h));
-    };
-  }
-
-  back : (edges : EdgeMap) → AreEdges (asked_for extra load) edges → AreEdges load edges
-  back edges e = record {
-    names = e.names;
-    in_order = e.in_order;
-    lists = λ dep u. record {
-      rising = (e.lists dep u).rising;
-      exact = λ v. (λ h. (same_edges dep u v).1 (((e.lists dep u).exact v).0 h), λ h. ((e.lists dep u).exact v).1 ((same_edges dep u v).0 h));
-    };
-  }
-
 pub asking_makes_no_edges : AskingMakesNoEdges
-asking_makes_no_edges load extra edges = (there load extra edges, back load extra edges)
+asking_makes_no_edges load extra = edges_go_over load (asked_for extra load) refl (same_edges load extra)

@@ -1,6 +1,7 @@
 -- Laws of edges: an edge and its inverse are one, edges join units, and a load has one list of its edges.
 use Rattle.std.proofs.Common.{◌≡◌, ◌⊎◌, ◌↔◌, List, [], ◌∷◌, Some, inl, inr, map, refl, ap, sym, subst, ◌∙◌}
 use Rattle.std.specs.List.{All}
+use Rattle.std.specs.Map.{keys_of}
 use Rattle.std.specs.Cmp.Lexicographic.{nat_list_cmp_total}
 use Rattle.std.proofs.lemmas.List.Elements.{All-head, All-tail, All-weaker}
 use Rattle.list_laws.specs.Rising.{one_rising_list}
@@ -14,7 +15,7 @@ use Rattle.unit_loads.specs.declared.units.Unit.{Unit as LoadedUnit}
 use Rattle.unit_loads.specs.NamedUnits.{IsListed}
 use Rattle.parallel_load.specs.Loads.{IsLoad, LoadMap, unit_in}
 use Rattle.parallel_load.specs.UniverseLaws.{IsDependency, dependencies_are_loaded, dependencies_are_mains}
-use Rattle.inverse_deps.specs.Edges.{IsUnitIn, DependsOn, IsEdge, EdgeMap, AreEdges, AreEdgesFrom, AreEdgesOf, names_in}
+use Rattle.inverse_deps.specs.Edges.{IsUnitIn, DependsOn, IsEdge, EdgeMap, AreEdges, AreEdgesFrom, AreEdgesOf, HaveSameEdges, names_in}
 
 -- An edge and its inverse are one.
 abbrev pub InversesAreOne : Type 0
@@ -150,3 +151,19 @@ edges_come_from_names s extra load dep u v l = (
   λ e. (let ends = edges_join_units load dep u v e in (ends.0, ends.1, one_names s extra load l dep u v e)),
   λ h. edge_of_names s extra load l dep u v h.0 h.1 h.2,
 )
+
+-- ---- loads with the same edges
+
+goes_over : (a b : LoadMap) → keys_of a.names ≡ keys_of b.names → ((dep : DepKind) (u v : Name) → IsEdge a dep u v ↔ IsEdge b dep u v) → (edges : EdgeMap) → AreEdges a edges → AreEdges b edges
+goes_over a b names same edges e = record {
+  names = e.names ∙ names;
+  in_order = e.in_order;
+  lists = λ dep u. record {
+    rising = (e.lists dep u).rising;
+    exact = λ v. (λ h. (same dep u v).0 (((e.lists dep u).exact v).0 h), λ h. ((e.lists dep u).exact v).1 ((same dep u v).1 h));
+  };
+}
+
+-- where two loads have the same names and an edge of one is an edge of the other, all edges of one are all edges of the other
+pub edges_go_over : (a b : LoadMap) → keys_of a.names ≡ keys_of b.names → ((dep : DepKind) (u v : Name) → IsEdge a dep u v ↔ IsEdge b dep u v) → HaveSameEdges a b
+edges_go_over a b names same edges = (goes_over a b names same edges, goes_over b a (sym names) (λ dep u v. ((same dep u v).1, (same dep u v).0)) edges)

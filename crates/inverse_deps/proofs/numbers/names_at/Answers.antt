@@ -11,11 +11,10 @@ loop-number-init c = c.in_ok-named.ensures.items
 
 pub loop-number-preserved : goal.loop-number-preserved
 loop-number-preserved c =
-    let load = c.args.loaded.now in
     let es = c.names-names.result.now in
     let i = c.loop-number.number-index in
     let at : ℕ = get_or c.args.numbers.now i 0 in
-    let f : ℕ → Name = name_at load in
+    let f : ℕ → Name = name_at c.args.loaded.now in
     let below : at < length es = omega (arith, c.requires.numbers i 0 c.loop-number-test.true, ap length c.names-names.ensures.names) in
     let named : c.in_ok-try_clone.field-0 ≡ f at =
     c.in_ok-try_clone.ensures.copy ∙ key_at_place es at c.index-names-number.result [] below ∙ ap (λ ns. get_or (keys_of ns) at []) c.names-names.ensures.names in

@@ -3,10 +3,9 @@ use Rattle.std.specs.declared.vec.Vec.{Vec}
 use Rattle.std.specs.declared.alloc.Global.{Global}
 use Rattle.setting_rules.specs.declared.kinds.DepKind.{DepKind}
 use Rattle.setting_rules.specs.declared.kinds.DepKind.TheVariants.{Before}
-use Rattle.setting_rules.specs.Kinds.{kinds}
 use Rattle.inverse_deps.specs.MakingLaws.{made_none, made_more}
 use Rattle.inverse_deps.specs.Tables.{AreNamingRows}
-use Rattle.inverse_deps.proofs.Tabling.{by_kinds}
+use Rattle.inverse_deps.proofs.Tabling.{made_by_kinds}
 use Rattle.inverse_deps.proofs.steps.dependency_rows.Goals as goal
 
 pub loop-kind-init : goal.loop-kind-init
@@ -21,12 +20,5 @@ loop-kind-preserved c =
 
 pub returns : goal.returns
 returns c =
-    let load = c.args.loaded.now in
-    let same : length c.all-kind-items.result.now ≡ length kinds = ap length c.all-kind-items.ensures.kinds in
-    let Q : List DepKind → Type 0 = λ ks. (k : ℕ) (d : List (Vec ℕ Global)) → k < length kinds → AreNamingRows load (get_or ks k Before) (get_or c.loop-kind.rows k d) in
-    record {
-      rows = record {
-        all = c.loop-kind.invariant.count ∙ omega (arith, same);
-        each = by_kinds (AreNamingRows load) c.loop-kind.rows (subst Q c.all-kind-items.ensures.kinds (λ k d l. c.loop-kind.invariant.each k d (omega (arith, l, same))));
-      };
-    }
+    let made = made_by_kinds (AreNamingRows c.args.loaded.now) c.all-kind-items.result.now c.loop-kind.rows c.loop-kind.kind-index c.all-kind-items.ensures.kinds (omega arith) c.loop-kind.invariant in
+    record { rows = record { all = made.0; each = made.1 } }
