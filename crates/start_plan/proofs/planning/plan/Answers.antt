@@ -1,4 +1,4 @@
-use Rattle.std.proofs.Common.{◌≡◌, ◌<◌, List, Result, IfOk, IfErr, false, true, map, ap, sym, subst, ◌∙◌}
+use Rattle.std.proofs.Common.{◌≡◌, ◌<◌, ℕ, List, Result, IfOk, IfErr, false, true, map, ap, sym, subst, ◌∙◌}
 use Rattle.std.specs.List.{All}
 use Rattle.std.specs.Cmp.Lexicographic.{nat_list_cmp_total}
 use Rattle.plan_choice.specs.declared.answers.RowPlan.{RowPlan}
@@ -16,21 +16,18 @@ use Rattle.start_plan.proofs.Answering.{stops_below, starts_below, tellable, tol
 use Rattle.start_plan.proofs.Casing.{target_known}
 use Rattle.start_plan.proofs.planning.plan.Goals as goal
 
-pub named_plan-requires-clause-stops : goal.named_plan-requires-clause-stops
-named_plan-requires-clause-stops c =
+pub named_plan-requires : goal.named_plan-requires
+named_plan-requires c =
     let load = c.args.graph.now.load in
     let P : Result RowPlan RowRefusal → Type 0 = λ o. IfOk o (λ plan. IsNumberedPlan load c.args.graph.now.edges c.args.request.now plan.stops.items plan.starts.items) in
     let p = subst P c.in-Ok.is c.in_ok-plan.ensures.plan in
-    let L : LoadMap → Type 0 = λ m. All (λ i. i < count_of m) c.in-Ok.plan.stops.items in
-    subst L (sym c.loaded.ensures.load) (stops_below load c.args.graph.now.edges c.args.request.now c.in_ok-plan.ensures.order p.case p.named _ c.in-Ok.plan.starts.items p.planned)
-
-pub named_plan-requires-clause-starts : goal.named_plan-requires-clause-starts
-named_plan-requires-clause-starts c =
-    let load = c.args.graph.now.load in
-    let P : Result RowPlan RowRefusal → Type 0 = λ o. IfOk o (λ plan. IsNumberedPlan load c.args.graph.now.edges c.args.request.now plan.stops.items plan.starts.items) in
-    let p = subst P c.in-Ok.is c.in_ok-plan.ensures.plan in
-    let L : LoadMap → Type 0 = λ m. All (λ i. i < count_of m) c.in-Ok.plan.starts.items in
-    subst L (sym c.loaded.ensures.load) (starts_below load c.args.graph.now.edges c.args.request.now c.in_ok-plan.ensures.order p.case p.named c.in-Ok.plan.stops.items _ p.planned)
+    let L : List ℕ → LoadMap → Type 0 = λ numbers m. All (λ i. i < count_of m) numbers in
+    record {
+      stops = subst (L c.in-Ok.plan.stops.items) (sym c.loaded.ensures.load)
+          (stops_below load c.args.graph.now.edges c.args.request.now c.in_ok-plan.ensures.order p.case p.named _ c.in-Ok.plan.starts.items p.planned);
+      starts = subst (L c.in-Ok.plan.starts.items) (sym c.loaded.ensures.load)
+          (starts_below load c.args.graph.now.edges c.args.request.now c.in_ok-plan.ensures.order p.case p.named c.in-Ok.plan.stops.items _ p.planned);
+    }
 
 pub returns-in_ok-named_plan-in-Ok-clause-plan : goal.returns-in_ok-named_plan-in-Ok-clause-plan
 returns-in_ok-named_plan-in-Ok-clause-plan c =
