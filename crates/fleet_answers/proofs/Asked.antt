@@ -1,5 +1,5 @@
 -- Names and places that are compared.
-use Rattle.std.proofs.Common.{◌≡◌, ◌&&◌, Bool, true, false, List, [], ◌∷◌, refl, ap, sym, ◌∙◌, subst, inl, inr, length, arith}
+use Rattle.std.proofs.Common.{◌≡◌, Bool, true, false, List, [], ◌∷◌, refl, sym, ◌∙◌, subst, inl, inr, length, arith}
 use Rattle.std.specs.Prelude.{◌↔◌, ◌≢◌, ◌⊎◌, ◌==◌, vec_len}
 use Rattle.std.specs.declared.vec.Vec.{Vec}
 use Rattle.std.specs.declared.alloc.Global.{Global}
@@ -12,6 +12,7 @@ use Rattle.load_places.specs.Places.{PlaceParts}
 use Rattle.edit_sums.specs.Sums.{EntryMap, visible_at}
 use Rattle.parallel_load.specs.AskedLaws.{AreSources, asked_for, sources_make_the_load, sources_make_the_size}
 use Rattle.parallel_load.specs.Loads.{LoadMap}
+use Rattle.parallel_load.specs.SameLaws.{same_by}
 use Rattle.path_maps.specs.DifferenceLaws.{changed_or_same}
 use Rattle.path_maps.specs.SeenLaws.{one_looker}
 use Rattle.path_maps.specs.Views.{View, view_of}
@@ -20,23 +21,9 @@ use Rattle.fleet_answers.specs.Answers.{IsSnapshot, IsSnapshotOf}
 use Rattle.unit_name.specs.NameLaws.{name_eq-Decides}
 use Rattle.fleet_answers.specs.ShownLaws.{ShowTheSame, snapshots_stay}
 
-first_true : (a b : Bool) → (a && b) ≡ true → a ≡ true
-first_true true b h = refl
-first_true false b h = cc (h)
-
-second_true : (a b : Bool) → (a && b) ≡ true → b ≡ true
-second_true true b h = h
-second_true false b h = cc (h)
-
 -- names that a test finds the same
 pub names_same : (xs ys : List Name) → pointwise (eq_by_cmp name_cmp) xs ys ≡ true → xs ≡ ys
-names_same [] [] h = refl
-names_same [] (y ∷ ys) h = cc (h)
-names_same (x ∷ xs) [] h = cc (h)
-names_same (x ∷ xs) (y ∷ ys) h =
-    let E = eq_by_cmp name_cmp in
-    ap (λ (n : Name). n ∷ xs) ((name_eq-Decides x y).0 (first_true (E x y) (pointwise E xs ys) h))
-    ∙ ap (λ (ns : List Name). y ∷ ns) (names_same xs ys (second_true (E x y) (pointwise E xs ys) h))
+names_same = same_by (eq_by_cmp name_cmp) (λ x y. (name_eq-Decides x y).0)
 
 -- places that are told as changed have all at which stores show otherwise
 pub rest_is : (new old : EntryMap) (places told : List PlaceParts) → told ≡ places → ((p : PlaceParts) → IsAmong p places ↔ (visible_at new p ≢ visible_at old p)) → (p : PlaceParts)
