@@ -35,7 +35,7 @@ use Rattle.script_answers.specs.Texts.{ok_line}
 use Rattle.script_worlds.specs.Worlds.{ScriptWorld, happened, has_writer, held, next_edit}
 use Rattle.script_worlds.specs.Worlds.{with_node as with_new_node}
 use Rattle.fleet_script.specs.Does.{AtNode, AtPlace, AtPlaces, Gives, IsRead, Names, Reads, Refuses, RefusesPlace, WithFile, WithTarget, WithText, Writes}
-use Rattle.fleet_script.specs.Holds.{Goes, HasNoNode, HasNoSite, Holds, IsNodeNamed, Keeps}
+use Rattle.fleet_script.specs.Holds.{Goes, HasNoNode, HasNoSite, Holds, IsNodeNamed, IsSite, Keeps}
 use Rattle.fleet_script.proofs.Nodes.{holds_node, holds_put, set_same}
 
 -- steps, and what they leave open
@@ -87,11 +87,11 @@ module _ (shell after : Keeps) (r : Told) where
 
   -- a place that a text writes, of the node of a name
   pub with_site : (name text : List ℕ) (at : ℕ) (p : PlaceParts) (P : ℕ → PlaceParts → Step)
-      → shell.number_of name ≡ Some at → place_of text ≡ Ok p → Goes shell after (P at p) r
+      → IsSite shell name text at p → Goes shell after (P at p) r
       → Goes shell after (λ old outcome new. AtNode old outcome new name (λ k. AtPlace old outcome new text (λ q. P k q old outcome new))) r
-  with_site name text at p P found read go =
-      with_node name at (λ k old outcome new. AtPlace old outcome new text (λ q. P k q old outcome new)) found
-      (with_written text p (P at) read go)
+  with_site name text at p P is go =
+      with_node name at (λ k old outcome new. AtPlace old outcome new text (λ q. P k q old outcome new)) is.named
+      (with_written text p (P at) is.written go)
 
   -- the file that a text spells, and the link to a target
   pub with_file : (text : List ℕ) (content : Content) (P : Content → Step) → IsFileOf text content → Goes shell after (P content) r

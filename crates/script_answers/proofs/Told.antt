@@ -22,7 +22,7 @@ use Rattle.script_answers.specs.Files.{RefusesName}
 use Rattle.script_answers.specs.Hosts.{ForHost, RefusesHost}
 use Rattle.script_answers.specs.Plans.{fault_of_plan}
 use Rattle.script_answers.specs.Requests.{IsNameFault}
-use Rattle.script_answers.specs.Tells.{IsOutcomeOf, TellsQuestion, TellsWords, asks}
+use Rattle.script_answers.specs.Tells.{IsOutcomeOf, TellsQuestion, TellsWords}
 
 -- what was answered in words
 abbrev pub Told : Type 0
@@ -50,21 +50,20 @@ fault_told P name.EmptyPrefix say = say _ refl
 fault_told P (name.BadByte place) say = say _ refl
 fault_told P name.Memory say = tt
 
-module _ {X : Type 0} (make : X → Question) (read : Result X NameFault) (s : EntryMap) where
+module _ (read : Result Question NameFault) (s : EntryMap) where
   abbrev Tells : Outcome → Result Question NameFault → Type 0
   Tells outcome r = TellsWords r s outcome
 
   -- words that are no names are refused
-  pub words_told : (f : Fault) → IsNameFault read f → IsTold (Err f) (TellsWords (asks make read) s)
-  words_told f (inl e) = subst (λ (x : Fault). IsTold (Err x) (TellsWords (asks make read) s)) (sym e) tt
+  pub words_told : (f : Fault) → IsNameFault read f → IsTold (Err f) (TellsWords read s)
+  words_told f (inl e) = subst (λ (x : Fault). IsTold (Err x) (TellsWords read s)) (sym e) tt
   words_told f (inr why) =
-      subst (λ (x : Fault). IsTold (Err x) (TellsWords (asks make read) s)) (sym why.2)
-      (fault_told (TellsWords (asks make read) s) why.0 (λ outcome told. subst (Tells outcome) (sym (ap (asks make) why.1)) told))
+      subst (λ (x : Fault). IsTold (Err x) (TellsWords read s)) (sym why.2)
+      (fault_told (TellsWords read s) why.0 (λ outcome told. subst (Tells outcome) (sym why.1) told))
 
   -- and what is told of the question is told of the words
-  pub question_told : (x : X) → read ≡ Ok x → (r : Told) → IsTold r (TellsQuestion (make x) s) → IsTold r (TellsWords (asks make read) s)
-  question_told x are r told =
-      weaker r (TellsQuestion (make x) s) (TellsWords (asks make read) s) (λ outcome whole. subst (Tells outcome) (sym (ap (asks make) are)) whole) told
+  pub question_told : (question : Question) → read ≡ Ok question → (r : Told) → IsTold r (TellsQuestion question s) → IsTold r (TellsWords read s)
+  question_told question are r told = weaker r (TellsQuestion question s) (TellsWords read s) (λ outcome whole. subst (Tells outcome) (sym are) whole) told
 
 -- what is told of an answer is told of its question
 pub answer_told : (s : EntryMap) (question : Question) (told : Answer) → IsAnswer s [] question told → (r : Told) → IsTold r (IsOutcomeOf told) → IsTold r (TellsQuestion question s)

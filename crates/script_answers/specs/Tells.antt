@@ -12,6 +12,8 @@ use Rattle.fleet_answers.specs.declared.questions.Answer.{Answer}
 use Rattle.fleet_answers.specs.declared.questions.Answer.TheVariants as answer
 use Rattle.fleet_answers.specs.declared.questions.Question.{Question}
 use Rattle.fleet_answers.specs.declared.questions.Question.TheVariants as question
+use Rattle.script_answers.specs.declared.requests.Inquiry.{Inquiry}
+use Rattle.script_answers.specs.declared.requests.Inquiry.TheVariants as inquiry
 use Rattle.script_answers.specs.Files.{RefusesName}
 use Rattle.script_answers.specs.Hosts.{ForHost}
 use Rattle.script_answers.specs.Plans.{RefusesPlan, plan_text}
@@ -55,6 +57,12 @@ pulled_asked word host = asks (question.Pulled host) (name_of word)
 abbrev pub plan_asked : List ℕ → List (List ℕ) → Looker → Result Question NameFault
 plan_asked unit running host = asks question.Plan (request_of host unit running)
 
+-- what words ask, for a host or without one
+abbrev pub question_asked : Inquiry → Looker → Result Question NameFault
+question_asked (inquiry.Unit unit) = unit_asked unit
+question_asked (inquiry.List unit) = pulled_asked unit
+question_asked (inquiry.Plan unit running) = plan_asked unit running
+
 -- ---- what is told, for the host that a word asks for
 
 -- the answer of the question that is made for it
@@ -69,3 +77,7 @@ TellsList asked word = TellsFor (pulled_asked word) asked
 
 abbrev pub TellsPlan : Option (List ℕ) → List ℕ → List (List ℕ) → EntryMap → Outcome → Type 0
 TellsPlan asked unit running = TellsFor (plan_asked unit running) asked
+
+-- what is told of what words ask
+abbrev pub TellsInquiry : Option (List ℕ) → Inquiry → EntryMap → Outcome → Type 0
+TellsInquiry asked inquiry = TellsFor (question_asked inquiry) asked

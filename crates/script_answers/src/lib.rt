@@ -18,8 +18,9 @@ mod requests;
 mod unit_lines;
 
 pub use answers::{list_files, merge_done, part_done, put_done, refused};
-pub use asking::{tell_list, tell_plan, tell_unit};
+pub use asking::tell_inquiry;
 pub use crews::Crew;
 pub use crowding::tell_crowd;
 pub use files::tell_files;
 pub use laws::one_answer;
+pub use requests::Inquiry;

@@ -1,18 +1,59 @@
-//! The request that words make.
+//! The questions that words make.
 ghost use Rattle.std.specs.Prelude.{◌≡◌, Ok, MatchResult};
 ghost use Rattle.unit_name.specs.Names.{name_of};
 ghost use Rattle.script_answers.specs.Requests.{IsNameFault, names_in, request_of};
+ghost use Rattle.script_answers.specs.Tells.{question_asked};
 
+use fleet_answers::Question;
 use plain_values::Items;
 use replica_store::HostName;
-use script_commands::{Fault, Words};
+use script_commands::{Fault, Word, Words};
 use start_plan::Request;
 use std::alloc::Global;
 use unit_name::UnitName;
 
-/// The request of a host to start the unit that a word names while those that other words name run, or the first thing wrong with the
-/// first word that is no unit name. Want of memory may come in place of any answer.
-pub(crate) fn read_request(
+/// What words ask of the units of a node.
+#[derive(Drop)]
+pub enum Inquiry<'a> {
+    /// The unit that a word names: its main name, status, names, drop-ins, values, dependencies in both directions, and notes.
+    Unit(Word<'a>),
+    /// What the unit that a word names pulls, over what it requires, has as requisite, binds to and wants: each unit once with
+    /// its least distance, by distance and then by name.
+    List(Word<'a>),
+    /// What stops, and then what starts and in which order, where the unit that a word names is to start while those that
+    /// other words name run.
+    Plan(Word<'a>, Words<'a>),
+}
+
+/// The question that words ask for a host or without one, or the first thing wrong with the first word that is no unit name.
+/// Want of memory may come in place of any answer.
+pub(crate) fn read_question(
+    alloc: Global,
+    host: Option<HostName>,
+    inquiry: Inquiry<'_>,
+) -> Result<Question, Fault>
+    ensures read { MatchResult result (λ question. question_asked inquiry.entry host ≡ Ok question)
+        (IsNameFault (question_asked inquiry.entry host)) }
+{
+    match inquiry {
+        Inquiry::Unit(unit) => {
+            let name = read_name(alloc, unit.as_slice())?;
+            Ok(Question::Unit { host, name })
+        }
+        Inquiry::List(unit) => {
+            let name = read_name(alloc, unit.as_slice())?;
+            Ok(Question::Pulled { host, name })
+        }
+        Inquiry::Plan(unit, running) => {
+            let request = read_request(alloc, host, unit.as_slice(), running)?;
+            Ok(Question::Plan(request))
+        }
+    }
+}
+
+// The request of a host to start the unit that a word names while those that other words name run, or the first thing wrong with the
+// first word that is no unit name.
+fn read_request(
     alloc: Global,
     host: Option<HostName>,
     unit: &[u8],

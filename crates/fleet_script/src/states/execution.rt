@@ -6,7 +6,7 @@ ghost use Rattle.fleet_script.specs.Holds.{Continues, Goes, HasRoom, kept_in};
 ghost use Rattle.fleet_script.specs.Scripts.{AnswersLine};
 
 use crate::states::{Shell, Told};
-use script_answers::refused;
+use script_answers::{Inquiry, refused};
 use script_commands::{Command, Fault, LineRefusal, parse};
 use script_words::is_passed_over;
 use std::alloc::AllocError;
@@ -63,17 +63,23 @@ impl Shell {
                 self.cat(alloc, node.as_slice(), host, unit.as_slice())
             }
             Command::Show { node, host, unit } => {
-                self.show(rt, alloc, node.as_slice(), host, unit.as_slice())
+                self.ask(rt, alloc, node.as_slice(), host, Inquiry::Unit(unit))
             }
             Command::List { node, host, unit } => {
-                self.list(rt, alloc, node.as_slice(), host, unit.as_slice())
+                self.ask(rt, alloc, node.as_slice(), host, Inquiry::List(unit))
             }
             Command::Plan {
                 node,
                 host,
                 unit,
                 running,
-            } => self.plan(rt, alloc, node.as_slice(), host, unit.as_slice(), running),
+            } => self.ask(
+                rt,
+                alloc,
+                node.as_slice(),
+                host,
+                Inquiry::Plan(unit, running),
+            ),
             Command::Workers { count } => self.workers(alloc, count),
             Command::Same { left, right } => self.same(alloc, left.as_slice(), right.as_slice()),
             Command::Crowd { node, seats, edits } => {

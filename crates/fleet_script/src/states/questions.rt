@@ -1,10 +1,12 @@
 //! Commands that only read.
-ghost use Rattle.script_commands.specs.declared.commands.Command.TheVariants.{Files, Cat, Show, List, Plan, Same, Crowd};
-ghost use Rattle.fleet_script.specs.Holds.{Executes, HasRoom, kept_in};
+ghost use Rattle.script_commands.specs.declared.commands.Command.TheVariants.{Files, Cat, Same, Crowd};
+ghost use Rattle.script_answers.specs.Tells.{TellsInquiry};
+ghost use Rattle.fleet_script.specs.Does.{Reads};
+ghost use Rattle.fleet_script.specs.Holds.{Executes, Goes, HasRoom, kept_in};
 
 use crate::states::{Shell, Told};
-use script_answers::{list_files, tell_crowd, tell_files, tell_list, tell_plan, tell_unit};
-use script_commands::{EditCount, Word, Words};
+use script_answers::{Inquiry, list_files, tell_crowd, tell_files, tell_inquiry};
+use script_commands::{EditCount, Word};
 use std::alloc::Global;
 use std::sync::Wait;
 use std::thread::Threads;
@@ -31,79 +33,28 @@ impl Shell {
         tell_files(alloc, replica.store(), host, unit)
     }
 
-    // Tells a unit, as all that must be loaded of a node comes to it.
-    pub(super) fn show<R: Threads + Sync>(
+    // Tells what words ask of the units of a node, as all that must be loaded of it comes to it.
+    pub(super) fn ask<R: Threads + Sync>(
         &mut self,
         rt: &R,
         alloc: Global,
         node: &[u8],
         host: Option<Word<'_>>,
-        unit: &[u8],
+        inquiry: Inquiry<'_>,
     ) -> Told
-        ensures done { Executes self.old self.new (Show node.now host.entry unit.now) result }
+        ensures done { Goes (kept_in self.old) (kept_in self.new) (λ before outcome after.
+            Reads before outcome after node.now (TellsInquiry host.entry inquiry.entry)) result }
     {
         let at = self.node_at(alloc, node)?;
         let store = self.nodes[at].store();
-        tell_unit(
+        tell_inquiry(
             rt,
             alloc,
             &mut self.snapshots,
             at,
             store,
             host,
-            unit,
-            &self.workers,
-        )
-    }
-
-    // Lists what a unit pulls, as all that must be loaded of a node comes to it.
-    pub(super) fn list<R: Threads + Sync>(
-        &mut self,
-        rt: &R,
-        alloc: Global,
-        node: &[u8],
-        host: Option<Word<'_>>,
-        unit: &[u8],
-    ) -> Told
-        ensures done { Executes self.old self.new (List node.now host.entry unit.now) result }
-    {
-        let at = self.node_at(alloc, node)?;
-        let store = self.nodes[at].store();
-        tell_list(
-            rt,
-            alloc,
-            &mut self.snapshots,
-            at,
-            store,
-            host,
-            unit,
-            &self.workers,
-        )
-    }
-
-    // Tells what starts and what stops where a unit is to start while others run.
-    pub(super) fn plan<R: Threads + Sync>(
-        &mut self,
-        rt: &R,
-        alloc: Global,
-        node: &[u8],
-        host: Option<Word<'_>>,
-        unit: &[u8],
-        running: Words<'_>,
-    ) -> Told
-        ensures done { Executes self.old self.new (Plan node.now host.entry unit.now running.entry) result }
-    {
-        let at = self.node_at(alloc, node)?;
-        let store = self.nodes[at].store();
-        tell_plan(
-            rt,
-            alloc,
-            &mut self.snapshots,
-            at,
-            store,
-            host,
-            unit,
-            running,
+            inquiry,
             &self.workers,
         )
     }

@@ -5,8 +5,6 @@ use Rattle.fleet_script.proofs.states.Shell.link.Goals as goal
 
 pub returns-clause-done : goal.returns-clause-done
 returns-clause-done c =
-    let shell = kept_in c.args.self.now in
-    with_site shell (kept_in c.write.new.self) c.write.result c.args.node.now c.args.place.now c.in_ok-at.at c.in_ok-at.place _
-    c.in_ok-at.ensures.found.named c.in_ok-at.ensures.found.written
-    (with_link shell (kept_in c.write.new.self) c.write.result c.args.target.now c.in_ok-read_link.field-0
+    with_site (kept_in c.args.self.now) (kept_in c.write.new.self) c.write.result c.args.node.now c.args.place.now c.in_ok-at.at c.in_ok-at.place _ c.in_ok-at.ensures.found
+    (with_link (kept_in c.args.self.now) (kept_in c.write.new.self) c.write.result c.args.target.now c.in_ok-read_link.field-0
     (λ content old outcome new. Writes old outcome new c.in_ok-at.at c.in_ok-at.place content) c.in_ok-read_link.ensures.read c.write.ensures.done)
