@@ -31,8 +31,7 @@
 //! repeated as they are.
 //!
 //! Behind a form feed stand dialogues, as `dialogues.rt` writes them: commands with the answers that each must have. The
-//! commands of each are run as one script, and the answers compared. Before the first it is shown how a program of one's
-//! own takes these libraries in (`embedding.rt`).
+//! commands of each are run as one script, and the answers compared.
 //!
 //! `stdin` has the calls and the dialogues, and `stdout` what must be written; the gate compares the two.
 #![tactic(auto)]
@@ -41,7 +40,6 @@ mod answers;
 mod asking;
 mod dialogues;
 mod edits;
-mod embedding;
 mod graphs;
 mod refreshing;
 mod scripts;
@@ -60,7 +58,6 @@ fn main(rt: HostRuntime) -> ExitCode {
             return answer_lines(rt.alloc(), text, b"\n  ", answer);
         };
         let mut out = answer_lines(rt.alloc(), lines, b"\n  ", answer)?;
-        embedding::show(&rt, &mut out)?;
         scripts::work_all(&rt, dialogues, &mut out)?;
         Ok(out)
     })

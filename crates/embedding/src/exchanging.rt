@@ -1,0 +1,54 @@
+//! Two nodes that exchange pieces over a channel of bytes, which loses messages, repeats them and changes their order.
+use crate::faults::Fault;
+use crate::meeting::put;
+use crate::messages::{message_of, piece_of};
+use delta_pieces::{delta_for, digest, take};
+use replica_store::Replica;
+use std::alloc::{AllocError, Global};
+
+/// Each node sends all that it holds, an edit a message. The first messages come last and twice, and what was lost is sent
+/// again: whether both then hold the same.
+pub fn exchange_messages(alloc: Global) -> Result<bool, Fault> {
+    let mut a = Replica::new(alloc, 1);
+    let mut b = Replica::new(alloc, 2);
+    put(&mut a, b"/etc/systemd/system/x.service", b"[Unit]\n")?;
+    put(
+        &mut a,
+        b"web1:/etc/systemd/system/x.service",
+        b"[Unit]\nDescription=web1\n",
+    )?;
+    put(&mut b, b"/etc/systemd/system/y.service", b"[Unit]\n")?;
+    let from_a = messages_of(alloc, &a)?;
+    let from_b = messages_of(alloc, &b)?;
+    for message in from_a.iter().rev().chain(from_a.iter()) {
+        give(&mut b, message)?;
+    }
+    for message in &from_b {
+        give(&mut a, message)?;
+    }
+    Ok(a.store().same(b.store()))
+}
+
+// Gives a node what a message carries.
+fn give(node: &mut Replica, message: &[u8]) -> Result<(), Fault> {
+    let alloc = node.store().allocator();
+    match take(node, piece_of(alloc, message)?) {
+        Ok(_) => Ok(()),
+        Err(_) => Err(Fault::Memory(AllocError)),
+    }
+}
+
+// All that a node holds, an edit a message: what one lacks that holds nothing.
+fn messages_of(alloc: Global, node: &Replica) -> Result<Vec<Vec<u8>>, Fault> {
+    let nothing = digest(alloc, &Replica::new(alloc, 0))?;
+    let mut left = delta_for(alloc, node, &nothing)?;
+    let mut messages = Vec::new(alloc);
+    for _ in 0..left.len() {
+        let Ok((first, others)) = left.split(1) else {
+            return Err(Fault::Memory(AllocError));
+        };
+        messages.push(message_of(alloc, &first)?)?;
+        left = others;
+    }
+    Ok(messages)
+}

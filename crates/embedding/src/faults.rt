@@ -1,0 +1,38 @@
+//! What may go wrong.
+use fleet_answers::AnswerFault;
+use fleet_script::ShellFault;
+use replica_store::{ContentFault, EditFault, PlaceFault};
+use std::alloc::{AllocError, AllocFailed};
+use thiserror::Error;
+use unit_name::NameFault;
+
+/// What may go wrong here.
+#[derive(Debug, Drop, Error)]
+pub enum Fault {
+    #[error("{0}")]
+    Place(#[from] PlaceFault),
+    #[error("{0}")]
+    Content(#[from] ContentFault),
+    #[error("{0}")]
+    Edit(#[from] EditFault),
+    #[error("{0}")]
+    Name(#[from] NameFault),
+    #[error("{0}")]
+    Script(#[from] ShellFault),
+    #[error("{0}")]
+    Answer(#[from] AnswerFault),
+    /// Bytes that are no message.
+    #[error("no message")]
+    Message,
+    /// A node that threads share refused what was asked of it.
+    #[error("the node refused")]
+    Node,
+    #[error("out of memory")]
+    Memory(#[from] AllocError),
+}
+
+impl<T: Drop> From<AllocFailed<T>> for Fault {
+    fn from(_fault: AllocFailed<T>) -> Fault {
+        Fault::Memory(AllocError)
+    }
+}

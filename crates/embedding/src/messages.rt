@@ -1,0 +1,120 @@
+//! Pieces as bytes, for any channel that carries bytes: a file, a pipe, a socket, a queue. The libraries prescribe no such
+//! form; this is one.
+//!
+//! A message is edits, one behind another: counter and writer of the version, the sort of the content, and the lengths of the
+//! place's text and of the content, each as eight bytes, the greatest first; then these two.
+use crate::faults::Fault;
+use delta_pieces::Piece;
+use join_law::Version;
+use replica_store::{Content, Edit, Entry, Place};
+use std::alloc::{AllocError, Global};
+
+const FILE: u64 = 0;
+
+const LINK: u64 = 1;
+
+const GONE: u64 = 2;
+
+/// The message that carries a piece.
+pub fn message_of(alloc: Global, piece: &Piece) -> Result<Vec<u8>, AllocError> {
+    let mut message = Vec::new(alloc);
+    let mut entries = piece.store().entries();
+    for _ in 0..piece.len() {
+        let Some(placed) = entries.next_entry() else {
+            break;
+        };
+        let mut place = Vec::new(alloc);
+        placed.place()?.append_to(&mut place)?;
+        append_edit(&mut message, &place, placed.entry())?;
+    }
+    Ok(message)
+}
+
+// Adds an edit at the place of this text.
+fn append_edit(message: &mut Vec<u8>, place: &[u8], entry: &Entry) -> Result<(), AllocError> {
+    let (sort, bytes): (u64, &[u8]) = match &entry.content {
+        Content::File(file) => (FILE, file.bytes()),
+        Content::Link(target) => (LINK, target.bytes()),
+        Content::Gone => (GONE, &[]),
+    };
+    let version = entry.version;
+    for number in [
+        version.counter,
+        version.writer as u64,
+        sort,
+        place.len() as u64,
+        bytes.len() as u64,
+    ] {
+        message.extend_from_slice(&number.to_be_bytes())?;
+    }
+    message.extend_from_slice(place)?;
+    message.extend_from_slice(bytes)
+}
+
+/// The piece that a message carries.
+pub fn piece_of(alloc: Global, message: &[u8]) -> Result<Piece, Fault> {
+    let mut rest = Rest { bytes: message };
+    let mut edits = Vec::new(alloc);
+    for _ in 0..message.len() {
+        if rest.bytes.is_empty() {
+            break;
+        }
+        edits.push(rest.edit(alloc)?)?;
+    }
+    Ok(Piece::from_edits(alloc, &edits)?)
+}
+
+// What is left of a message.
+#[derive(Drop)]
+struct Rest<'a> {
+    bytes: &'a [u8],
+}
+
+impl<'a> Rest<'a> {
+    // The next bytes, so many.
+    fn take(&mut self, count: u64) -> Result<&'a [u8], Fault> {
+        let bytes = self.bytes;
+        if count > bytes.len() as u64 {
+            return Err(Fault::Message);
+        }
+        let count = count as usize;
+        self.bytes = &bytes[count..];
+        Ok(&bytes[..count])
+    }
+
+    // The next number.
+    fn number(&mut self) -> Result<u64, Fault> {
+        let mut number: u64 = 0;
+        for byte in self.take(8)? {
+            number = number << 8 | *byte as u64;
+        }
+        Ok(number)
+    }
+
+    // The next edit.
+    fn edit(&mut self, alloc: Global) -> Result<Edit, Fault> {
+        let counter = self.number()?;
+        let Ok(writer) = u32::try_from(self.number()?) else {
+            return Err(Fault::Message);
+        };
+        let sort = self.number()?;
+        let (place_bytes, content_bytes) = (self.number()?, self.number()?);
+        let place = Place::parse(alloc, self.take(place_bytes)?)?;
+        let content = content_of(alloc, sort, self.take(content_bytes)?)?;
+        Ok(Edit {
+            place,
+            version: Version { counter, writer },
+            content,
+        })
+    }
+}
+
+// The content of this sort.
+fn content_of(alloc: Global, sort: u64, bytes: &[u8]) -> Result<Content, Fault> {
+    match sort {
+        FILE => Ok(Content::file(Vec::from_slice(alloc, bytes)?)?),
+        LINK => Ok(Content::link(Vec::from_slice(alloc, bytes)?)?),
+        GONE => Ok(Content::gone()),
+        _ => Err(Fault::Message),
+    }
+}

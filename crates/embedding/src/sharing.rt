@@ -1,0 +1,170 @@
+//! A node that threads share: each writes at a place of its own and views; then one seat asks what it views, edits, and asks
+//! what it views next.
+ghost use Rattle.std.specs.Prelude.{◌≡◌};
+
+use crate::asking::append_starts;
+use crate::faults::Fault;
+use fleet_answers::Snapshots;
+use node_histories::NodeName;
+use replica_store::{Content, Place, Replica};
+use shared_node::{Blank, CloseFault, Node, Seat};
+use std::alloc::Global;
+use std::marker::Brand;
+use std::sync::Wait;
+use std::thread;
+use std::thread::Threads;
+
+/// So many threads share the node, each with a seat.
+const SEATS: usize = 4;
+
+/// What the seat was answered, and how many takes the node counted when it was closed.
+pub fn share<R: AllocGlobal + Threads + Wait + Sync>(rt: &R) -> Result<(Vec<u8>, u64), Fault> {
+    match Blank::new(rt, Replica::new(rt.alloc(), 1), SEATS) {
+        Ok(blank) => share_at::<Brand, R>(rt, blank),
+        Err(_) => Err(Fault::Node),
+    }
+}
+
+// The same at the node of this blank.
+fn share_at<N: NodeName + Send + Sync, R: AllocGlobal + Threads + Wait + Sync>(
+    rt: &R,
+    blank: Blank,
+) -> Result<(Vec<u8>, u64), Fault>
+    requires book { blank.book ≡ N.book }
+    requires opening { blank.opening ≡ N.opening }
+    requires seats { blank.seats ≡ N.seats }
+{
+    let node = Node::<N>::open(blank);
+    let mut text = Vec::new(rt.alloc());
+    match work_all(rt, &node, &mut text) {
+        Ok(seats) => Ok((text, close(rt, node, seats)?)),
+        Err(fault) => {
+            node.end(rt);
+            Err(fault)
+        }
+    }
+}
+
+// What all seats do; they come back.
+fn work_all<N: NodeName + Send + Sync, R: AllocGlobal + Threads + Wait + Sync>(
+    rt: &R,
+    node: &Node<N>,
+    text: &mut Vec<u8>,
+) -> Result<Vec<Seat<N>>, Fault> {
+    let alloc = rt.alloc();
+    let seats = seats_of(rt, alloc, node)?;
+    let work_one = |seat: Seat<N>| -> Result<Seat<N>, Fault> { work(rt, alloc, node, seat) };
+    let mut back = Vec::new(alloc);
+    for seat in thread::map_vec(rt, seats, &work_one)? {
+        back.push(seat?)?;
+    }
+    let Some(seat) = back.pop() else {
+        return Err(Fault::Node);
+    };
+    back.push(ask_twice(rt, node, seat, text)?)?;
+    Ok(back)
+}
+
+// All seats of a node.
+fn seats_of<N: NodeName, R: Wait>(
+    rt: &R,
+    alloc: Global,
+    node: &Node<N>,
+) -> Result<Vec<Seat<N>>, Fault> {
+    let mut seats = Vec::new(alloc);
+    for _ in 0..SEATS {
+        let Ok(seat) = node.seat(rt) else {
+            return Err(Fault::Node);
+        };
+        seats.push(seat)?;
+    }
+    Ok(seats)
+}
+
+// What a thread does from its seat: an edit, and then a view in which it stands. A view waits for nobody.
+fn work<N: NodeName, R: Wait>(
+    rt: &R,
+    alloc: Global,
+    node: &Node<N>,
+    seat: Seat<N>,
+) -> Result<Seat<N>, Fault> {
+    let text = format!(in alloc; "/etc/systemd/system/thread-{}.service", seat.number())?;
+    let place = Place::parse(alloc, text.as_bytes())?;
+    let seat = edit(rt, alloc, node, seat, &place, b"[Unit]\n")?;
+    let Ok(view) = seat.view() else {
+        return Err(Fault::Node);
+    };
+    let stands = view.store().visible(&place).is_some();
+    let seat = view.leave();
+    if stands { Ok(seat) } else { Err(Fault::Node) }
+}
+
+// Puts a file from a seat.
+fn edit<N: NodeName, R: Wait>(
+    rt: &R,
+    alloc: Global,
+    node: &Node<N>,
+    seat: Seat<N>,
+    place: &Place,
+    text: &[u8],
+) -> Result<Seat<N>, Fault> {
+    let mut seat = seat;
+    let content = Content::file(Vec::from_slice(alloc, text)?)?;
+    match node.edit(rt, &mut seat, place.try_clone()?, content) {
+        Ok(_) => Ok(seat),
+        Err(_) => Err(Fault::Node),
+    }
+}
+
+// Asks what is viewed, edits, and asks what is viewed then: only what changed is read again.
+fn ask_twice<N: NodeName, R: AllocGlobal + Threads + Wait + Sync>(
+    rt: &R,
+    node: &Node<N>,
+    seat: Seat<N>,
+    text: &mut Vec<u8>,
+) -> Result<Seat<N>, Fault> {
+    let mut snapshots = Snapshots::new(rt.alloc());
+    let place = Place::parse(rt.alloc(), b"/etc/systemd/system/thread-0.service")?;
+    let seat = ask(rt, seat, &mut snapshots, text)?;
+    let seat = edit(
+        rt,
+        rt.alloc(),
+        node,
+        seat,
+        &place,
+        b"[Unit]\nRequires=thread-1.service\n",
+    )?;
+    ask(rt, seat, &mut snapshots, text)
+}
+
+// Asks what is viewed.
+fn ask<N: NodeName>(
+    rt: &(impl AllocGlobal + Threads + Sync),
+    seat: Seat<N>,
+    snapshots: &mut Snapshots,
+    text: &mut Vec<u8>,
+) -> Result<Seat<N>, Fault> {
+    let Ok(view) = seat.view() else {
+        return Err(Fault::Node);
+    };
+    let told = append_starts(rt, snapshots, view.store(), b"thread-0.service", text);
+    let seat = view.leave();
+    told?;
+    Ok(seat)
+}
+
+// Closes a node with all its seats.
+fn close<N: NodeName, R: Wait>(rt: &R, node: Node<N>, seats: Vec<Seat<N>>) -> Result<u64, Fault> {
+    match node.close(rt, seats) {
+        Ok(closed) => Ok(closed.takes),
+        Err(fault) => {
+            let CloseFault {
+                node,
+                seats: _seats,
+                cause: _,
+            } = fault;
+            node.end(rt);
+            Err(Fault::Node)
+        }
+    }
+}
