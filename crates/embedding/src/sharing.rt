@@ -7,7 +7,7 @@ use crate::faults::Fault;
 use fleet_answers::Snapshots;
 use node_histories::NodeName;
 use replica_store::{Content, Place, Replica};
-use shared_node::{Blank, CloseFault, Node, Seat};
+use shared_node::{Blank, Node, Seat};
 use std::alloc::Global;
 use std::marker::Brand;
 use std::sync::Wait;
@@ -158,12 +158,7 @@ fn close<N: NodeName, R: Wait>(rt: &R, node: Node<N>, seats: Vec<Seat<N>>) -> Re
     match node.close(rt, seats) {
         Ok(closed) => Ok(closed.takes),
         Err(fault) => {
-            let CloseFault {
-                node,
-                seats: _seats,
-                cause: _,
-            } = fault;
-            node.end(rt);
+            fault.end(rt);
             Err(Fault::Node)
         }
     }
