@@ -2,7 +2,7 @@
 //! on a store may be made for a host.
 use crate::edits::{append_names, append_places, append_seen};
 use dropins::{Folder, UnitFolders, folders, links, order};
-use replica_store::{HostName, Store};
+use replica_store::{HostName, Seen, Store};
 use unit_name::UnitName;
 use worked_lines::{Answer, LineFault, Words, asked_of, match_word};
 
@@ -32,24 +32,18 @@ fn told(
 ) -> Result<(), LineFault> {
     match_word!(call;
         b"order" => append_places(out, &order(out.alloc, store, host, names)?),
-        b"lend" => append_lent(out, store, host, names),
+        b"lend" => append_lent(out, &store.seen_by(host), names),
         b"wants" => append_names(out, &links(out.alloc, store, host, names, Folder::Wants)?),
         b"requires" => append_names(out, &links(out.alloc, store, host, names, Folder::Requires)?),
     )
 }
 
 // Writes the folders of the unit, and then its drop-ins with what stands there.
-fn append_lent(
-    out: &mut Answer,
-    store: &Store,
-    host: Option<&HostName>,
-    names: &[UnitName],
-) -> Result<(), LineFault> {
+fn append_lent(out: &mut Answer, seen: &Seen, names: &[UnitName]) -> Result<(), LineFault> {
     let folders = UnitFolders::of(out.alloc, names)?;
     append_names(out, folders.names())?;
-    let seen = store.seen_by(host);
-    for entry in &folders.drop_ins(out.alloc, &seen)? {
-        append_seen(out, &seen, entry)?;
+    for entry in &folders.drop_ins(out.alloc, seen)? {
+        append_seen(out, seen, entry)?;
     }
     Ok(())
 }

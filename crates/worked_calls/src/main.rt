@@ -27,6 +27,7 @@ mod sections;
 mod settings;
 mod stores;
 mod worlds;
+mod written;
 
 use std::alloc::AllocError;
 use std::process::ExitCode;

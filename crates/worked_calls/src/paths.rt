@@ -1,5 +1,6 @@
 //! Calls on paths of the load path, written in full, and on byte strings.
 use crate::orders::append_signs;
+use crate::written::{append_text, full_of};
 use load_path::{Path, PathFault};
 use plain_values::Bytes;
 use std::alloc::Global;
@@ -10,10 +11,10 @@ pub fn answer(words: &mut Words, out: &mut Answer) -> Result<(), LineFault> {
     let call = words.word()?;
     match_word!(call;
         b"parse" => parse(words, out),
-        b"order" => append_signs(out, &full_paths(words)?),
+        b"order" => append_signs(out, &each_of(words.alloc, &words.list()?, full_of::<Path>)?),
         b"bytes" => bytes(words, out),
         b"bytes_order" => append_signs(out, &all_bytes(words)?),
-        _ => of_path(call, &full_path_of(words.alloc, words.word()?)?, out),
+        _ => of_path(call, &full_of(words.alloc, words.word()?)?, out),
     )
 }
 
@@ -35,16 +36,6 @@ fn parse(words: &mut Words, out: &mut Answer) -> Result<(), LineFault> {
     }
 }
 
-// The path that a word spells in full.
-fn full_path_of(alloc: Global, word: &[u8]) -> Result<Path, LineFault> {
-    Ok(Path::parse(alloc, &text_of(alloc, word)?)?)
-}
-
-// The paths that a list of words spells in full.
-fn full_paths(words: &mut Words) -> Result<Vec<Path>, LineFault> {
-    each_of(words.alloc, &words.list()?, full_path_of)
-}
-
 // Writes a path's rank, directory, folder and name.
 fn append_parts(out: &mut Answer, path: &Path) -> Result<(), LineFault> {
     out.print(&path.rank())?;
@@ -53,12 +44,6 @@ fn append_parts(out: &mut Answer, path: &Path) -> Result<(), LineFault> {
         (b' ', path.folder()),
         (b' ', path.name()),
     ])
-}
-
-// Writes the text of a path, behind what stands there.
-fn append_text(out: &mut Answer, path: &Path) -> Result<(), LineFault> {
-    out.write(b"> ")?;
-    Ok(path.append_to(&mut out.bytes)?)
 }
 
 // Writes a clone of a path, and whether it is the same.

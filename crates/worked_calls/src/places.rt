@@ -1,5 +1,6 @@
 //! Calls on hosts and places, written in full.
 use crate::orders::append_signs;
+use crate::written::{append_text, full_of};
 use replica_store::{HostFault, HostName, Place, PlaceFault};
 use std::alloc::Global;
 use worked_lines::{Answer, LineFault, Words, each_of, match_word, text_of};
@@ -11,8 +12,8 @@ pub fn answer(words: &mut Words, out: &mut Answer) -> Result<(), LineFault> {
         b"host" => host(words, out),
         b"hosts" => append_signs(out, &each_of(words.alloc, &words.list()?, host_of)?),
         b"parse" => parse(words, out),
-        b"order" => append_signs(out, &full_places(words)?),
-        _ => of_place(call, &full_place_of(words.alloc, words.word()?)?, out),
+        b"order" => append_signs(out, &each_of(words.alloc, &words.list()?, full_of::<Place>)?),
+        _ => of_place(call, &full_of(words.alloc, words.word()?)?, out),
     )
 }
 
@@ -45,22 +46,6 @@ fn parse(words: &mut Words, out: &mut Answer) -> Result<(), LineFault> {
         Err(PlaceFault::Memory) => Err(LineFault::Memory),
         Err(fault) => out.print(&fault),
     }
-}
-
-// The place that a word spells in full.
-fn full_place_of(alloc: Global, word: &[u8]) -> Result<Place, LineFault> {
-    Ok(Place::parse(alloc, &text_of(alloc, word)?)?)
-}
-
-// The places that a list of words spells in full.
-fn full_places(words: &mut Words) -> Result<Vec<Place>, LineFault> {
-    each_of(words.alloc, &words.list()?, full_place_of)
-}
-
-// Writes the text of a place, behind what stands there.
-fn append_text(out: &mut Answer, place: &Place) -> Result<(), LineFault> {
-    out.write(b"> ")?;
-    Ok(place.append_to(&mut out.bytes)?)
 }
 
 // Writes a clone of a place, and whether it and its scope are the same.

@@ -1,0 +1,45 @@
+//! Paths and places, written in full.
+use load_path::Path;
+use replica_store::Place;
+use std::alloc::{AllocError, Global};
+use worked_lines::{Answer, LineFault, text_of};
+
+/// What a text writes in full.
+pub trait Written: Sized + Drop {
+    /// What this text writes.
+    fn read(alloc: Global, text: &[u8]) -> Result<Self, LineFault>;
+
+    /// Appends its text.
+    fn write_to(&self, out: &mut Vec<u8>) -> Result<(), AllocError>;
+}
+
+impl Written for Path {
+    fn read(alloc: Global, text: &[u8]) -> Result<Path, LineFault> {
+        Ok(Path::parse(alloc, text)?)
+    }
+
+    fn write_to(&self, out: &mut Vec<u8>) -> Result<(), AllocError> {
+        self.append_to(out)
+    }
+}
+
+impl Written for Place {
+    fn read(alloc: Global, text: &[u8]) -> Result<Place, LineFault> {
+        Ok(Place::parse(alloc, text)?)
+    }
+
+    fn write_to(&self, out: &mut Vec<u8>) -> Result<(), AllocError> {
+        self.append_to(out)
+    }
+}
+
+/// What a word spells in full.
+pub fn full_of<T: Written>(alloc: Global, word: &[u8]) -> Result<T, LineFault> {
+    T::read(alloc, &text_of(alloc, word)?)
+}
+
+/// Writes a text in full, behind what stands there.
+pub fn append_text<T: Written>(out: &mut Answer, it: &T) -> Result<(), LineFault> {
+    out.write(b"> ")?;
+    Ok(it.write_to(&mut out.bytes)?)
+}
