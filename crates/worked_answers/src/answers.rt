@@ -1,25 +1,18 @@
 //! The answers of lines.
 use crate::asking::{again, ask, world};
-use crate::edits::{Asked, asked_of};
+use crate::edits::{Asked, Done, Looker, asked_of};
 use crate::graphs::graph;
 use crate::refreshing::{footprint, refresh};
 use crate::tellings::{append_load, append_looked_up, append_unit, is_same_load};
 use parallel_load::{LoadFault, Loaded, load_fleet, load_here, load_one};
-use replica_store::HostName;
 use std::thread::Threads;
 use std::time::Clock;
 use unit_name::UnitName;
-use worked_lines::{
-    Answer, CountingGate, LineFault, Meeting, Words, asked_of as call_of, match_word,
-};
+use worked_lines::{Answer, CountingGate, Meeting, Words, asked_of as call_of, match_word};
 use worker_rounds::{Gate, OpenGate};
 
 // Writes a load with what it has at names, or why there is none.
-fn append_here(
-    out: &mut Answer,
-    here: &Result<Loaded, LoadFault>,
-    looked: &[UnitName],
-) -> Result<(), LineFault> {
+fn append_here(out: &mut Answer, here: &Result<Loaded, LoadFault>, looked: &[UnitName]) -> Done {
     let load = match here {
         Ok(load) => load,
         Err(fault) => return out.print(fault),
@@ -36,7 +29,7 @@ fn append_compared(
     out: &mut Answer,
     here: &Result<Loaded, LoadFault>,
     fleet: &Result<Loaded, LoadFault>,
-) -> Result<(), LineFault> {
+) -> Done {
     match (here, fleet) {
         (Ok(here), Ok(fleet)) => {
             let is_same = is_same_load(here, fleet)?;
@@ -55,7 +48,7 @@ fn load_by_each<R: Threads + Sync, G: Gate + Sync>(
     looked: &[UnitName],
     workers: &[usize],
     gate: &G,
-) -> Result<(), LineFault> {
+) -> Done {
     let host = asked.host.as_ref();
     let here = load_here(out.alloc, &asked.store, host, &asked.names);
     append_here(out, &here, looked)?;
@@ -76,12 +69,7 @@ fn load_by_each<R: Threads + Sync, G: Gate + Sync>(
 }
 
 // Loads by one thread and by each number of workers.
-fn load<R: Threads + Sync>(
-    rt: &R,
-    words: &mut Words,
-    host: Option<HostName>,
-    out: &mut Answer,
-) -> Result<(), LineFault> {
+fn load<R: Threads + Sync>(rt: &R, words: &mut Words, host: Looker, out: &mut Answer) -> Done {
     let workers = words.numbers()?;
     let asked = asked_of(words, host)?;
     let looked = words.names()?;
@@ -89,12 +77,7 @@ fn load<R: Threads + Sync>(
 }
 
 // Loads as `load` does, at a gate that turns each piece away so often; and how often it was asked for each.
-fn gate<R: Threads + Sync>(
-    rt: &R,
-    words: &mut Words,
-    host: Option<HostName>,
-    out: &mut Answer,
-) -> Result<(), LineFault> {
+fn gate<R: Threads + Sync>(rt: &R, words: &mut Words, host: Looker, out: &mut Answer) -> Done {
     let gate = CountingGate::new(words.alloc, words.index()?)?;
     let workers = words.numbers()?;
     let asked = asked_of(words, host)?;
@@ -107,9 +90,9 @@ fn gate<R: Threads + Sync>(
 fn meet<R: Threads + Clock + Sync>(
     rt: &R,
     words: &mut Words,
-    host: Option<HostName>,
+    host: Looker,
     out: &mut Answer,
-) -> Result<(), LineFault> {
+) -> Done {
     let asked = asked_of(words, host)?;
     let host = asked.host.as_ref();
     let gate = Meeting::new(rt);
@@ -123,7 +106,7 @@ fn meet<R: Threads + Clock + Sync>(
 }
 
 // Loads the units of names, each alone.
-fn one(words: &mut Words, host: Option<HostName>, out: &mut Answer) -> Result<(), LineFault> {
+fn one(words: &mut Words, host: Looker, out: &mut Answer) -> Done {
     let asked = asked_of(words, host)?;
     for name in &asked.names {
         let unit = load_one(words.alloc, &asked.store, asked.host.as_ref(), name)?;
@@ -135,11 +118,7 @@ fn one(words: &mut Words, host: Option<HostName>, out: &mut Answer) -> Result<()
 }
 
 /// Writes what a line answers.
-pub fn answer<R: Threads + Clock + Sync>(
-    rt: &R,
-    words: &mut Words,
-    out: &mut Answer,
-) -> Result<(), LineFault> {
+pub fn answer<R: Threads + Clock + Sync>(rt: &R, words: &mut Words, out: &mut Answer) -> Done {
     let (call, host) = call_of(words.alloc, words.word()?)?;
     match_word!(call;
         b"graph" => graph(words, host, out),

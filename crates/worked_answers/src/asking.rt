@@ -1,5 +1,5 @@
 //! Questions of stores and of nodes of worlds, in words.
-use crate::edits::{Asked, asked_of};
+use crate::edits::{Asked, Done, Looker, asked_of};
 use crate::graphs::append_far;
 use crate::refreshing::store_of;
 use crate::tellings::append_unit;
@@ -9,7 +9,7 @@ use fleet_answers::{
     answer_in_world, answer_question,
 };
 use plain_values::Items;
-use replica_store::{Edit, HostName, Store};
+use replica_store::{Edit, Store};
 use setting_rules::DependencyList;
 use start_plan::{Plan, Request};
 use std::alloc::Global;
@@ -18,7 +18,7 @@ use worked_lines::{Answer, LineFault, Words, is};
 use worker_rounds::OpenGate;
 
 // The question that a list of words writes: `unit NAME`, `pulled NAME`, or `plan TARGET RUNNING..`.
-fn question_of(words: &mut Words, host: Option<HostName>) -> Result<Question, LineFault> {
+fn question_of(words: &mut Words, host: Looker) -> Result<Question, LineFault> {
     let kind = words.word()?;
     let mut names = words.names()?;
     if names.is_empty() {
@@ -43,7 +43,7 @@ fn question_of(words: &mut Words, host: Option<HostName>) -> Result<Question, Li
 }
 
 // Writes a list of edges, if there are some.
-fn append_edges(out: &mut Answer, list: &DependencyList) -> Result<(), LineFault> {
+fn append_edges(out: &mut Answer, list: &DependencyList) -> Done {
     if list.names.as_slice().is_empty() {
         return Ok(());
     }
@@ -53,7 +53,7 @@ fn append_edges(out: &mut Answer, list: &DependencyList) -> Result<(), LineFault
 }
 
 // Writes a unit and its edges.
-fn append_linked(out: &mut Answer, linked: &LinkedUnit) -> Result<(), LineFault> {
+fn append_linked(out: &mut Answer, linked: &LinkedUnit) -> Done {
     let unit = linked.unit.get();
     out.write(unit.name.bytes())?;
     out.write(b" ")?;
@@ -65,7 +65,7 @@ fn append_linked(out: &mut Answer, linked: &LinkedUnit) -> Result<(), LineFault>
 }
 
 // Writes which units stop and which start.
-fn append_plan(out: &mut Answer, plan: &Plan) -> Result<(), LineFault> {
+fn append_plan(out: &mut Answer, plan: &Plan) -> Done {
     out.write(b"stops")?;
     out.names(plan.stop.as_slice())?;
     out.write(b", starts")?;
@@ -73,7 +73,7 @@ fn append_plan(out: &mut Answer, plan: &Plan) -> Result<(), LineFault> {
 }
 
 // Writes what a question was answered.
-fn append_told(out: &mut Answer, told: &Told) -> Result<(), LineFault> {
+fn append_told(out: &mut Answer, told: &Told) -> Done {
     match told {
         Told::Template => out.write(b"a template"),
         Told::TooManyUnits => out.write(b"too many units"),
@@ -101,7 +101,7 @@ fn text_of(alloc: Global, told: Result<Option<Told>, AnswerFault>) -> Result<Vec
 }
 
 // Writes a text, or that it is the one before.
-fn append_beside(out: &mut Answer, text: &[u8], before: &[u8]) -> Result<(), LineFault> {
+fn append_beside(out: &mut Answer, text: &[u8], before: &[u8]) -> Done {
     out.either(text == before, b"the same", text)
 }
 
@@ -113,7 +113,7 @@ struct Asking {
 }
 
 // A question and numbers of workers, with which a line ends.
-fn asking_of(words: &mut Words, host: Option<HostName>) -> Result<Asking, LineFault> {
+fn asking_of(words: &mut Words, host: Looker) -> Result<Asking, LineFault> {
     let question = question_of(words, host)?;
     let counts = words.numbers()?;
     Ok(Asking { question, counts })
@@ -139,12 +139,7 @@ fn told_by<R: Threads + Sync>(
 }
 
 // Writes what a store answers by one thread, and then by each number of workers.
-fn append_all<R: Threads + Sync>(
-    rt: &R,
-    out: &mut Answer,
-    asked: &Asked,
-    asking: &Asking,
-) -> Result<(), LineFault> {
+fn append_all<R: Threads + Sync>(rt: &R, out: &mut Answer, asked: &Asked, asking: &Asking) -> Done {
     let here = told_here(out.alloc, asked, &asking.question)?;
     out.write(&here)?;
     for count in &asking.counts {
@@ -156,12 +151,7 @@ fn append_all<R: Threads + Sync>(
 }
 
 /// Answers a question from a store by one thread, and then by each number of workers.
-pub fn ask<R: Threads + Sync>(
-    rt: &R,
-    words: &mut Words,
-    host: Option<HostName>,
-    out: &mut Answer,
-) -> Result<(), LineFault> {
+pub fn ask<R: Threads + Sync>(rt: &R, words: &mut Words, host: Looker, out: &mut Answer) -> Done {
     let asked = asked_of(words, None)?;
     let asking = asking_of(words, host)?;
     append_all(rt, out, &asked, &asking)
@@ -188,7 +178,7 @@ fn append_again<R: Threads + Sync>(
     edits: &[Edit],
     question: &Question,
     count: usize,
-) -> Result<(), LineFault> {
+) -> Done {
     out.line(format!(in out.alloc; "of {count} edits: ")?.as_bytes())?;
     let store = store_of(out.alloc, edits, count)?;
     let text = told_again(rt, out.alloc, snapshots, &store, question)?;
@@ -201,12 +191,7 @@ fn append_again<R: Threads + Sync>(
 }
 
 /// Answers a question from the store of each of several numbers of first edits, one after another.
-pub fn again<R: Threads + Sync>(
-    rt: &R,
-    words: &mut Words,
-    host: Option<HostName>,
-    out: &mut Answer,
-) -> Result<(), LineFault> {
+pub fn again<R: Threads + Sync>(rt: &R, words: &mut Words, host: Looker, out: &mut Answer) -> Done {
     let edits = words.edits()?;
     let asking = asking_of(words, host)?;
     let mut snapshots = Snapshots::new(out.alloc);
@@ -217,7 +202,7 @@ pub fn again<R: Threads + Sync>(
 }
 
 // The first node puts edits, and then the second is given all that it lacks, in the exchange of a number.
-fn add_events(events: &mut Vec<Event>, edits: &[Edit], number: usize) -> Result<(), LineFault> {
+fn add_events(events: &mut Vec<Event>, edits: &[Edit], number: usize) -> Done {
     for edit in edits {
         events.push(Event::Put {
             node: 0,
@@ -267,7 +252,7 @@ fn append_nodes<R: Threads + Sync>(
     events: &[Event],
     question: &Question,
     workers: usize,
-) -> Result<(), LineFault> {
+) -> Done {
     let mut first = Vec::new(out.alloc);
     for node in 0..3 {
         let text = told_at(rt, out.alloc, events, node, question, workers)?;
@@ -286,7 +271,7 @@ fn append_moment<R: Threads + Sync>(
     out: &mut Answer,
     events: &[Event],
     asking: &Asking,
-) -> Result<(), LineFault> {
+) -> Done {
     for count in &asking.counts {
         append_nodes(rt, out, events, &asking.question, *count)?;
     }
@@ -299,7 +284,7 @@ fn append_moments<R: Threads + Sync>(
     out: &mut Answer,
     edits: &[Edit],
     asking: &Asking,
-) -> Result<(), LineFault> {
+) -> Done {
     let before_last = edits.len().checked_sub(1).ok_or(LineFault::Words)?;
     let mut events = Vec::new(out.alloc);
     add_events(&mut events, &edits[..before_last], 0)?;
@@ -309,12 +294,7 @@ fn append_moments<R: Threads + Sync>(
 }
 
 /// Answers a question at two nodes of a world that took the same edits, of all but the last edit and then of all.
-pub fn world<R: Threads + Sync>(
-    rt: &R,
-    words: &mut Words,
-    host: Option<HostName>,
-    out: &mut Answer,
-) -> Result<(), LineFault> {
+pub fn world<R: Threads + Sync>(rt: &R, words: &mut Words, host: Looker, out: &mut Answer) -> Done {
     let edits = words.edits()?;
     let asking = asking_of(words, host)?;
     append_moments(rt, out, &edits, &asking)

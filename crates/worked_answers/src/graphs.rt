@@ -1,11 +1,10 @@
 //! Graphs of loads in words.
 ghost use Rattle.unit_graph.specs.Graphs.{IsKnown};
 
-use crate::edits::asked_of;
+use crate::edits::{Done, Looker, asked_of};
 use crate::tellings::append_status;
 use inverse_deps::edges;
 use parallel_load::{LoadFault, Loaded, load_here};
-use replica_store::HostName;
 use setting_rules::DepKind;
 use std::alloc::Global;
 use unit_graph::Graph;
@@ -20,7 +19,7 @@ fn kind_of(_alloc: Global, word: &[u8]) -> Result<DepKind, LineFault> {
 }
 
 // Writes what stands for a unit, and whether a person may start it.
-fn append_main(out: &mut Answer, graph: &Graph, main: &UnitName) -> Result<(), LineFault> {
+fn append_main(out: &mut Answer, graph: &Graph, main: &UnitName) -> Done {
     out.write(main.bytes())?;
     if let Some(status) = graph.status(main) {
         out.write(b", ")?;
@@ -33,12 +32,7 @@ fn append_main(out: &mut Answer, graph: &Graph, main: &UnitName) -> Result<(), L
 }
 
 // Writes the units to which edges of each kind lead from a unit.
-fn append_steps(
-    out: &mut Answer,
-    graph: &Graph,
-    kinds: &[DepKind],
-    main: &UnitName,
-) -> Result<(), LineFault> {
+fn append_steps(out: &mut Answer, graph: &Graph, kinds: &[DepKind], main: &UnitName) -> Done {
     for kind in kinds {
         out.line(kind.word().as_bytes())?;
         out.names(graph.of(*kind, main))?;
@@ -47,7 +41,7 @@ fn append_steps(
 }
 
 /// Writes names, each behind its distance.
-pub fn append_far(out: &mut Answer, pairs: &[(u64, UnitName)]) -> Result<(), LineFault> {
+pub fn append_far(out: &mut Answer, pairs: &[(u64, UnitName)]) -> Done {
     for (distance, name) in pairs {
         out.write(format!(in out.alloc; " {distance} ")?.as_bytes())?;
         out.write(name.bytes())?;
@@ -56,12 +50,7 @@ pub fn append_far(out: &mut Answer, pairs: &[(u64, UnitName)]) -> Result<(), Lin
 }
 
 // Writes what is reached from a name that stands for a unit.
-fn append_reached(
-    out: &mut Answer,
-    graph: &Graph,
-    kinds: &[DepKind],
-    name: &UnitName,
-) -> Result<(), LineFault>
+fn append_reached(out: &mut Answer, graph: &Graph, kinds: &[DepKind], name: &UnitName) -> Done
     requires known { IsKnown graph.now.load name.now }
 {
     out.line(b"reach")?;
@@ -71,12 +60,7 @@ fn append_reached(
 }
 
 // Writes what a graph has from a name.
-fn append_from(
-    out: &mut Answer,
-    graph: &Graph,
-    kinds: &[DepKind],
-    name: &UnitName,
-) -> Result<(), LineFault> {
+fn append_from(out: &mut Answer, graph: &Graph, kinds: &[DepKind], name: &UnitName) -> Done {
     out.line(name.bytes())?;
     if !graph.has(name) {
         return out.write(b": no unit");
@@ -90,12 +74,7 @@ fn append_from(
 }
 
 // Makes the graph of a load, and writes its units, and what it has from each of several names.
-fn append_graph(
-    out: &mut Answer,
-    load: &Loaded,
-    kinds: &[DepKind],
-    names: &[UnitName],
-) -> Result<(), LineFault> {
+fn append_graph(out: &mut Answer, load: &Loaded, kinds: &[DepKind], names: &[UnitName]) -> Done {
     let edges = edges(out.alloc, load)?;
     let graph = Graph::build(load, &edges);
     if let Some(host) = graph.host() {
@@ -111,7 +90,7 @@ fn append_graph(
 }
 
 /// Makes the graph of a load, and looks at it from each of several names.
-pub fn graph(words: &mut Words, host: Option<HostName>, out: &mut Answer) -> Result<(), LineFault> {
+pub fn graph(words: &mut Words, host: Looker, out: &mut Answer) -> Done {
     let asked = asked_of(words, host)?;
     let kinds = each_of(words.alloc, &words.list()?, kind_of)?;
     let names = words.names()?;

@@ -6,7 +6,7 @@ ghost use Rattle.edit_sums.specs.Sums.{visible_at};
 ghost use Rattle.path_maps.specs.Views.{view_of};
 ghost use Rattle.parallel_load.specs.Loads.{IsLoad};
 
-use crate::edits::asked_of;
+use crate::edits::{Done, Looker, asked_of};
 use crate::tellings::{append_places, is_same_load};
 use parallel_load::{LoadFault, Loaded, load_here};
 use replica_store::{Edit, HostName, Place, Store};
@@ -56,18 +56,18 @@ pub fn store_of(alloc: Global, edits: &[Edit], count: usize) -> Result<Store, Li
 }
 
 // Writes of how many edits a store is.
-fn append_count(out: &mut Answer, count: usize) -> Result<(), LineFault> {
+fn append_count(out: &mut Answer, count: usize) -> Done {
     out.line(format!(in out.alloc; "of {count} edits: ")?.as_bytes())
 }
 
 // Writes how many units were read for a load.
-fn append_fresh(out: &mut Answer, load: &Loaded) -> Result<(), LineFault> {
+fn append_fresh(out: &mut Answer, load: &Loaded) -> Done {
     out.print(&load.fresh())?;
     out.write(b" read")
 }
 
 // Writes why there is no load, unless that is want of memory.
-fn append_fault(out: &mut Answer, fault: LoadFault) -> Result<(), LineFault> {
+fn append_fault(out: &mut Answer, fault: LoadFault) -> Done {
     match fault {
         LoadFault::Memory => Err(LineFault::Memory),
         fault => out.print(&fault),
@@ -75,11 +75,7 @@ fn append_fault(out: &mut Answer, fault: LoadFault) -> Result<(), LineFault> {
 }
 
 // Writes whether a load is the one by one thread.
-fn append_compared(
-    out: &mut Answer,
-    load: &Loaded,
-    here: Result<Loaded, LoadFault>,
-) -> Result<(), LineFault> {
+fn append_compared(out: &mut Answer, load: &Loaded, here: Result<Loaded, LoadFault>) -> Done {
     match here {
         Ok(here) => out.either(is_same_load(load, &here)?, b", the same", b", another"),
         Err(LoadFault::Memory) => Err(LineFault::Memory),
@@ -118,12 +114,7 @@ fn append_refreshed(
 }
 
 // Writes what is refreshed for each of several numbers of edits, one after another.
-fn append_later(
-    out: &mut Answer,
-    first: LoadedStore,
-    edits: &[Edit],
-    counts: &[usize],
-) -> Result<(), LineFault>
+fn append_later(out: &mut Answer, first: LoadedStore, edits: &[Edit], counts: &[usize]) -> Done
     requires load { IsLoad (view_of first.store first.load.host) first.load.extra first.load }
 {
     let mut held = first;
@@ -136,11 +127,7 @@ fn append_later(
 }
 
 /// Loads the store of so many first edits, and makes of that load the one of each further number of them.
-pub fn refresh(
-    words: &mut Words,
-    host: Option<HostName>,
-    out: &mut Answer,
-) -> Result<(), LineFault> {
+pub fn refresh(words: &mut Words, host: Looker, out: &mut Answer) -> Done {
     let counts = words.numbers()?;
     let edits = words.edits()?;
     let names = words.names()?;
@@ -157,7 +144,7 @@ pub fn refresh(
 }
 
 // Writes the footprint of the unit of a main name.
-fn append_footprint(out: &mut Answer, load: &Loaded, name: &UnitName) -> Result<(), LineFault> {
+fn append_footprint(out: &mut Answer, load: &Loaded, name: &UnitName) -> Done {
     out.line(name.bytes())?;
     out.write(b":")?;
     if load.unit(name).is_none() {
@@ -171,11 +158,7 @@ fn append_footprint(out: &mut Answer, load: &Loaded, name: &UnitName) -> Result<
 }
 
 /// Loads a store, and writes the footprints of the units of several names.
-pub fn footprint(
-    words: &mut Words,
-    host: Option<HostName>,
-    out: &mut Answer,
-) -> Result<(), LineFault> {
+pub fn footprint(words: &mut Words, host: Looker, out: &mut Answer) -> Done {
     let asked = asked_of(words, host)?;
     let looked = words.names()?;
     match load_here(words.alloc, &asked.store, asked.host.as_ref(), &asked.names) {

@@ -1,17 +1,18 @@
 //! How loads and units are written.
+use crate::edits::Done;
 use parallel_load::{Loaded, NameLoad, Status, Unit};
 use replica_store::Place;
 use unit_name::UnitName;
 use worked_lines::{Answer, LineFault};
 
 // Writes a word behind a space.
-fn append_word(out: &mut Answer, word: &[u8]) -> Result<(), LineFault> {
+fn append_word(out: &mut Answer, word: &[u8]) -> Done {
     out.write(b" ")?;
     out.write(word)
 }
 
 // Writes the names of a load, each with the main name of which it is an alias.
-fn append_loads(out: &mut Answer, names: &[(UnitName, NameLoad)]) -> Result<(), LineFault> {
+fn append_loads(out: &mut Answer, names: &[(UnitName, NameLoad)]) -> Done {
     for (name, load) in names {
         append_word(out, name.bytes())?;
         if let NameLoad::Alias(main) = load {
@@ -23,7 +24,7 @@ fn append_loads(out: &mut Answer, names: &[(UnitName, NameLoad)]) -> Result<(), 
 }
 
 // Writes the names of units.
-fn append_units(out: &mut Answer, units: &[&Unit]) -> Result<(), LineFault> {
+fn append_units(out: &mut Answer, units: &[&Unit]) -> Done {
     for unit in units {
         append_word(out, unit.name.bytes())?;
     }
@@ -31,7 +32,7 @@ fn append_units(out: &mut Answer, units: &[&Unit]) -> Result<(), LineFault> {
 }
 
 /// Writes for which host the load is, if for one, what was asked for, all names with what they stand for, and the units.
-pub fn append_load(out: &mut Answer, load: &Loaded) -> Result<(), LineFault> {
+pub fn append_load(out: &mut Answer, load: &Loaded) -> Done {
     if let Some(host) = load.host() {
         out.line(b"for ")?;
         out.write(host.bytes())?;
@@ -45,7 +46,7 @@ pub fn append_load(out: &mut Answer, load: &Loaded) -> Result<(), LineFault> {
 }
 
 /// Writes places, each behind a space.
-pub fn append_places(out: &mut Answer, places: &[Place]) -> Result<(), LineFault> {
+pub fn append_places(out: &mut Answer, places: &[Place]) -> Done {
     for place in places {
         out.write(b" ")?;
         place.append_to(&mut out.bytes)?;
@@ -61,7 +62,7 @@ pub fn is_same_load(one: &Loaded, other: &Loaded) -> Result<bool, LineFault> {
 }
 
 /// Writes what stands for a unit.
-pub fn append_status(out: &mut Answer, status: &Status) -> Result<(), LineFault> {
+pub fn append_status(out: &mut Answer, status: &Status) -> Done {
     match status {
         Status::Loaded(place) => {
             out.write(b"loaded from ")?;
@@ -77,7 +78,7 @@ pub fn append_status(out: &mut Answer, status: &Status) -> Result<(), LineFault>
 }
 
 /// Writes what stands for a unit, its names, the main name first, and its drop-ins.
-pub fn append_unit(out: &mut Answer, unit: &Unit) -> Result<(), LineFault> {
+pub fn append_unit(out: &mut Answer, unit: &Unit) -> Done {
     append_status(out, &unit.status)?;
     out.write(b", names")?;
     out.names(unit.names.as_slice())?;
@@ -88,7 +89,7 @@ pub fn append_unit(out: &mut Answer, unit: &Unit) -> Result<(), LineFault> {
 }
 
 /// Writes the main name of a name of a load, and the unit whose main name it is.
-pub fn append_looked_up(out: &mut Answer, load: &Loaded, name: &UnitName) -> Result<(), LineFault> {
+pub fn append_looked_up(out: &mut Answer, load: &Loaded, name: &UnitName) -> Done {
     out.line(name.bytes())?;
     out.write(b": main ")?;
     match load.main(name) {
