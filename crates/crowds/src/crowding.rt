@@ -1,11 +1,9 @@
 //! A crowd at a node.
-ghost use Rattle.std.specs.Prelude.{◌≡◌, ◌+◌, ◌-◌, ◌*◌, ◌<◌, ◌≤◌, ◌⊎◌, ◌↔◌, length, Err, IfOk};
-ghost use Rattle.std.specs.List.{sum_by};
+ghost use Rattle.std.specs.{Prelude.{◌≡◌, ◌+◌, ◌-◌, ◌*◌, ◌<◌, ◌≤◌, ◌⊎◌, ◌↔◌, length, Err, IfOk}, List.{sum_by}};
 ghost use Rattle.edit_sums.specs.Sums.{high_of};
 ghost use Rattle.node_histories.specs.Histories.{IsLegal, replica_of, takes_in};
 ghost use Rattle.shared_node.specs.Seats.{AllAgree};
-ghost use Rattle.crowds.specs.declared.faults.CrowdFault.TheVariants.{Seats};
-ghost use Rattle.crowds.specs.Crowds.{crowd_places, places_with};
+ghost use Rattle.crowds.specs.{declared.faults.CrowdFault.TheVariants.{Seats}, Crowds.{crowd_places, places_with}};
 
 use crate::faults::CrowdFault;
 use crate::threads::work_side_by_side;

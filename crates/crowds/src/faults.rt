@@ -1,4 +1,7 @@
 //! Why a crowd has no numbers.
+ghost use Rattle.std.specs.Prelude.{◌≡◌};
+ghost use Rattle.crowds.specs.declared.faults.CrowdFault.TheVariants.{Memory};
+
 use std::alloc::AllocError;
 use thiserror::Error;
 
@@ -14,9 +17,6 @@ pub enum CrowdFault {
 }
 
 impl From<AllocError> for CrowdFault {
-    ghost use Rattle.std.specs.Prelude.{◌≡◌};
-    ghost use Rattle.crowds.specs.declared.faults.CrowdFault.TheVariants.{Memory};
-
     ghost from_gives = { λ _ fault. fault ≡ Memory };
 
     fn from(_refused: AllocError) -> CrowdFault {

@@ -1,9 +1,7 @@
 //! What each event does in a world. One that names what does not exist does nothing.
 ghost use Rattle.std.specs.Prelude.{◌≡◌, map, IfOk, OnOk};
 ghost use Rattle.edit_sums.specs.Sums.{join};
-ghost use Rattle.world_law.specs.Cuts.{cut};
-ghost use Rattle.world_law.specs.Worlds.{EventWorld, happens};
-ghost use Rattle.world_law.specs.declared.events.Event.TheVariants.{Put, Ask, Cut, Give};
+ghost use Rattle.world_law.specs.{Cuts.{cut}, Worlds.{EventWorld, happens}, declared.events.Event.TheVariants.{Put, Ask, Cut, Give}};
 ghost use Rattle.delta_gossip.specs.Shows.{IsWorld};
 
 use crate::worlds::World;

@@ -1,9 +1,7 @@
 //! Worlds of replicas, run.
 ghost use Rattle.std.specs.Prelude.{◌≡◌, length, map, List, IfOk};
-ghost use Rattle.world_law.specs.Worlds.{blank};
-ghost use Rattle.world_law.specs.declared.events.Event.{Event};
-ghost use Rattle.delta_gossip.specs.Convergence.{Agrees, AgreesLater, HoldsSums, HoldsSumsAsTold};
-ghost use Rattle.delta_gossip.specs.Shows.{world_after, IsWorld};
+ghost use Rattle.world_law.specs.{Worlds.{blank}, declared.events.Event.{Event}};
+ghost use Rattle.delta_gossip.specs.{Convergence.{Agrees, AgreesLater, HoldsSums, HoldsSumsAsTold}, Shows.{world_after, IsWorld}};
 
 use crate::steps::step;
 use delta_pieces::{Digest, Piece};

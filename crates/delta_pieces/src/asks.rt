@@ -1,7 +1,6 @@
 //! What a replica asks with.
-ghost use Rattle.std.specs.Prelude.{◌≡◌, Some, IsTrue, IfOk, OnOk, map};
+ghost use Rattle.std.specs.{Prelude.{◌≡◌, Some, IsTrue, IfOk, OnOk, map}, FinMap.{is_sorted, put}};
 ghost use Rattle.std.specs.FinMap as finmap;
-ghost use Rattle.std.specs.FinMap.{is_sorted, put};
 ghost use Rattle.load_places.specs.Places.{place_cmp};
 ghost use Rattle.edit_sums.specs.Sums.{EntryMap};
 ghost use Rattle.world_law.specs.Cuts.{cut, digest_of, only_at};

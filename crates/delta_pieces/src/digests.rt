@@ -1,7 +1,6 @@
 //! Digests.
-ghost use Rattle.std.specs.Prelude.{◌≡◌, IsTrue, IfOk};
+ghost use Rattle.std.specs.{Prelude.{◌≡◌, IsTrue, IfOk}, FinMap.{is_sorted}};
 ghost use Rattle.std.specs.FinMap as finmap;
-ghost use Rattle.std.specs.FinMap.{is_sorted};
 ghost use Rattle.load_places.specs.Places.{place_cmp};
 
 use join_law::Version;
@@ -20,12 +19,10 @@ pub struct Digest {
 }
 
 impl Model for Digest {
-    ghost use Rattle.std.specs.Prelude.{IsTrue};
+    ghost use Rattle.std.specs.{Prelude.{IsTrue}, FinMap.{is_sorted}};
     ghost use Rattle.std.specs.FinMap as finmap;
-    ghost use Rattle.std.specs.FinMap.{is_sorted};
     ghost use Rattle.join_law.specs.contracts.versions.Version as version;
-    ghost use Rattle.load_places.specs.Places.{place_cmp};
-    ghost use Rattle.load_places.specs.PlaceLaws.{coded_place};
+    ghost use Rattle.load_places.specs.{Places.{place_cmp}, PlaceLaws.{coded_place}};
     ghost use Rattle.world_law.specs.Cuts.{VersionMap};
 
     ghost Value = { VersionMap };

@@ -1,8 +1,6 @@
 //! What is newer than what was asked with.
-ghost use Rattle.std.specs.Prelude.{◌≡◌, ◌≢◌, [], ◌∷◌, Some, None, IsTrue, IfOk, OnOk, filter, map};
-ghost use Rattle.std.specs.Option.{option_map};
-ghost use Rattle.std.specs.declared.cmp.Ordering.TheVariants.{Less};
-ghost use Rattle.std.specs.FinMap.{is_sorted, find};
+ghost use Rattle.std.specs.{Prelude.{◌≡◌, ◌≢◌, [], ◌∷◌, Some, None, IsTrue, IfOk, OnOk, filter, map}, Option.{option_map}};
+ghost use Rattle.std.specs.{declared.cmp.Ordering.TheVariants.{Less}, FinMap.{is_sorted, find}};
 ghost use Rattle.load_places.specs.Places.{PlaceParts, place_cmp};
 ghost use Rattle.edit_sums.specs.Sums.{edit_of, join, sum_of};
 ghost use Rattle.sorted_pairs.specs.Places.{IsNotBelow};

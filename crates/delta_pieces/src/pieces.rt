@@ -1,8 +1,7 @@
 //! Pieces.
 ghost use Rattle.std.specs.Prelude.{◌≡◌, ◌↔◌, [], length, map, take, drop, IsTrue, IfOk, IfErr};
 ghost use Rattle.std.specs.FinMap as finmap;
-ghost use Rattle.edit_sums.specs.Flat.{at_fleet};
-ghost use Rattle.edit_sums.specs.Sums.{join, sum_of};
+ghost use Rattle.edit_sums.specs.{Flat.{at_fleet}, Sums.{join, sum_of}};
 ghost use Rattle.world_law.specs.Cuts.{only_at};
 
 use crate::copies::gather;
@@ -24,8 +23,7 @@ pub struct Piece {
 impl Model for Piece {
     ghost use Rattle.std.specs.FinMap as finmap;
     ghost use Rattle.load_places.specs.PlaceLaws.{coded_place};
-    ghost use Rattle.edit_sums.specs.EntryCodes.{coded_entry};
-    ghost use Rattle.edit_sums.specs.Sums.{EntryMap};
+    ghost use Rattle.edit_sums.specs.{EntryCodes.{coded_entry}, Sums.{EntryMap}};
 
     ghost Value = { EntryMap };
 

@@ -1,8 +1,7 @@
 //! What the folders are called in which a unit's files are looked for.
 ghost use Rattle.std.specs.Prelude.{◌≡◌, IfOk, map};
 ghost use Rattle.unit_name.specs.Names.{word};
-ghost use Rattle.dropins.specs.FolderLists.{is_among, types_of};
-ghost use Rattle.dropins.specs.Taken.{dirs_with};
+ghost use Rattle.dropins.specs.{FolderLists.{is_among, types_of}, Taken.{dirs_with}};
 
 use plain_values::Bytes;
 use std::alloc::{AllocError, Global};

@@ -1,8 +1,7 @@
 //! The folders of names.
 ghost use Rattle.std.specs.Prelude.{◌≡◌, ◌∷◌, [], IfOk, IsTrue, OnOk, fold};
 ghost use Rattle.unit_name.specs.Names.{IsName};
-ghost use Rattle.dropins.specs.FolderLists.{folders, folders_of, with_name, with_prefix, with_template};
-ghost use Rattle.dropins.specs.Listings.{IsKept};
+ghost use Rattle.dropins.specs.{FolderLists.{folders, folders_of, with_name, with_prefix, with_template}, Listings.{IsKept}};
 
 use std::alloc::{AllocError, Global};
 use std::collections::BTreeSet;

@@ -1,11 +1,9 @@
 //! What is true of all stores and names: laws, each the contract of a function that does nothing.
 ghost use Rattle.dropins.specs.PrecedenceLaws.{LevelsGoFirst, SomethingIsTaken, TakenOnce, MasksHide, FoldersDecide, RemovalsGiveBack};
 ghost use Rattle.dropins.specs.CutLaws.{CutsAreDashedFronts, LongerCutsComeFirst};
-ghost use Rattle.dropins.specs.FolderLaws.{OneFolder, FoldersAreNames, FoldersStandOnce};
-ghost use Rattle.dropins.specs.FolderJoinLaws.{FoldersOfEach, FoldersJoin};
+ghost use Rattle.dropins.specs.{FolderLaws.{OneFolder, FoldersAreNames, FoldersStandOnce}, FolderJoinLaws.{FoldersOfEach, FoldersJoin}};
 ghost use Rattle.dropins.specs.HostLaws.{DropInsAreTheFleets, HostsWithoutPlacesHaveTheseDropIns, HostsWithoutPlacesHaveTheseLinks, LinksAreTheFleets};
-ghost use Rattle.dropins.specs.LentLaws.{LentAreDropIns};
-ghost use Rattle.dropins.specs.OrderLaws.{OneOrder, DropInsAreFiles};
+ghost use Rattle.dropins.specs.{LentLaws.{LentAreDropIns}, OrderLaws.{OneOrder, DropInsAreFiles}};
 ghost use Rattle.dropins.specs.OverLaws.{NamesOrElseTypes, SomethingIsTakenOver, OverOnce, FoldersDecideOver, RemovalsGiveBackOver};
 ghost use Rattle.dropins.specs.TypeLaws.{TypesAreKinds, OneType, FoldersKeepTypes, WordsAreNoNames, NoNameHasATypesFolder};
 ghost use Rattle.dropins.specs.TypeFolderLaws.{NamesGoFirst, TypesComeLast, MasksHideTypes, NamesAloneWithoutTypes};

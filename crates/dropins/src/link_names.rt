@@ -1,7 +1,5 @@
 //! The units that link folders give.
-ghost use Rattle.std.specs.Prelude.{◌≡◌, ◌↔◌, ℕ, List, IfOk, map, filter};
-ghost use Rattle.std.specs.List.{Contains};
-ghost use Rattle.std.specs.Option.{option_copied};
+ghost use Rattle.std.specs.{Prelude.{◌≡◌, ◌↔◌, ℕ, List, IfOk, map, filter}, List.{Contains}, Option.{option_copied}};
 ghost use Rattle.std.specs.List.Sorted.{IsStrictlySortedBy};
 ghost use Rattle.path_maps.specs.Views.{view_of};
 ghost use Rattle.unit_name.specs.Names.{Name, is_name, name_cmp};

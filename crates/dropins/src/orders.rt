@@ -1,8 +1,5 @@
 //! The drop-ins of a unit.
-ghost use Rattle.std.specs.Prelude.{◌≡◌, ◌↔◌, IfOk, map};
-ghost use Rattle.std.specs.Option.{option_copied};
-ghost use Rattle.std.specs.List.{Contains};
-ghost use Rattle.std.specs.List.Sorted.{IsStrictlySortedBy};
+ghost use Rattle.std.specs.{Prelude.{◌≡◌, ◌↔◌, IfOk, map}, Option.{option_copied}, List.{Contains}, List.Sorted.{IsStrictlySortedBy}};
 ghost use Rattle.load_places.specs.Places.{PlaceParts};
 ghost use Rattle.path_maps.specs.Views.{view_of};
 ghost use Rattle.unit_name.specs.Names.{name_cmp};

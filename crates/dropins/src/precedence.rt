@@ -1,15 +1,12 @@
 //! What is taken for each file name of some folders of names and of types.
-ghost use Rattle.std.specs.Prelude.{◌≡◌, ℕ, ◌↔◌, List, IfOk, OnOk, Some, None, map};
-ghost use Rattle.std.specs.BTreeMap.{get, IsOrdered};
+ghost use Rattle.std.specs.{Prelude.{◌≡◌, ℕ, ◌↔◌, List, IfOk, OnOk, Some, None, map}, BTreeMap.{get, IsOrdered}, List.{Contains}};
+ghost use Rattle.std.specs.List.Sorted.{IsStrictlySortedBy};
 ghost use Rattle.std.specs.FinMap as finmap;
 ghost use Rattle.path_maps.specs.Views.{seen as all_seen};
-ghost use Rattle.std.specs.List.{Contains};
-ghost use Rattle.std.specs.List.Sorted.{IsStrictlySortedBy};
 ghost use Rattle.load_path.specs.Paths.{PathParts};
 ghost use Rattle.edit_sums.specs.Entries.{Entry};
 ghost use Rattle.unit_name.specs.Names.{name_cmp};
-ghost use Rattle.dropins.specs.Taken.{is_conf, is_null, IsTakenOver, entry_name};
-ghost use Rattle.dropins.specs.Taken.Candidate.{At};
+ghost use Rattle.dropins.specs.{Taken.{is_conf, is_null, IsTakenOver, entry_name}, Taken.Candidate.{At}};
 ghost use Rattle.dropins.specs.declared.precedence.Search.TheVariants.{DropIns, Links};
 ghost use Rattle.dropins.specs.Walks.{Adds, first_for, path, said_for, take_at, take_of, took, took_in, took_over, unmasked};
 

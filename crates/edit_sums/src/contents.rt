@@ -1,7 +1,6 @@
 //! What a place holds.
-ghost use Rattle.std.specs.Prelude.{◌≡◌, ◌≤◌, ◌⊎◌, length, Err, IsErr, IfOk};
-ghost use Rattle.std.specs.List.{list_all};
-ghost use Rattle.edit_sums.specs.Limits.{is_target, is_graphic};
+ghost use Rattle.std.specs.{Prelude.{◌≡◌, ◌≤◌, ◌⊎◌, length, Err, IsErr, IfOk}, List.{list_all}};
+ghost use Rattle.edit_sums.specs.{Limits.{is_target, is_graphic}, declared.contents.ContentFault.TheVariants.{Memory}};
 
 use plain_values::{Key, SharedBytes, TryClone, same};
 use std::alloc::AllocError;
@@ -30,9 +29,6 @@ pub enum ContentFault {
 }
 
 impl From<AllocError> for ContentFault {
-    ghost use Rattle.std.specs.Prelude.{◌≡◌};
-    ghost use Rattle.edit_sums.specs.declared.contents.ContentFault.TheVariants.{Memory};
-
     ghost from_gives = { λ _ fault. fault ≡ Memory };
 
     fn from(_refused: AllocError) -> ContentFault {
@@ -151,8 +147,7 @@ fn is_printable(b: u8) -> bool
 }
 
 impl Content {
-    ghost use Rattle.edit_sums.specs.Contents.{file_of, link_of, sort_of, bytes_of};
-    ghost use Rattle.edit_sums.specs.declared.contents.Content.TheVariants.{Gone};
+    ghost use Rattle.edit_sums.specs.{Contents.{file_of, link_of, sort_of, bytes_of}, declared.contents.Content.TheVariants.{Gone}};
 
     /// A file of these bytes, which aren't copied, or `FileTooLarge`; `Memory` only where they are no more than a file has.
     pub fn file(bytes: Vec<u8>) -> Result<Content, ContentFault>
@@ -221,10 +216,8 @@ impl Content {
 }
 
 impl PartialEq for Content {
-    ghost use Rattle.std.specs.Ordering.{eq_by_cmp};
-    ghost use Rattle.std.specs.Cmp.{eq_by_cmp_equiv, partial_equiv_from_equiv};
-    ghost use Rattle.edit_sums.specs.Contents.{content_cmp};
-    ghost use Rattle.edit_sums.specs.ContentLaws.{content_cmp_total};
+    ghost use Rattle.std.specs.{Ordering.{eq_by_cmp}, Cmp.{eq_by_cmp_equiv, partial_equiv_from_equiv}};
+    ghost use Rattle.edit_sums.specs.{Contents.{content_cmp}, ContentLaws.{content_cmp_total}};
 
     ghost eq = { eq_by_cmp content_cmp };
 
@@ -243,10 +236,8 @@ impl Eq for Content {
 }
 
 impl PartialOrd for Content {
-    ghost use Rattle.std.specs.Ordering.{as_partial_cmp};
-    ghost use Rattle.std.specs.Cmp.{partial_order_from_total};
-    ghost use Rattle.edit_sums.specs.Contents.{content_cmp};
-    ghost use Rattle.edit_sums.specs.ContentLaws.{content_cmp_total};
+    ghost use Rattle.std.specs.{Ordering.{as_partial_cmp}, Cmp.{partial_order_from_total}};
+    ghost use Rattle.edit_sums.specs.{Contents.{content_cmp}, ContentLaws.{content_cmp_total}};
 
     ghost partial_cmp = { as_partial_cmp content_cmp };
 
@@ -259,8 +250,7 @@ impl PartialOrd for Content {
 
 impl Ord for Content {
     ghost use Rattle.std.specs.Prelude.{refl};
-    ghost use Rattle.edit_sums.specs.Contents.{content_cmp};
-    ghost use Rattle.edit_sums.specs.ContentLaws.{content_cmp_total};
+    ghost use Rattle.edit_sums.specs.{Contents.{content_cmp}, ContentLaws.{content_cmp_total}};
 
     ghost cmp = { content_cmp };
 

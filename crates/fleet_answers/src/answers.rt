@@ -1,7 +1,6 @@
 //! What a question is answered from one store.
 ghost use Rattle.std.specs.Prelude.{◌≡◌, ◌↔◌, ◌⊎◌, ◌<◌, Err, IfOk};
-ghost use Rattle.fleet_answers.specs.Answers.{IsAnswer};
-ghost use Rattle.fleet_answers.specs.declared.questions.AnswerFault.TheVariants.{Workers};
+ghost use Rattle.fleet_answers.specs.{Answers.{IsAnswer}, declared.questions.AnswerFault.TheVariants.{Workers}};
 
 use crate::names::whole_names;
 use crate::questions::{Answer, AnswerFault, Question};

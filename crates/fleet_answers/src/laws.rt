@@ -1,6 +1,5 @@
 //! What is true of all answers: laws, the contract of a function that does nothing.
-ghost use Rattle.fleet_answers.specs.AnswerLaws.{OneAnswer, OtherHostsChangeNothing};
-ghost use Rattle.fleet_answers.specs.ShownLaws.{SnapshotsStay};
+ghost use Rattle.fleet_answers.specs.{AnswerLaws.{OneAnswer, OtherHostsChangeNothing}, ShownLaws.{SnapshotsStay}};
 
 /// A store and a question have one answer, and what stands at another host's place than the question's changes nothing of
 /// it. What is loaded of a store is what is loaded of each that shows the same.

@@ -1,6 +1,5 @@
 //! Stores that are made to show what others show.
-ghost use Rattle.std.specs.Prelude.{◌≡◌, ◌≢◌, ◌⊎◌, IfOk, IsTrue};
-ghost use Rattle.std.specs.Option.{IfSome};
+ghost use Rattle.std.specs.{Prelude.{◌≡◌, ◌≢◌, ◌⊎◌, IfOk, IsTrue}, Option.{IfSome}};
 ghost use Rattle.join_law.specs.declared.versions.Version.{Version};
 ghost use Rattle.list_laws.specs.Members.{IsAmong};
 ghost use Rattle.load_places.specs.Places.{PlaceParts};

@@ -1,6 +1,5 @@
 //! The names that a question asks for.
-ghost use Rattle.std.specs.Prelude.{◌≡◌, [], ◌∷◌, ◌++◌, IfOk, MatchOption, OnOk};
-ghost use Rattle.std.specs.Option.{IfSome};
+ghost use Rattle.std.specs.{Prelude.{◌≡◌, [], ◌∷◌, ◌++◌, IfOk, MatchOption, OnOk}, Option.{IfSome}};
 ghost use Rattle.start_plan.specs.Requests.{HasTemplate};
 ghost use Rattle.fleet_answers.specs.Answers.{asked, names_asked};
 

@@ -1,7 +1,6 @@
 //! What is asked of a store, and what is answered.
-ghost use Rattle.std.specs.Prelude.{◌≡◌};
-ghost use Rattle.std.specs.Option.{option_copied};
-ghost use Rattle.fleet_answers.specs.Answers.{host_asked};
+ghost use Rattle.std.specs.{Prelude.{◌≡◌}, Option.{option_copied}};
+ghost use Rattle.fleet_answers.specs.{Answers.{host_asked}, declared.questions.AnswerFault.TheVariants.{Memory}};
 
 use plain_values::{Items, Shared};
 use replica_store::HostName;
@@ -81,9 +80,6 @@ pub enum AnswerFault {
 }
 
 impl From<AllocError> for AnswerFault {
-    ghost use Rattle.std.specs.Prelude.{◌≡◌};
-    ghost use Rattle.fleet_answers.specs.declared.questions.AnswerFault.TheVariants.{Memory};
-
     ghost from_gives = { λ _ fault. fault ≡ Memory };
 
     fn from(_fault: AllocError) -> AnswerFault {

@@ -1,11 +1,8 @@
 //! Snapshots that are remembered, so that the next question reads again only what changed.
-ghost use Rattle.std.specs.Prelude.{◌≡◌, ◌↔◌, ◌⊎◌, ◌<◌, [], Err, IfOk, IfErr, IsTrue, None, length};
-ghost use Rattle.std.specs.List.{slice_index_or};
+ghost use Rattle.std.specs.{Prelude.{◌≡◌, ◌↔◌, ◌⊎◌, ◌<◌, [], Err, IfOk, IfErr, IsTrue, None, length}, List.{slice_index_or}};
 ghost use Rattle.std.specs.Option.{IfSome, option_copied};
 ghost use Rattle.path_maps.specs.Views.{view_of};
-ghost use Rattle.parallel_load.specs.AskedLaws.{AreSources};
-ghost use Rattle.parallel_load.specs.Refusals.{OnTooMany, OnWorkers};
-ghost use Rattle.parallel_load.specs.Universe.{IsTooLarge};
+ghost use Rattle.parallel_load.specs.{AskedLaws.{AreSources}, Refusals.{OnTooMany, OnWorkers}, Universe.{IsTooLarge}};
 ghost use Rattle.fleet_answers.specs.Answers.{AreKnown, IsAnswer, IsSnapshot, IsSnapshotOf, IsTold, host_asked, names_asked};
 ghost use Rattle.fleet_answers.specs.declared.questions.AnswerFault.TheVariants.{Workers};
 

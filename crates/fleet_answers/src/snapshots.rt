@@ -1,12 +1,8 @@
 //! What all that must be loaded of a store comes to.
-ghost use Rattle.std.specs.Prelude.{◌≡◌, ◌↔◌, ◌⊎◌, ◌<◌, Err, IfOk, IfErr};
-ghost use Rattle.std.specs.Option.{IfSome, option_copied};
+ghost use Rattle.std.specs.{Prelude.{◌≡◌, ◌↔◌, ◌⊎◌, ◌<◌, Err, IfOk, IfErr}, Option.{IfSome, option_copied}};
 ghost use Rattle.inverse_deps.specs.Edges.{AreEdges};
 ghost use Rattle.path_maps.specs.Views.{view_of};
-ghost use Rattle.parallel_load.specs.AskedLaws.{asked_for};
-ghost use Rattle.parallel_load.specs.Refreshes.{IsBefore};
-ghost use Rattle.parallel_load.specs.Refusals.{OnTooMany, OnWorkers};
-ghost use Rattle.parallel_load.specs.Universe.{IsTooLarge};
+ghost use Rattle.parallel_load.specs.{AskedLaws.{asked_for}, Refreshes.{IsBefore}, Refusals.{OnTooMany, OnWorkers}, Universe.{IsTooLarge}};
 ghost use Rattle.parallel_load.specs.declared.faults.LoadFault.TheVariants.{Workers};
 ghost use Rattle.fleet_answers.specs.Answers.{AreKnown, IsSnapshot, IsTold, host_asked, names_asked};
 

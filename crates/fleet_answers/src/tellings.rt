@@ -3,8 +3,7 @@ ghost use Rattle.std.specs.Prelude.{◌≡◌, IfOk, IfErr, IsSome, Some};
 ghost use Rattle.inverse_deps.specs.Edges.{AreEdges};
 ghost use Rattle.parallel_load.specs.Loads.{main_in, unit_in};
 ghost use Rattle.unit_graph.specs.Graphs.{IsKnown};
-ghost use Rattle.start_plan.specs.Outcomes.{IsPlanned, IsRefusalOf};
-ghost use Rattle.start_plan.specs.Requests.{IsOfGraph};
+ghost use Rattle.start_plan.specs.{Outcomes.{IsPlanned, IsRefusalOf}, Requests.{IsOfGraph}};
 ghost use Rattle.fleet_answers.specs.Answers.{ArePulled, IsLinkedUnit, IsPlanTold};
 
 use crate::questions::{Answer, LinkedUnit};

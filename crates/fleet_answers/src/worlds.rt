@@ -1,6 +1,5 @@
 //! What a node of a world answers.
-ghost use Rattle.std.specs.Prelude.{◌≡◌, ◌↔◌, ◌⊎◌, ◌<◌, Err, length, List, IfOk, IsSome};
-ghost use Rattle.std.specs.Option.{IfSome};
+ghost use Rattle.std.specs.{Prelude.{◌≡◌, ◌↔◌, ◌⊎◌, ◌<◌, Err, length, List, IfOk, IsSome}, Option.{IfSome}};
 ghost use Rattle.world_law.specs.declared.events.Event.{Event};
 ghost use Rattle.fleet_answers.specs.Fleets.{AnswersItsStore, AnswersItsSum, AnswersAsTold, AgreesLater, HoldsLeast, HoldsSameLater};
 ghost use Rattle.fleet_answers.specs.declared.questions.AnswerFault.TheVariants.{Workers};

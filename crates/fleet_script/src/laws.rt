@@ -2,11 +2,9 @@
 ghost use Rattle.std.specs.Prelude.{◌≡◌, ℕ, List, slice_get};
 ghost use Rattle.edit_sums.specs.Sums.{IsHonest};
 ghost use Rattle.world_law.specs.Worlds as worlds;
-ghost use Rattle.fleet_script.specs.Readings.{SameEditsSameOutcomes, SameEditsSameStores, StoresAreLeast};
-ghost use Rattle.fleet_script.specs.Scripts.{Answers, Run};
+ghost use Rattle.fleet_script.specs.{Readings.{SameEditsSameOutcomes, SameEditsSameStores, StoresAreLeast}, Scripts.{Answers, Run}};
 ghost use Rattle.fleet_script.specs.ScriptLaws.{CountersAreLines, FrontsAreOfTheWhole, NoLineIsRefusedForVersions, VersionsAreNeverSpent};
-ghost use Rattle.script_worlds.specs.Worlds.{ScriptWorld, blank, held, state};
-ghost use Rattle.script_worlds.specs.Lawful.{puts};
+ghost use Rattle.script_worlds.specs.{Worlds.{ScriptWorld, blank, held, state}, Lawful.{puts}};
 
 /// A script has one list of answers at most, so whatever `run` writes for it is the same.
 pub fn one_answer()

@@ -1,10 +1,8 @@
 //! A script is read, and its answers are written.
-ghost use Rattle.std.specs.Prelude.{◌≡◌, ◌≤◌, ℕ, List, length, Err, OnOk, OnErr, IsErrOf};
-ghost use Rattle.std.specs.Io.KnownBytes.{Appends};
-ghost use Rattle.script_pipes.specs.Failures.{FailedSince};
-ghost use Rattle.script_pipes.specs.KnownBytes.{AppendsFront};
-ghost use Rattle.fleet_script.specs.Ends.{IsAnswered, IsFronted, IsUnread};
-ghost use Rattle.fleet_script.specs.Scripts.{Answers, AnswersFront};
+ghost use Rattle.std.specs.{Prelude.{◌≡◌, ◌≤◌, ℕ, List, length, Err, OnOk, OnErr, IsErrOf}, Io.KnownBytes.{Appends}};
+ghost use Rattle.script_pipes.specs.{Failures.{FailedSince}, KnownBytes.{AppendsFront}};
+ghost use Rattle.fleet_script.specs.{Ends.{IsAnswered, IsFronted, IsUnread}, Scripts.{Answers, AnswersFront}};
+ghost use Rattle.fleet_script.specs.declared.running.ShellFault.TheVariants.{Write};
 
 use crate::states::Shell;
 use script_pipes::{MAX_SCRIPT_BYTES, ReadFault, Sink, Source, WriteFault, read_all, write_all};
@@ -31,9 +29,6 @@ pub enum ShellFault {
 }
 
 impl From<WriteFault> for ShellFault {
-    ghost use Rattle.std.specs.Prelude.{◌≡◌};
-    ghost use Rattle.fleet_script.specs.declared.running.ShellFault.TheVariants.{Write};
-
     ghost from_gives = { λ _ fault. fault ≡ Write };
 
     fn from(_refused: WriteFault) -> ShellFault {

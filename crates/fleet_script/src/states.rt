@@ -1,8 +1,5 @@
 //! What the shell keeps.
-ghost use Rattle.std.specs.Prelude.{◌≡◌, ◌<◌, ℕ, List, Some, length};
-ghost use Rattle.std.specs.BTreeMap.{get};
-ghost use Rattle.std.specs.Cmp.Lexicographic.{slice_cmp};
-ghost use Rattle.std.specs.Ordering.{nat_cmp};
+ghost use Rattle.std.specs.{Prelude.{◌≡◌, ◌<◌, ℕ, List, Some, length}, BTreeMap.{get}, Cmp.Lexicographic.{slice_cmp}, Ordering.{nat_cmp}};
 
 use delta_pieces::Piece;
 use fleet_answers::Snapshots;

@@ -6,8 +6,7 @@
 //! A line on standard error says which of these it was.
 #![tactic(auto)]
 
-ghost use Rattle.std.specs.Prelude.{◌≡◌, ◌⊎◌, ◌≤◌};
-ghost use Rattle.std.specs.Process.{exit_status};
+ghost use Rattle.std.specs.{Prelude.{◌≡◌, ◌⊎◌, ◌≤◌}, Process.{exit_status}};
 ghost use Rattle.fleet_script.specs.Ends.{IsAnswered, IsFronted, IsUnread, IsUnwritten};
 ghost use Rattle.fleet_shell.specs.Status.{status_of};
 

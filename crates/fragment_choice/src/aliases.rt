@@ -1,9 +1,7 @@
 //! An index of a store's aliases by what they are aliases of.
-ghost use Rattle.std.specs.Prelude.{◌≡◌, [], Some, IfOk, OnOk};
-ghost use Rattle.std.specs.BTreeMap.{Updates};
+ghost use Rattle.std.specs.{Prelude.{◌≡◌, [], Some, IfOk, OnOk}, BTreeMap.{Updates}, Option.{option_copied}};
 ghost use Rattle.edit_sums.specs.Sums.{shown};
 ghost use Rattle.path_maps.specs.Views.{view_of};
-ghost use Rattle.std.specs.Option.{option_copied};
 ghost use Rattle.unit_name.specs.Names.{name_cmp};
 ghost use Rattle.fragment_choice.specs.Choices.{own_choice};
 ghost use Rattle.fragment_choice.specs.Indexes.{AreOwners, Collects, IsIndexOf, IsOwnAt, IsOwnEntry, IsOwnLink, Puts, PutsSaid};

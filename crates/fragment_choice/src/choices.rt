@@ -1,10 +1,8 @@
 //! The choice of a unit's main file.
-ghost use Rattle.std.specs.Prelude.{◌≡◌, IfOk};
-ghost use Rattle.std.specs.Option.{option_copied};
+ghost use Rattle.std.specs.{Prelude.{◌≡◌, IfOk}, Option.{option_copied}};
 ghost use Rattle.path_maps.specs.Views.{View, seen_place, view_of};
 ghost use Rattle.unit_name.specs.Names.{IsName};
-ghost use Rattle.fragment_choice.specs.Choices.{choice, own_choice, says, content_says, link_says};
-ghost use Rattle.fragment_choice.specs.Indexes.{template_choice};
+ghost use Rattle.fragment_choice.specs.{Choices.{choice, own_choice, says, content_says, link_says}, Indexes.{template_choice}};
 
 use crate::links::{last_component, target_says};
 use load_places::LEVELS;

@@ -3,8 +3,7 @@
 ghost use Rattle.fragment_choice.specs.AliasWordLaws.{AliasWordsDecide, AliasWordsShow, OwnWordsDecide, SightsDecideWords};
 ghost use Rattle.fragment_choice.specs.ChoiceLaws.{LeastLevelChooses, TemplatesComeLast, GreaterLevelsDontCount, MasksHide};
 ghost use Rattle.fragment_choice.specs.ChoiceLaws.{OnlyVisibleCounts, OwnPathsCount, OwnPathsDecide, RemovalsGiveBack};
-ghost use Rattle.fragment_choice.specs.LeadsLaws.{LeadsAndChoiceDecide, LeadsDecideMains};
-ghost use Rattle.fragment_choice.specs.SilenceLaws.{SilenceIsNotFound};
+ghost use Rattle.fragment_choice.specs.{LeadsLaws.{LeadsAndChoiceDecide, LeadsDecideMains}, SilenceLaws.{SilenceIsNotFound}};
 ghost use Rattle.fragment_choice.specs.LinkLaws.{AliasesHaveLinks, InstancesKeepTheirPart};
 ghost use Rattle.fragment_choice.specs.LinkCaseLaws.{KindsMakeBad, ShapesMakeBad, TargetsMakeBad, NoLinkIsALoop, GoodLinksMakeAliases};
 ghost use Rattle.fragment_choice.specs.LikenessLaws.{AliasesAreAlike, ChainsAreAlike, MainsAreAlike};

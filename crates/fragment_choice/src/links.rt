@@ -1,6 +1,5 @@
 //! What a link to a unit says of a name.
-ghost use Rattle.std.specs.Prelude.{◌≡◌, ◌≤◌, ◌-◌, length, not, Some, IfOk};
-ghost use Rattle.std.specs.List.{suffix_len};
+ghost use Rattle.std.specs.{Prelude.{◌≡◌, ◌≤◌, ◌-◌, length, not, Some, IfOk}, List.{suffix_len}};
 ghost use Rattle.unit_name.specs.Names.{kind, shape, instance};
 ghost use Rattle.fragment_choice.specs.Choices.{alias_of, has_no_alias, is_bad_kind, is_self, is_slash, last_component, shapes_agree, target_says};
 

@@ -1,14 +1,10 @@
 //! All names of a unit, found by walking back from it along aliases.
-ghost use Rattle.std.specs.Prelude.{◌≡◌, Some, [], ◌∷◌, ◌↔◌, IsTrue, IfOk, OnOk};
-ghost use Rattle.std.specs.BTreeSet.{insert_key};
-ghost use Rattle.std.specs.List.Sorted.{IsStrictlySortedBy};
+ghost use Rattle.std.specs.{Prelude.{◌≡◌, Some, [], ◌∷◌, ◌↔◌, IsTrue, IfOk, OnOk}, BTreeSet.{insert_key}, List.Sorted.{IsStrictlySortedBy}};
+ghost use Rattle.std.specs.Option.{option_copied};
 ghost use Rattle.list_laws.specs.Members.{IsAmong};
 ghost use Rattle.path_maps.specs.Views.{view_of};
-ghost use Rattle.std.specs.Option.{option_copied};
 ghost use Rattle.unit_name.specs.Names.{name_cmp};
-ghost use Rattle.fragment_choice.specs.Choices.{choice};
-ghost use Rattle.fragment_choice.specs.Resolutions.{Leads, main};
-ghost use Rattle.fragment_choice.specs.UnitNames.{AreNames};
+ghost use Rattle.fragment_choice.specs.{Choices.{choice}, Resolutions.{Leads, main}, UnitNames.{AreNames}};
 ghost use Rattle.fragment_choice.specs.Indexes.{Adds, AreBehind, Gathers, IsLeadingInstance, IsLeadingInstanceOfAny, LeadsToAny, is_alias};
 
 use crate::aliases::AliasIndex;

@@ -1,7 +1,6 @@
 //! The end of a unit's aliases.
-ghost use Rattle.std.specs.Prelude.{◌≡◌, IfOk};
+ghost use Rattle.std.specs.{Prelude.{◌≡◌, IfOk}, Option.{option_copied}};
 ghost use Rattle.path_maps.specs.Views.{view_of};
-ghost use Rattle.std.specs.Option.{option_copied};
 ghost use Rattle.fragment_choice.specs.Resolutions.{IsEnd, Resolves, resolution};
 
 use crate::aliases::AliasIndex;

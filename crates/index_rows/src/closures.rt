@@ -1,10 +1,7 @@
 //! What is reached from sources.
-ghost use Rattle.std.specs.Prelude.{◌≡◌, ◌<◌, ◌↔◌, ℕ, length, All, IfOk};
-ghost use Rattle.std.specs.Ordering.{nat_cmp};
-ghost use Rattle.name_closure.specs.Chains.{IsReached, IsClosure};
-ghost use Rattle.name_closure.specs.ListedLaws.{Listed, Named};
-ghost use Rattle.index_rows.specs.Rows.{Marked};
-ghost use Rattle.index_rows.specs.Steps.{AreStepsOf, LeadsInside, steps_from};
+ghost use Rattle.std.specs.{Prelude.{◌≡◌, ◌<◌, ◌↔◌, ℕ, length, All, IfOk}, Ordering.{nat_cmp}};
+ghost use Rattle.name_closure.specs.{Chains.{IsReached, IsClosure}, ListedLaws.{Listed, Named}};
+ghost use Rattle.index_rows.specs.{Rows.{Marked}, Steps.{AreStepsOf, LeadsInside, steps_from}};
 
 use crate::marks::{all_marks, marked_nodes, no_marks, spread};
 use crate::steps::Steps;

@@ -1,6 +1,5 @@
 //! Laws of numbered nodes: each the contract of a function that does nothing.
-ghost use Rattle.std.specs.Prelude.{ℕ, List, map};
-ghost use Rattle.std.specs.Ordering.{nat_cmp};
+ghost use Rattle.std.specs.{Prelude.{ℕ, List, map}, Ordering.{nat_cmp}};
 ghost use Rattle.name_closure.specs.Chains.{IsReached, IsClosure};
 ghost use Rattle.index_rows.specs.Numbering.{IsNumbering, AreNames, AreNamedSteps};
 

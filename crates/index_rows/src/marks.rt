@@ -1,9 +1,6 @@
 //! Sets of nodes by marks.
 ghost use Rattle.std.specs.Prelude.{◌≡◌, ◌<◌, ◌≤◌, ◌↔◌, ◌∷◌, [], ℕ, length, filter, replicate, false, true, All, MatchOption, IfOk, OnOk};
-ghost use Rattle.index_rows.specs.Least.{IsLeast};
-ghost use Rattle.index_rows.specs.Rows.{Marked};
-ghost use Rattle.index_rows.specs.Spreads.{IsSpread, lesser_of};
-ghost use Rattle.index_rows.specs.Steps.{is_marked};
+ghost use Rattle.index_rows.specs.{Least.{IsLeast}, Rows.{Marked}, Spreads.{IsSpread, lesser_of}, Steps.{is_marked}};
 ghost use Rattle.index_rows.specs.Words.{IsAmong, IsStrictlySortedBy, nat_cmp};
 
 use std::alloc::{AllocError, Global};

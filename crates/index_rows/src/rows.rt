@@ -1,7 +1,6 @@
 //! Steps between nodes by rows.
 ghost use Rattle.std.specs.Prelude.{◌≡◌, ◌<◌, ◌≤◌, ◌↔◌, ◌⊎◌, ◌∷◌, [], ℕ, length, All, IfOk, OnOk};
-ghost use Rattle.index_rows.specs.Rows.{AllBelow, AreRowsOf, AreTurned, row as row_of};
-ghost use Rattle.index_rows.specs.Spreads.{IsNoted};
+ghost use Rattle.index_rows.specs.{Rows.{AllBelow, AreRowsOf, AreTurned, row as row_of}, Spreads.{IsNoted}};
 ghost use Rattle.index_rows.specs.Words.{IsAmong, IsStrictlySortedBy, nat_cmp};
 
 use std::alloc::{AllocError, Global};

@@ -1,10 +1,7 @@
 //! Least distances from sources.
-ghost use Rattle.std.specs.Prelude.{◌≡◌, ◌<◌, ◌++◌, [], length, flat_map, map, replicate, true, All, IfOk, OnOk};
-ghost use Rattle.std.specs.Ordering.{nat_cmp};
-ghost use Rattle.name_closure.specs.Chains.{IsDistances};
-ghost use Rattle.name_closure.specs.ListedLaws.{Listed, Named};
-ghost use Rattle.index_rows.specs.Spreads.{IsSpread};
-ghost use Rattle.index_rows.specs.Steps.{AreStepsOf, steps_from};
+ghost use Rattle.std.specs.{Prelude.{◌≡◌, ◌<◌, ◌++◌, [], length, flat_map, map, replicate, true, All, IfOk, OnOk}, Ordering.{nat_cmp}};
+ghost use Rattle.name_closure.specs.{Chains.{IsDistances}, ListedLaws.{Listed, Named}};
+ghost use Rattle.index_rows.specs.{Spreads.{IsSpread}, Steps.{AreStepsOf, steps_from}};
 
 use crate::marks::{all_marks, no_marks, spread};
 use crate::rows::put_in_order;

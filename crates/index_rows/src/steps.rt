@@ -1,9 +1,6 @@
 //! Steps of one or more kinds.
 ghost use Rattle.std.specs.Prelude.{◌≡◌, ◌<◌, ◌++◌, ◌∷◌, [], ℕ, length, IfOk, OnOk, MatchOption};
-ghost use Rattle.index_rows.specs.Least.{IsLeast};
-ghost use Rattle.index_rows.specs.Rows.{Marked};
-ghost use Rattle.index_rows.specs.Spreads.{IsSpread};
-ghost use Rattle.index_rows.specs.Steps.{AreStepsOf, steps_from, steps_inside};
+ghost use Rattle.index_rows.specs.{Least.{IsLeast}, Rows.{Marked}, Spreads.{IsSpread}, Steps.{AreStepsOf, steps_from, steps_inside}};
 ghost use Rattle.index_rows.specs.Words.{IsAmong, nat_cmp};
 
 use crate::marks::{least_marked, lesser, spread_inside};
@@ -18,9 +15,7 @@ pub struct Steps<'a> {
 }
 
 impl<'a> Model for Steps<'a> {
-    ghost use Rattle.std.specs.Prelude.{ℕ, List, map};
-    ghost use Rattle.std.specs.declared.vec.Vec.{Vec};
-    ghost use Rattle.std.specs.declared.alloc.Global.{Global};
+    ghost use Rattle.std.specs.{Prelude.{ℕ, List, map}, declared.vec.Vec.{Vec}, declared.alloc.Global.{Global}};
 
     ghost Value = { List (List (Vec ℕ Global)) };
 

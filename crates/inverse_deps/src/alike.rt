@@ -1,6 +1,5 @@
 //! Loads that have the same edges.
-ghost use Rattle.std.specs.Prelude.{◌≡◌, ◌↔◌, IsTrue};
-ghost use Rattle.std.specs.Map.{keys_of};
+ghost use Rattle.std.specs.{Prelude.{◌≡◌, ◌↔◌, IsTrue}, Map.{keys_of}};
 ghost use Rattle.inverse_deps.specs.Edges.{HaveSameEdges};
 
 use parallel_load::{Loaded, NameLoad};

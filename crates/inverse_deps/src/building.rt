@@ -1,8 +1,6 @@
 //! The edges of a load are found kind by kind, and listed unit by unit.
 ghost use Rattle.std.specs.Prelude.{◌≡◌, ◌<◌, IfOk};
-ghost use Rattle.inverse_deps.specs.Edges.{AreEdges};
-ghost use Rattle.inverse_deps.specs.Numbers.{count_of};
-ghost use Rattle.inverse_deps.specs.Tables.{AreKept, AreTables, lists_from};
+ghost use Rattle.inverse_deps.specs.{Edges.{AreEdges}, Numbers.{count_of}, Tables.{AreKept, AreTables, lists_from}};
 
 use crate::kind_rows::KindRows;
 use crate::lists::Edges;

@@ -14,9 +14,7 @@ pub(crate) struct KindRows {
 }
 
 impl Model for KindRows {
-    ghost use Rattle.std.specs.Prelude.{ℕ, List, map};
-    ghost use Rattle.std.specs.declared.vec.Vec.{Vec};
-    ghost use Rattle.std.specs.declared.alloc.Global.{Global};
+    ghost use Rattle.std.specs.{Prelude.{ℕ, List, map}, declared.vec.Vec.{Vec}, declared.alloc.Global.{Global}};
 
     ghost Value = { List (List (Vec ℕ Global)) };
 

@@ -1,11 +1,8 @@
 //! The edges of one unit: what it names, and what names it by the inverse.
-ghost use Rattle.std.specs.Prelude.{◌≡◌, ◌<◌, ◌↔◌, ◌⊎◌, IfOk, OnOk};
-ghost use Rattle.std.specs.List.{All};
+ghost use Rattle.std.specs.{Prelude.{◌≡◌, ◌<◌, ◌↔◌, ◌⊎◌, IfOk, OnOk}, List.{All}};
 ghost use Rattle.list_laws.specs.Members.{IsAmong};
 ghost use Rattle.parallel_load.specs.declared.loaded.Dependency.{Dependency};
-ghost use Rattle.inverse_deps.specs.Edges.{AreEdgesOf};
-ghost use Rattle.inverse_deps.specs.Links.{AreLinked, AreLinksOf, IsTurned};
-ghost use Rattle.inverse_deps.specs.Numbers.{count_of, name_at};
+ghost use Rattle.inverse_deps.specs.{Edges.{AreEdgesOf}, Links.{AreLinked, AreLinksOf, IsTurned}, Numbers.{count_of, name_at}};
 
 use crate::numbers::{names_at, number_of};
 use crate::steps::numbers_by;

@@ -1,8 +1,6 @@
 //! The edges of a load, as lists of names and as rows of numbers.
 ghost use Rattle.std.specs.Prelude.{◌≡◌, Some};
-ghost use Rattle.inverse_deps.specs.EdgeRows.{AreRowsBy};
-ghost use Rattle.inverse_deps.specs.Edges.{list_at, names_in};
-ghost use Rattle.inverse_deps.specs.Tables.{AreKept};
+ghost use Rattle.inverse_deps.specs.{EdgeRows.{AreRowsBy}, Edges.{list_at, names_in}, Tables.{AreKept}};
 
 use crate::kind_rows::KindRows;
 use plain_values::Items;
@@ -20,8 +18,7 @@ pub struct Edges {
 }
 
 impl Model for Edges {
-    ghost use Rattle.inverse_deps.specs.Edges.{EdgeMap};
-    ghost use Rattle.inverse_deps.specs.Tables.{AreKept};
+    ghost use Rattle.inverse_deps.specs.{Edges.{EdgeMap}, Tables.{AreKept}};
 
     ghost Value = { EdgeMap };
 

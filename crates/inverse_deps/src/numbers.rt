@@ -1,8 +1,6 @@
 //! Numbers of names: the places of a load's names in byte order.
-ghost use Rattle.std.specs.Prelude.{◌≡◌, ◌<◌, IfOk, MatchOption, map};
-ghost use Rattle.std.specs.List.{All};
-ghost use Rattle.inverse_deps.specs.Edges.{IsUnitIn};
-ghost use Rattle.inverse_deps.specs.Numbers.{IsNumberOf, count_of, name_at};
+ghost use Rattle.std.specs.{Prelude.{◌≡◌, ◌<◌, IfOk, MatchOption, map}, List.{All}};
+ghost use Rattle.inverse_deps.specs.{Edges.{IsUnitIn}, Numbers.{IsNumberOf, count_of, name_at}};
 
 use parallel_load::{Loaded, NameLoad};
 use sorted_pairs::seek;

@@ -1,13 +1,9 @@
 //! Steps between the units of a load, by rows of numbers.
-ghost use Rattle.std.specs.Prelude.{◌≡◌, IfOk, IsTrue};
-ghost use Rattle.std.specs.FinMap.{is_sorted};
+ghost use Rattle.std.specs.{Prelude.{◌≡◌, IfOk, IsTrue}, FinMap.{is_sorted}};
 ghost use Rattle.name_closure.specs.ListedLaws.{Named};
-ghost use Rattle.index_rows.specs.Numbering.{AreNamedSteps};
-ghost use Rattle.index_rows.specs.Rows.{AreRowsOf, row as row_of};
+ghost use Rattle.index_rows.specs.{Numbering.{AreNamedSteps}, Rows.{AreRowsOf, row as row_of}};
 ghost use Rattle.unit_name.specs.Names.{name_cmp};
-ghost use Rattle.inverse_deps.specs.Edges.{DependsOn};
-ghost use Rattle.inverse_deps.specs.Numbers.{count_of, name_at};
-ghost use Rattle.inverse_deps.specs.Tables.{AreNamingTables, AreNumbersBy};
+ghost use Rattle.inverse_deps.specs.{Edges.{DependsOn}, Numbers.{count_of, name_at}, Tables.{AreNamingTables, AreNumbersBy}};
 
 use crate::kind_rows::KindRows;
 use parallel_load::{Dependency, Loaded};

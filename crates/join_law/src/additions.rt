@@ -1,9 +1,7 @@
 //! Joins of one value into maps of maps, of any depth.
-ghost use Rattle.std.specs.Prelude.{◌≡◌, ◌↔◌, [], ◌∷◌, Bool, false, IsTrue, IsOk, IfOk, OnOk, OnErr};
-ghost use Rattle.std.specs.Option.{IfNone, IfSome};
+ghost use Rattle.std.specs.{Prelude.{◌≡◌, ◌↔◌, [], ◌∷◌, Bool, false, IsTrue, IsOk, IfOk, OnOk, OnErr}, Option.{IfNone, IfSome}};
 ghost use Rattle.std.specs.FinMap.{find};
-ghost use Rattle.join_law.specs.Maps.{IsHeld, IsMap, MapBelow, is_none_or};
-ghost use Rattle.join_law.specs.Order.{IsBetween, IsJoin, IsLeast};
+ghost use Rattle.join_law.specs.{Maps.{IsHeld, IsMap, MapBelow, is_none_or}, Order.{IsBetween, IsJoin, IsLeast}};
 
 use crate::joins::Join;
 use crate::maps::JoinMap;

@@ -1,10 +1,6 @@
 //! Changes of a value that a map of maps holds, made in place.
-ghost use Rattle.std.specs.Prelude.{◌≡◌, [], ◌∷◌, Bool};
-ghost use Rattle.std.specs.Bool.{OnTrue, OnFalse};
-ghost use Rattle.std.specs.FinMap.{find};
-ghost use Rattle.join_law.specs.Maps.{IsMap, MapBelow, is_some_and};
-ghost use Rattle.join_law.specs.Order.{IsJoin};
-ghost use Rattle.join_law.specs.VersionOrder.{has_other};
+ghost use Rattle.std.specs.{Prelude.{◌≡◌, [], ◌∷◌, Bool}, Bool.{OnTrue, OnFalse}, FinMap.{find}};
+ghost use Rattle.join_law.specs.{Maps.{IsMap, MapBelow, is_some_and}, Order.{IsJoin}, VersionOrder.{has_other}};
 
 use crate::joins::Join;
 use crate::maps::JoinMap;
@@ -41,8 +37,7 @@ pub struct Overwrite<C: Key> {
 impl<C: Key> Change for Overwrite<C> {
     type Value = Versioned<C>;
 
-    ghost use Rattle.join_law.specs.declared.versions.Versioned.TheVariants.{At};
-    ghost use Rattle.join_law.specs.VersionOrder.{has_other};
+    ghost use Rattle.join_law.specs.{declared.versions.Versioned.TheVariants.{At}, VersionOrder.{has_other}};
 
     ghost is_made = { λ o value. has_other C.cmp o.entry.content value };
 

@@ -1,11 +1,7 @@
 //! Sorted pairs compared and copied, and copies joined into them.
-ghost use Rattle.std.specs.Prelude.{◌≡◌, ◌↔◌, ◌≤◌, None, [], ◌∷◌, map, vec_len, IsTrue, IsOk, IfOk, OnOk, OnErr};
-ghost use Rattle.std.specs.Bool.{OnTrue, OnFalse};
-ghost use Rattle.std.specs.FinMap.{find};
-ghost use Rattle.std.specs.List.{insert};
-ghost use Rattle.join_law.specs.Maps.{IsHeld, IsMap, MapBelow};
-ghost use Rattle.join_law.specs.Order.{IsBetween, IsJoin};
-ghost use Rattle.join_law.specs.Outcomes.{AreCopiesJoined};
+ghost use Rattle.std.specs.{Prelude.{◌≡◌, ◌↔◌, ◌≤◌, None, [], ◌∷◌, map, vec_len, IsTrue, IsOk, IfOk, OnOk, OnErr}, Bool.{OnTrue, OnFalse}};
+ghost use Rattle.std.specs.{FinMap.{find}, List.{insert}};
+ghost use Rattle.join_law.specs.{Maps.{IsHeld, IsMap, MapBelow}, Order.{IsBetween, IsJoin}, Outcomes.{AreCopiesJoined}};
 
 use crate::joins::Join;
 use crate::passes::{are_few, join_copies_in_one};

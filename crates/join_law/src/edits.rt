@@ -1,9 +1,6 @@
 //! Joins of pairs that are given away into sorted pairs.
-ghost use Rattle.std.specs.Prelude.{◌≡◌, ◌↔◌, [], ◌∷◌, None, IsTrue, IsSome, IsOk, IfOk, OnOk, IfErr};
-ghost use Rattle.std.specs.FinMap.{find};
-ghost use Rattle.join_law.specs.Maps.{IsMap, MapBelow};
-ghost use Rattle.join_law.specs.Order.{IsJoin, IsLeast, IsPartialJoin};
-ghost use Rattle.join_law.specs.Outcomes.{ArePairsJoined};
+ghost use Rattle.std.specs.{Prelude.{◌≡◌, ◌↔◌, [], ◌∷◌, None, IsTrue, IsSome, IsOk, IfOk, OnOk, IfErr}, FinMap.{find}};
+ghost use Rattle.join_law.specs.{Maps.{IsMap, MapBelow}, Order.{IsJoin, IsLeast, IsPartialJoin}, Outcomes.{ArePairsJoined}};
 
 use crate::joins::{Join, Rest};
 use crate::passes::{are_few, join_pairs_in_one};

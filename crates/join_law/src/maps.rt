@@ -1,9 +1,7 @@
 //! Maps whose values are joined key by key.
 ghost use Rattle.std.specs.Prelude.{◌≡◌, ◌↔◌, [], ◌∷◌, ◌++◌, None, length, map, IsTrue, IsSome, IsOk, IfOk, OnOk, IfErr};
-ghost use Rattle.std.specs.Option.{option_copied, option_to_list, IfNone, IfSome};
-ghost use Rattle.std.specs.FinMap.{find};
-ghost use Rattle.join_law.specs.Maps.{IsHeld, IsMap, MapBelow};
-ghost use Rattle.join_law.specs.Order.{IsJoin, IsLeast, IsPartialJoin};
+ghost use Rattle.std.specs.{Option.{option_copied, option_to_list, IfNone, IfSome}, FinMap.{find}};
+ghost use Rattle.join_law.specs.{Maps.{IsHeld, IsMap, MapBelow}, Order.{IsJoin, IsLeast, IsPartialJoin}};
 
 use crate::copies::{copy_pairs, join_copies, keys_of, same_pairs};
 use crate::edits::{join_pair, join_pairs};
@@ -24,8 +22,7 @@ pub struct JoinMap<K: Key, V: Join> {
 }
 
 impl<K: Key, V: Join> Model for JoinMap<K, V> {
-    ghost use Rattle.std.specs.Prelude.{List};
-    ghost use Rattle.std.specs.Coded.{coded_list, coded×};
+    ghost use Rattle.std.specs.{Prelude.{List}, Coded.{coded_list, coded×}};
     ghost use Rattle.join_law.specs.Maps.{IsMap};
 
     ghost Value = { List (K × V) };
@@ -144,9 +141,7 @@ impl<K: Key, V: Join> JoinMap<K, V> {
 }
 
 impl<K: Key, V: Join> Join for JoinMap<K, V> {
-    ghost use Rattle.join_law.specs.Maps.{IsSinglePair, map_union};
-    ghost use Rattle.join_law.specs.MapLaws.{map_itself, map_chain};
-    ghost use Rattle.join_law.specs.UnionLaws.{union_joins, union_keeps};
+    ghost use Rattle.join_law.specs.{Maps.{IsSinglePair, map_union}, MapLaws.{map_itself, map_chain}, UnionLaws.{union_joins, union_keeps}};
     ghost use Rattle.join_law.specs.MapOneLaws.{maps_one};
 
     ghost below = { MapBelow K.cmp V.below };

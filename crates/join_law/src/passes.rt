@@ -1,11 +1,8 @@
 //! One pass over sorted pairs that joins others which are many.
 ghost use Rattle.std.specs.Prelude.{◌≡◌, ◌+◌, ◌<◌, ◌≤◌, ◌++◌, [], ◌∷◌, length, vec_len, vec_capacity, IsOk, OnOk, OnErr, IfErr};
-ghost use Rattle.std.specs.VecDeque.{deque_len};
-ghost use Rattle.std.specs.declared.cmp.Ordering.TheVariants.{Less};
-ghost use Rattle.std.specs.Bool.{OnTrue, OnFalse};
+ghost use Rattle.std.specs.{VecDeque.{deque_len}, declared.cmp.Ordering.TheVariants.{Less}, Bool.{OnTrue, OnFalse}};
 ghost use Rattle.sorted_pairs.specs.Places.{IsAt, IsGap, AreBelow, IsNotBelow};
-ghost use Rattle.join_law.specs.Maps.{IsHeld, IsMap, MapBelow};
-ghost use Rattle.join_law.specs.Order.{IsBetween, IsJoin, IsLeast, IsPartialJoin};
+ghost use Rattle.join_law.specs.{Maps.{IsHeld, IsMap, MapBelow}, Order.{IsBetween, IsJoin, IsLeast, IsPartialJoin}};
 ghost use Rattle.join_law.specs.Outcomes.{AreCopiesJoined, ArePairsJoined};
 
 use crate::joins::{Join, Rest};

@@ -81,8 +81,7 @@ impl<C: Key> Versioned<C> {
 }
 
 impl<C: Key> Join for Versioned<C> {
-    ghost use Rattle.join_law.specs.Order.{IsJoin, IsPartialJoin, IsBetween};
-    ghost use Rattle.join_law.specs.VersionOrder.{IsUpTo, versioned_max};
+    ghost use Rattle.join_law.specs.{Order.{IsJoin, IsPartialJoin, IsBetween}, VersionOrder.{IsUpTo, versioned_max}};
     ghost use Rattle.join_law.specs.VersionedLaws.{up_to_itself, up_to_chain, max_joins, both_up};
 
     ghost below = { IsUpTo C.cmp };

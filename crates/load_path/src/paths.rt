@@ -1,6 +1,7 @@
 //! Where a content stands.
 ghost use Rattle.std.specs.Prelude.{◌≡◌, ◌<◌, ◌⊎◌, ◌||◌, ◌++◌, not, length, Err, IsErr, IsTrue, IfOk, OnOk, OnErr};
 ghost use Rattle.load_path.specs.Paths.{directory_of, has_folder, is_component, path_of, text_of, IsPath};
+ghost use Rattle.load_path.specs.declared.paths.PathFault.TheVariants.{Memory};
 
 use crate::texts::{Parts, directory};
 use plain_values::{Bytes, Key, TryClone};
@@ -29,9 +30,6 @@ pub enum PathFault {
 }
 
 impl From<AllocError> for PathFault {
-    ghost use Rattle.std.specs.Prelude.{◌≡◌};
-    ghost use Rattle.load_path.specs.declared.paths.PathFault.TheVariants.{Memory};
-
     ghost from_gives = { λ _ fault. fault ≡ Memory };
 
     fn from(_refused: AllocError) -> PathFault {

@@ -1,6 +1,5 @@
 //! The parts of a path where they stand in its text.
-ghost use Rattle.std.specs.Prelude.{◌≡◌, ◌<◌, [], ◌∷◌, option_map, position};
-ghost use Rattle.std.specs.List.{list_all, slice_split};
+ghost use Rattle.std.specs.{Prelude.{◌≡◌, ◌<◌, [], ◌∷◌, option_map, position}, List.{list_all, slice_split}};
 ghost use Rattle.std.specs.Option.{option_map_or, option_copied};
 ghost use Rattle.load_path.specs.Paths.{directory_of, below_directory, is_component, is_component_byte, is_dots, is_slash, located, path_below, path_of};
 

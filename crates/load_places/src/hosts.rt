@@ -1,7 +1,6 @@
 //! Names of hosts.
-ghost use Rattle.std.specs.Prelude.{◌≡◌, ◌⊎◌, Err, IsErr, IfOk, IsTrue};
-ghost use Rattle.std.specs.List.{list_all};
-ghost use Rattle.load_places.specs.Hosts.{host_of, is_host, is_host_byte};
+ghost use Rattle.std.specs.{Prelude.{◌≡◌, ◌⊎◌, Err, IsErr, IfOk, IsTrue}, List.{list_all}};
+ghost use Rattle.load_places.specs.{Hosts.{host_of, is_host, is_host_byte}, declared.hosts.HostFault.TheVariants.{Memory}};
 
 use plain_values::{Bytes, Key, TryClone};
 use std::alloc::{AllocError, Global};
@@ -23,9 +22,6 @@ pub enum HostFault {
 }
 
 impl From<AllocError> for HostFault {
-    ghost use Rattle.std.specs.Prelude.{◌≡◌};
-    ghost use Rattle.load_places.specs.declared.hosts.HostFault.TheVariants.{Memory};
-
     ghost from_gives = { λ _ fault. fault ≡ Memory };
 
     fn from(_refused: AllocError) -> HostFault {

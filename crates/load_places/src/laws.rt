@@ -1,6 +1,5 @@
 //! Laws on places, for all of them, and on levels, for all answers at them.
-ghost use Rattle.load_places.specs.LevelLaws.{LeastLevelDecides, LevelsAreNumbered, SilenceIsEverywhere};
-ghost use Rattle.load_places.specs.Texts.{AreTheirTexts};
+ghost use Rattle.load_places.specs.{LevelLaws.{LeastLevelDecides, LevelsAreNumbered, SilenceIsEverywhere}, Texts.{AreTheirTexts}};
 
 /// The text of each place is read as that place, and what is read as a place is its text.
 pub fn places_are_their_texts()

@@ -40,10 +40,8 @@ impl Scope {
 }
 
 impl PartialEq for Scope {
-    ghost use Rattle.std.specs.Ordering.{eq_by_cmp};
-    ghost use Rattle.std.specs.Cmp.{eq_by_cmp_equiv, partial_equiv_from_equiv};
-    ghost use Rattle.load_places.specs.Places.{scope_cmp};
-    ghost use Rattle.load_places.specs.PlaceLaws.{scope_cmp_total};
+    ghost use Rattle.std.specs.{Ordering.{eq_by_cmp}, Cmp.{eq_by_cmp_equiv, partial_equiv_from_equiv}};
+    ghost use Rattle.load_places.specs.{Places.{scope_cmp}, PlaceLaws.{scope_cmp_total}};
 
     ghost eq = { eq_by_cmp scope_cmp };
 
@@ -62,10 +60,8 @@ impl Eq for Scope {
 }
 
 impl PartialOrd for Scope {
-    ghost use Rattle.std.specs.Ordering.{as_partial_cmp};
-    ghost use Rattle.std.specs.Cmp.{partial_order_from_total};
-    ghost use Rattle.load_places.specs.Places.{scope_cmp};
-    ghost use Rattle.load_places.specs.PlaceLaws.{scope_cmp_total};
+    ghost use Rattle.std.specs.{Ordering.{as_partial_cmp}, Cmp.{partial_order_from_total}};
+    ghost use Rattle.load_places.specs.{Places.{scope_cmp}, PlaceLaws.{scope_cmp_total}};
 
     ghost partial_cmp = { as_partial_cmp scope_cmp };
 
@@ -78,8 +74,7 @@ impl PartialOrd for Scope {
 
 impl Ord for Scope {
     ghost use Rattle.std.specs.Prelude.{refl};
-    ghost use Rattle.load_places.specs.Places.{scope_cmp};
-    ghost use Rattle.load_places.specs.PlaceLaws.{scope_cmp_total};
+    ghost use Rattle.load_places.specs.{Places.{scope_cmp}, PlaceLaws.{scope_cmp_total}};
 
     ghost cmp = { scope_cmp };
 

@@ -1,6 +1,6 @@
 //! Texts of places.
 ghost use Rattle.std.specs.Prelude.{◌≡◌, ◌⊎◌, ◌++◌, Err, IsErr, OnOk, OnErr, position};
-ghost use Rattle.load_places.specs.Texts.{host_end, is_colon, place_of, place_text, scope_text};
+ghost use Rattle.load_places.specs.Texts.{host_end, is_colon, place_of, place_text, scope_text, fault_of_host, fault_of_path};
 
 use crate::hosts::{HostFault, HostName, is_host_name};
 use crate::places::{Place, Scope};
@@ -29,9 +29,6 @@ pub enum PlaceFault {
 }
 
 impl From<HostFault> for PlaceFault {
-    ghost use Rattle.std.specs.Prelude.{◌≡◌};
-    ghost use Rattle.load_places.specs.Texts.{fault_of_host};
-
     ghost from_gives = { λ refused fault. fault ≡ fault_of_host refused };
 
     fn from(refused: HostFault) -> PlaceFault {
@@ -43,9 +40,6 @@ impl From<HostFault> for PlaceFault {
 }
 
 impl From<PathFault> for PlaceFault {
-    ghost use Rattle.std.specs.Prelude.{◌≡◌};
-    ghost use Rattle.load_places.specs.Texts.{fault_of_path};
-
     ghost from_gives = { λ refused fault. fault ≡ fault_of_path refused };
 
     fn from(refused: PathFault) -> PlaceFault {

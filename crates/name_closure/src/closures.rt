@@ -1,10 +1,6 @@
 //! Least closed sets with what is loaded for their nodes, by rounds.
-ghost use Rattle.std.specs.Prelude.{◌≤◌, length, All, IfOk, IfErr};
-ghost use Rattle.std.specs.BTreeMap.{keys};
-ghost use Rattle.std.specs.List.Sorted.{IsStrictlySortedBy};
-ghost use Rattle.name_closure.specs.Chains.{IsClosure, HasOver};
-ghost use Rattle.name_closure.specs.Faults.{OnTooMany};
-ghost use Rattle.name_closure.specs.ListedLaws.{Listed};
+ghost use Rattle.std.specs.{Prelude.{◌≤◌, length, All, IfOk, IfErr}, BTreeMap.{keys}, List.Sorted.{IsStrictlySortedBy}};
+ghost use Rattle.name_closure.specs.{Chains.{IsClosure, HasOver}, Faults.{OnTooMany}, ListedLaws.{Listed}};
 ghost use Rattle.name_closure.specs.Loading.{LeadsByLoad, AreLoaded, IsRound};
 
 use crate::loads::{ClosureFault, Loads, Round};

@@ -1,18 +1,13 @@
 //! Laws of what is reached, for all nodes, sources and steps: each the contract of a function that
 //! does nothing. Its type parameters stand for the sets and the steps that a clause speaks of.
-ghost use Rattle.std.specs.Prelude.{◌≡◌, ◌↔◌, ◌<◌, ◌≤◌, ◌+◌, ℕ, Bool, List, length};
-ghost use Rattle.std.specs.List.Sorted.{IsStrictlySortedBy};
-ghost use Rattle.std.specs.Map.{keys_of};
+ghost use Rattle.std.specs.{Prelude.{◌≡◌, ◌↔◌, ◌<◌, ◌≤◌, ◌+◌, ℕ, Bool, List, length}, List.Sorted.{IsStrictlySortedBy}, Map.{keys_of}};
 ghost use Rattle.std.specs.declared.cmp.Ordering.TheVariants.{Equal};
 ghost use Rattle.list_laws.specs.Members.{IsAmong};
-ghost use Rattle.name_closure.specs.Chains.{IsReached, IsDistance, IsClosure, HasOver, IsDistances};
-ghost use Rattle.name_closure.specs.ClosureLaws.{IsClosed};
+ghost use Rattle.name_closure.specs.{Chains.{IsReached, IsDistance, IsClosure, HasOver, IsDistances}, ClosureLaws.{IsClosed}};
 ghost use Rattle.name_closure.specs.DistanceLaws.{HasDistance, HasNodeBefore};
 ghost use Rattle.name_closure.specs.KeptLaws.{StepsStay, StepsStayWithin, HasSameSteps, HasKnownAnd};
-ghost use Rattle.name_closure.specs.KeptLaws.{AreKnown, AreAdded, IsUnknownOf, LeadsBeyond};
-ghost use Rattle.name_closure.specs.ListedLaws.{Listed, Named};
-ghost use Rattle.name_closure.specs.Loading.{LeadsByLoad, AreLoaded};
-ghost use Rattle.name_closure.specs.SourceLaws.{AreSameNodes, AreSameSteps, IsInEither};
+ghost use Rattle.name_closure.specs.{KeptLaws.{AreKnown, AreAdded, IsUnknownOf, LeadsBeyond}, ListedLaws.{Listed, Named}};
+ghost use Rattle.name_closure.specs.{Loading.{LeadsByLoad, AreLoaded}, SourceLaws.{AreSameNodes, AreSameSteps, IsInEither}};
 
 use crate::loads::Loads;
 use plain_values::Key;

@@ -1,6 +1,6 @@
 //! Loads: what is loaded for a node, and the nodes that it names.
 ghost use Rattle.std.specs.Prelude.{◌≡◌, List, All, IfOk};
-ghost use Rattle.name_closure.specs.Loading.{AreLoads};
+ghost use Rattle.name_closure.specs.{Loading.{AreLoads}, declared.loads.ClosureFault.TheVariants.{Memory}};
 
 use plain_values::Key;
 use std::alloc::{AllocError, Global};
@@ -17,9 +17,6 @@ pub enum ClosureFault {
 }
 
 impl From<AllocError> for ClosureFault {
-    ghost use Rattle.std.specs.Prelude.{◌≡◌};
-    ghost use Rattle.name_closure.specs.declared.loads.ClosureFault.TheVariants.{Memory};
-
     ghost from_gives = { λ _ fault. fault ≡ Memory };
 
     fn from(_fault: AllocError) -> ClosureFault {

@@ -1,8 +1,5 @@
 //! The nodes that a round names and that aren't its own.
-ghost use Rattle.std.specs.Prelude.{◌↔◌, ◌++◌, All, IfOk, OnOk, IsTrue};
-ghost use Rattle.std.specs.List.{flat_map};
-ghost use Rattle.std.specs.List.Sorted.{IsStrictlySortedBy};
-ghost use Rattle.std.specs.Map.{keys_of};
+ghost use Rattle.std.specs.{Prelude.{◌↔◌, ◌++◌, All, IfOk, OnOk, IsTrue}, List.{flat_map}, List.Sorted.{IsStrictlySortedBy}, Map.{keys_of}};
 ghost use Rattle.list_laws.specs.Members.{IsAmong};
 ghost use Rattle.name_closure.specs.Loading.{AreApart, AreLoaded, AreOthers, IsRound};
 

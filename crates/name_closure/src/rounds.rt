@@ -1,11 +1,7 @@
 //! What a round of a closure does: what was loaded is added to what is found, and the nodes that
 //! are named there and not found yet are those of the next round.
-ghost use Rattle.std.specs.Prelude.{◌≡◌, IfOk, OnOk};
-ghost use Rattle.std.specs.BTreeMap.{keys};
-ghost use Rattle.std.specs.List.Sorted.{IsStrictlySortedBy};
-ghost use Rattle.std.specs.Map.{keys_of};
-ghost use Rattle.name_closure.specs.Growth.{AreJoined, AreNew};
-ghost use Rattle.name_closure.specs.Loading.{AreLoaded};
+ghost use Rattle.std.specs.{Prelude.{◌≡◌, IfOk, OnOk}, BTreeMap.{keys}, List.Sorted.{IsStrictlySortedBy}, Map.{keys_of}};
+ghost use Rattle.name_closure.specs.{Growth.{AreJoined, AreNew}, Loading.{AreLoaded}};
 
 use crate::loads::Loads;
 use crate::names::each_once;

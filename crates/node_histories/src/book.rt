@@ -1,7 +1,6 @@
 //! The book that keeps the history of a node, and the name of a node.
 ghost use Rattle.std.specs.Prelude.{◌≡◌, ◌∷◌, []};
-ghost use Rattle.node_histories.specs.declared.events.HistoryEvent.TheVariants.{Opening};
-ghost use Rattle.node_histories.specs.Books.{head_of};
+ghost use Rattle.node_histories.specs.{declared.events.HistoryEvent.TheVariants.{Opening}, Books.{head_of}};
 
 use crate::events::{Asked, HistoryEvent, Takeable};
 use logbook::{Gain, Offer, Opening as Opens, Plain, Play, Rule, Seen, Start, Word};

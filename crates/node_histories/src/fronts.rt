@@ -1,8 +1,7 @@
 //! Tokens of a node's history.
 ghost use Rattle.std.specs.Prelude.{◌≡◌, ◌-◌, ◌<◌, ◌≤◌, ◌^◌, ◌++◌, ◌∷◌, ◌⊎◌, [], IfSome, IfNone};
 ghost use mathlib.Core.List.{IsPrefix};
-ghost use Rattle.node_histories.specs.Histories.{IsLegal, IsNext, takes_in, opening_of, all_edits};
-ghost use Rattle.node_histories.specs.Books.{head_of};
+ghost use Rattle.node_histories.specs.{Histories.{IsLegal, IsNext, takes_in, opening_of, all_edits}, Books.{head_of}};
 
 use crate::book::{Add, Asking, Head, History, NodeName, Nothing};
 use crate::events::{Asked, Takeable};
@@ -19,8 +18,7 @@ pub struct Front<N: NodeName> {
 
 impl<N: NodeName> Model for Front<N> {
     ghost use Rattle.std.specs.Prelude.{◌≡◌, List};
-    ghost use Rattle.node_histories.specs.declared.events.HistoryEvent.{HistoryEvent};
-    ghost use Rattle.node_histories.specs.Codes.{coded_history};
+    ghost use Rattle.node_histories.specs.{declared.events.HistoryEvent.{HistoryEvent}, Codes.{coded_history}};
     ghost use Rattle.node_histories.specs.Histories.{IsLegal, takes_in};
 
     ghost Value = { List HistoryEvent };
@@ -43,9 +41,7 @@ pub(crate) struct Turn<N: NodeName> {
 
 impl<N: NodeName> Model for Turn<N> {
     ghost use Rattle.std.specs.Prelude.{◌≡◌, None};
-    ghost use Rattle.node_histories.specs.Books.{TurnNow};
-    ghost use Rattle.node_histories.specs.Codes.{coded_turn};
-    ghost use Rattle.node_histories.specs.Histories.{IsLegal, takes_in};
+    ghost use Rattle.node_histories.specs.{Books.{TurnNow}, Codes.{coded_turn}, Histories.{IsLegal, takes_in}};
 
     ghost Value = { TurnNow };
 

@@ -4,10 +4,8 @@ ghost use Rattle.list_laws.specs.Members.{IsAmong};
 ghost use Rattle.edit_sums.specs.declared.entries.Edit.{Edit};
 ghost use Rattle.replica_store.specs.Replicas.{Replicated};
 ghost use Rattle.world_law.specs.Worlds.{after, blank};
-ghost use Rattle.node_histories.specs.declared.events.HistoryEvent.{HistoryEvent};
-ghost use Rattle.node_histories.specs.declared.events.HistoryEvent.TheVariants.{Edited};
-ghost use Rattle.node_histories.specs.Histories.{IsLegal, IsAbove, opening_of, all_edits, store_of};
-ghost use Rattle.node_histories.specs.HistoryWorlds.{world_of, nodes_of};
+ghost use Rattle.node_histories.specs.{declared.events.HistoryEvent.{HistoryEvent}, declared.events.HistoryEvent.TheVariants.{Edited}};
+ghost use Rattle.node_histories.specs.{Histories.{IsLegal, IsAbove, opening_of, all_edits, store_of}, HistoryWorlds.{world_of, nodes_of}};
 
 /// In a legal history the node's own number is on each edit, whose counter is greater than those of all edits before it,
 /// those of the opening and of pieces too. So edits of nodes with different numbers have different versions.

@@ -1,13 +1,11 @@
 //! What a node publishes: a replica, with the history that its store is the sum of.
-ghost use Rattle.std.specs.Prelude.{◌≡◌, ◌-◌, ◌<◌, ◌^◌, ◌++◌, ◌∷◌, [], IfOk, IfSome, IfNone};
+ghost use Rattle.std.specs.{Prelude.{◌≡◌, ◌-◌, ◌<◌, ◌^◌, ◌++◌, ◌∷◌, [], IfOk, IfSome, IfNone}, Arc.{arc_value}};
 ghost use mathlib.Core.List.{IsPrefix};
-ghost use Rattle.std.specs.Arc.{arc_value};
 ghost use Rattle.edit_sums.specs.Sums.{changed_places};
 ghost use Rattle.replica_store.specs.Replicas.{next_version};
 ghost use Rattle.node_histories.specs.declared.events.HistoryEvent.TheVariants.{Opening, Edited, Absorbed};
 ghost use Rattle.node_histories.specs.Histories.{store_of, counter_of, replica_of, takes_in, opening_of, all_edits, IsLegal, IsNext};
-ghost use Rattle.node_histories.specs.Books.{head_of};
-ghost use Rattle.node_histories.specs.Codes.{replica-prop, IsLegal-prop};
+ghost use Rattle.node_histories.specs.{Books.{head_of}, Codes.{replica-prop, IsLegal-prop}};
 
 use crate::book::{Head, History, NodeName};
 use crate::events::{Asked, Takeable};

@@ -1,6 +1,5 @@
 //! Units that a touched place can't meet, as the first bytes of names tell, without footprints being made.
-ghost use Rattle.std.specs.Prelude.{◌≡◌, true, false, IfOk};
-ghost use Rattle.std.specs.List.{All};
+ghost use Rattle.std.specs.{Prelude.{◌≡◌, true, false, IfOk}, List.{All}};
 ghost use Rattle.parallel_load.specs.Apart.{IsApart, IsFar, IsMissedBy, IsOfNoType, is_mark};
 
 use plain_values::Bytes;

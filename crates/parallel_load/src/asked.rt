@@ -3,8 +3,7 @@ ghost use Rattle.std.specs.Prelude.{◌≡◌, IsTrue, is_some};
 ghost use Rattle.path_maps.specs.Views.{seen_at};
 ghost use Rattle.unit_name.specs.Names.{IsName};
 ghost use Rattle.fragment_choice.specs.Choices.{own_path};
-ghost use Rattle.parallel_load.specs.AskedLaws.{AreSources};
-ghost use Rattle.parallel_load.specs.Universe.{IsSource, IsVisibleName};
+ghost use Rattle.parallel_load.specs.{AskedLaws.{AreSources}, Universe.{IsSource, IsVisibleName}};
 
 use load_places::LEVELS;
 use replica_store::Seen;

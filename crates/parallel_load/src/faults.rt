@@ -1,5 +1,6 @@
 //! Why there is no load.
 ghost use Rattle.std.specs.Prelude.{◌≡◌};
+ghost use Rattle.parallel_load.specs.{declared.faults.LoadFault.TheVariants.{Memory}, Refusals.{refusal_of}};
 
 use name_closure::ClosureFault;
 use std::alloc::AllocError;
@@ -20,8 +21,6 @@ pub enum LoadFault {
 }
 
 impl From<AllocError> for LoadFault {
-    ghost use Rattle.parallel_load.specs.declared.faults.LoadFault.TheVariants.{Memory};
-
     ghost from_gives = { λ _ fault. fault ≡ Memory };
 
     fn from(_fault: AllocError) -> LoadFault {
@@ -30,8 +29,6 @@ impl From<AllocError> for LoadFault {
 }
 
 impl From<ClosureFault> for LoadFault {
-    ghost use Rattle.parallel_load.specs.Refusals.{refusal_of};
-
     ghost from_gives = { λ fault refusal. refusal ≡ refusal_of fault };
 
     fn from(fault: ClosureFault) -> LoadFault {

@@ -1,12 +1,8 @@
 //! A load made of what was found: its names in order, dependencies by main names and by numbers.
-ghost use Rattle.std.specs.Prelude.{◌≡◌, ◌<◌, ◌≤◌, length, map, IfOk, IsTrue};
-ghost use Rattle.std.specs.BTreeMap.{keys};
-ghost use Rattle.std.specs.FinMap.{is_sorted};
-ghost use Rattle.std.specs.Option.{option_copied};
-ghost use Rattle.std.specs.List.Sorted.{IsStrictlySortedBy};
+ghost use Rattle.std.specs.{Prelude.{◌≡◌, ◌<◌, ◌≤◌, length, map, IfOk, IsTrue}, BTreeMap.{keys}, FinMap.{is_sorted}};
+ghost use Rattle.std.specs.{Option.{option_copied}, List.Sorted.{IsStrictlySortedBy}};
 ghost use Rattle.unit_name.specs.Names.{name_cmp};
-ghost use Rattle.parallel_load.specs.LoadRows.{IsKept};
-ghost use Rattle.parallel_load.specs.Numbering.{AreNumbered};
+ghost use Rattle.parallel_load.specs.{LoadRows.{IsKept}, Numbering.{AreNumbered}};
 ghost use Rattle.parallel_load.specs.Settled.{IsSettledLoad, IsWhole, name_lists, name_loads, name_numbers, settled_name};
 
 use crate::kept::{Kept, NamedLists};

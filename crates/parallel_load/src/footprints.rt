@@ -1,11 +1,8 @@
 //! The first components of the paths at which what stands for a unit is decided.
-ghost use Rattle.std.specs.Prelude.{◌≡◌, false, IfOk, IfSome, IsSome};
-ghost use Rattle.std.specs.List.{All};
-ghost use Rattle.std.specs.List.Sorted.{IsStrictlySortedBy};
+ghost use Rattle.std.specs.{Prelude.{◌≡◌, false, IfOk, IfSome, IsSome}, List.{All}, List.Sorted.{IsStrictlySortedBy}};
 ghost use Rattle.unit_name.specs.Names.{name_cmp};
 ghost use Rattle.unit_loads.specs.Footprints.{footprint};
-ghost use Rattle.parallel_load.specs.Footprints.{IsFootprintIn, IsNone};
-ghost use Rattle.parallel_load.specs.Loads.{unit_in};
+ghost use Rattle.parallel_load.specs.{Footprints.{IsFootprintIn, IsNone}, Loads.{unit_in}};
 
 use crate::apart::TouchedPart;
 use crate::loaded::Loaded;

@@ -1,11 +1,7 @@
 //! Loads of names that take what stays from another load.
-ghost use Rattle.std.specs.Prelude.{◌≡◌, false, IfOk, IfSome, IsTrue};
-ghost use Rattle.std.specs.FinMap.{is_sorted};
-ghost use Rattle.std.specs.List.{All};
+ghost use Rattle.std.specs.{Prelude.{◌≡◌, false, IfOk, IfSome, IsTrue}, FinMap.{is_sorted}, List.{All}};
 ghost use Rattle.unit_name.specs.Names.{name_cmp};
-ghost use Rattle.parallel_load.specs.Alone.{IsLoadAlone};
-ghost use Rattle.parallel_load.specs.Loads.{with_lists};
-ghost use Rattle.parallel_load.specs.Refreshes.{AreStill, IsHeldOn, IsMissed};
+ghost use Rattle.parallel_load.specs.{Alone.{IsLoadAlone}, Loads.{with_lists}, Refreshes.{AreStill, IsHeldOn, IsMissed}};
 
 use crate::apart::{TouchedPart, are_missed};
 use crate::footprints::{meets, parts_of};
@@ -120,8 +116,7 @@ impl<'a> HeldLoader<'a> {
 }
 
 impl<'a> Loads<UnitName> for HeldLoader<'a> {
-    ghost use Rattle.parallel_load.specs.Alone.{named_in};
-    ghost use Rattle.parallel_load.specs.AloneLaws.{one_of_name};
+    ghost use Rattle.parallel_load.specs.{Alone.{named_in}, AloneLaws.{one_of_name}};
 
     type Loaded = Kept;
 

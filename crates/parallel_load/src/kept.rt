@@ -1,6 +1,5 @@
 //! What was loaded for a name, while names are found.
-ghost use Rattle.std.specs.Prelude.{◌≡◌, [], IfOk};
-ghost use Rattle.std.specs.Option.{option_copied};
+ghost use Rattle.std.specs.{Prelude.{◌≡◌, [], IfOk}, Option.{option_copied}};
 
 use crate::loaded::NameLoad;
 use plain_values::{Items, Shared, TryClone};
@@ -109,9 +108,7 @@ pub(crate) struct Kept {
 }
 
 impl Model for Kept {
-    ghost use Rattle.parallel_load.specs.Loads.{coded_name_load};
-    ghost use Rattle.parallel_load.specs.LoadHeld.{load_held};
-    ghost use Rattle.parallel_load.specs.declared.loaded.NameLoad.{NameLoad};
+    ghost use Rattle.parallel_load.specs.{Loads.{coded_name_load}, LoadHeld.{load_held}, declared.loaded.NameLoad.{NameLoad}};
 
     ghost Value = { NameLoad };
 
@@ -122,8 +119,7 @@ impl Model for Kept {
 
 impl Kept {
     ghost use Rattle.parallel_load.specs.declared.loaded.NameLoad.TheVariants.{Unit as OfUnit, Alias as OfAlias};
-    ghost use Rattle.parallel_load.specs.Loads.{lists_in, with_lists};
-    ghost use Rattle.parallel_load.specs.LoadHeld.{alias_in};
+    ghost use Rattle.parallel_load.specs.{Loads.{lists_in, with_lists}, LoadHeld.{alias_in}};
 
     /// A unit that was read. It fails for want of memory alone.
     pub fn fresh(alloc: Global, unit: Unit) -> Result<Kept, AllocError>

@@ -1,8 +1,7 @@
 //! What is true of all loads: laws, each the contract of a function that does nothing.
 ghost use Rattle.parallel_load.specs.AskedLaws.{SourcesMakeTheLoad, SourcesMakeTheSize};
 ghost use Rattle.parallel_load.specs.KeptLoadLaws.{NameLoadsStay, SameNamesKeepTheUniverse, UniverseStays, WordsKeepVisibleNames};
-ghost use Rattle.parallel_load.specs.LoadLaws.{OneLoad};
-ghost use Rattle.parallel_load.specs.TouchedLaws.{TouchedWordsDecide, UntouchedAgree};
+ghost use Rattle.parallel_load.specs.{LoadLaws.{OneLoad}, TouchedLaws.{TouchedWordsDecide, UntouchedAgree}};
 ghost use Rattle.parallel_load.specs.UniverseLaws.{DependenciesAreLoaded, DependenciesAreMains, MainsHaveUnits, NamesHaveMains, UnitsAreTheirOwnMains};
 
 /// A store and names that are asked for have one load.

@@ -1,11 +1,7 @@
 //! A load: what all names stand for.
-ghost use Rattle.std.specs.Prelude.{◌≡◌, IfOk, IsTrue, length, map};
-ghost use Rattle.std.specs.FinMap.{is_sorted};
-ghost use Rattle.std.specs.Option.{option_copied};
+ghost use Rattle.std.specs.{Prelude.{◌≡◌, IfOk, IsTrue, length, map}, FinMap.{is_sorted}, Option.{option_copied}};
 ghost use Rattle.unit_name.specs.Names.{name_cmp};
-ghost use Rattle.parallel_load.specs.AskedLaws.{asked_for};
-ghost use Rattle.parallel_load.specs.Loads.{load_at, main_in, unit_in, units_in};
-ghost use Rattle.parallel_load.specs.Numbers.{AreDependencyRows};
+ghost use Rattle.parallel_load.specs.{AskedLaws.{asked_for}, Loads.{load_at, main_in, unit_in, units_in}, Numbers.{AreDependencyRows}};
 ghost use Rattle.parallel_load.specs.LoadRows.{IsKept};
 
 use crate::kept::NamedLists;
@@ -73,8 +69,7 @@ pub(crate) struct KeptRows {
 }
 
 impl Model for Loaded {
-    ghost use Rattle.parallel_load.specs.Loads.{LoadMap, coded_load};
-    ghost use Rattle.parallel_load.specs.LoadRows.{IsKept};
+    ghost use Rattle.parallel_load.specs.{Loads.{LoadMap, coded_load}, LoadRows.{IsKept}};
 
     ghost Value = { LoadMap };
 

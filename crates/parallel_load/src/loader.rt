@@ -26,8 +26,7 @@ impl<'a> UnitLoader<'a> {
 }
 
 impl<'a> Loads<UnitName> for UnitLoader<'a> {
-    ghost use Rattle.parallel_load.specs.Alone.{IsLoadAlone, named_in};
-    ghost use Rattle.parallel_load.specs.AloneLaws.{one_alone};
+    ghost use Rattle.parallel_load.specs.{Alone.{IsLoadAlone, named_in}, AloneLaws.{one_alone}};
 
     type Loaded = Kept;
 

@@ -1,13 +1,9 @@
 //! Loads of a store.
-ghost use Rattle.std.specs.Prelude.{◌≡◌, ◌↔◌, ◌⊎◌, ◌<◌, Err, IfOk, IfErr};
-ghost use Rattle.std.specs.Option.{option_copied};
+ghost use Rattle.std.specs.{Prelude.{◌≡◌, ◌↔◌, ◌⊎◌, ◌<◌, Err, IfOk, IfErr}, Option.{option_copied}};
 ghost use Rattle.path_maps.specs.Views.{view_of};
 ghost use Rattle.list_laws.specs.Members.{IsAmong};
-ghost use Rattle.parallel_load.specs.Loads.{IsLoad};
-ghost use Rattle.parallel_load.specs.OwnWords.{AreOwnWords};
-ghost use Rattle.parallel_load.specs.Refusals.{OnTooMany, OnWorkers};
-ghost use Rattle.parallel_load.specs.Universe.{IsSource, IsTooLarge};
-ghost use Rattle.parallel_load.specs.declared.faults.LoadFault.TheVariants.{Workers};
+ghost use Rattle.parallel_load.specs.{Loads.{IsLoad}, OwnWords.{AreOwnWords}, Refusals.{OnTooMany, OnWorkers}};
+ghost use Rattle.parallel_load.specs.{Universe.{IsSource, IsTooLarge}, declared.faults.LoadFault.TheVariants.{Workers}};
 
 use crate::faults::LoadFault;
 use crate::finishing::{settled, settled_by_workers};

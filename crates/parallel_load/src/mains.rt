@@ -1,12 +1,7 @@
 //! Dependencies by main names and by their numbers.
-ghost use Rattle.std.specs.Prelude.{◌≡◌, ◌<◌, ◌++◌, IfOk, IfSome, IsTrue, OnOk, length, map};
-ghost use Rattle.std.specs.FinMap.{is_sorted};
-ghost use Rattle.std.specs.List.{flat_map};
+ghost use Rattle.std.specs.{Prelude.{◌≡◌, ◌<◌, ◌++◌, IfOk, IfSome, IsTrue, OnOk, length, map}, FinMap.{is_sorted}, List.{flat_map}};
 ghost use Rattle.unit_name.specs.Names.{name_cmp};
-ghost use Rattle.parallel_load.specs.Indexes.{key_at};
-ghost use Rattle.parallel_load.specs.Numbers.{name_of};
-ghost use Rattle.parallel_load.specs.Loads.{with_lists};
-ghost use Rattle.parallel_load.specs.Numbering.{AreNumbered, IsMainNumber};
+ghost use Rattle.parallel_load.specs.{Indexes.{key_at}, Numbers.{name_of}, Loads.{with_lists}, Numbering.{AreNumbered, IsMainNumber}};
 ghost use Rattle.parallel_load.specs.Settled.{list_numbers, list_settled, other_number, settled_name};
 ghost use Rattle.parallel_load.specs.declared.loaded.NameLoad.TheVariants.{Unit as OfUnit};
 

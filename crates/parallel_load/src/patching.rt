@@ -1,16 +1,10 @@
 //! Loads in which units are read again that name what they named, so that no name comes or goes.
-ghost use Rattle.std.specs.Prelude.{◌≡◌, IfOk, length};
-ghost use Rattle.std.specs.List.{All};
-ghost use Rattle.std.specs.Option.{IfSome, option_copied};
+ghost use Rattle.std.specs.{Prelude.{◌≡◌, IfOk, length}, List.{All}, Option.{IfSome, option_copied}};
 ghost use Rattle.path_maps.specs.Views.{view_of};
-ghost use Rattle.fragment_choice.specs.Resolutions.{main};
-ghost use Rattle.fragment_choice.specs.UnitNames.{AreNames};
+ghost use Rattle.fragment_choice.specs.{Resolutions.{main}, UnitNames.{AreNames}};
 ghost use Rattle.unit_loads.specs.Units.{IsUnit};
-ghost use Rattle.parallel_load.specs.LoadRows.{AreLoadsAgain, IsLoadAgain, IsOwnUnit};
-ghost use Rattle.parallel_load.specs.Loads.{IsLoad};
-ghost use Rattle.parallel_load.specs.Refreshes.{IsBefore};
-ghost use Rattle.parallel_load.specs.Touched.{HasParts, KeepsWords};
-ghost use Rattle.parallel_load.specs.Universe.{IsTooLarge};
+ghost use Rattle.parallel_load.specs.{LoadRows.{AreLoadsAgain, IsLoadAgain, IsOwnUnit}, Loads.{IsLoad}, Refreshes.{IsBefore}};
+ghost use Rattle.parallel_load.specs.{Touched.{HasParts, KeepsWords}, Universe.{IsTooLarge}};
 
 use crate::apart::TouchedPart;
 use crate::finishing::load_with;

@@ -1,16 +1,9 @@
 //! Loads that are refreshed where little changed.
-ghost use Rattle.std.specs.Prelude.{◌≡◌, ◌≤◌, IfOk, IfErr, length};
-ghost use Rattle.std.specs.BTreeMap.{keys};
-ghost use Rattle.std.specs.List.{All};
-ghost use Rattle.std.specs.List.Sorted.{IsStrictlySortedBy};
+ghost use Rattle.std.specs.{Prelude.{◌≡◌, ◌≤◌, IfOk, IfErr, length}, BTreeMap.{keys}, List.{All}, List.Sorted.{IsStrictlySortedBy}};
 ghost use Rattle.path_maps.specs.Views.{view_of};
 ghost use Rattle.unit_name.specs.Names.{name_cmp};
-ghost use Rattle.parallel_load.specs.Found.{IsFound};
-ghost use Rattle.parallel_load.specs.Loads.{IsLoad};
-ghost use Rattle.parallel_load.specs.Refreshes.{IsBefore};
-ghost use Rattle.parallel_load.specs.Refusals.{OnTooMany, OnWorkers};
-ghost use Rattle.parallel_load.specs.Touched.{HasParts, KeepsWords};
-ghost use Rattle.parallel_load.specs.Universe.{IsTooLarge};
+ghost use Rattle.parallel_load.specs.{Found.{IsFound}, Loads.{IsLoad}, Refreshes.{IsBefore}, Refusals.{OnTooMany, OnWorkers}};
+ghost use Rattle.parallel_load.specs.{Touched.{HasParts, KeepsWords}, Universe.{IsTooLarge}};
 
 use crate::apart::TouchedPart;
 use crate::faults::LoadFault;

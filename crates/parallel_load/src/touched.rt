@@ -1,7 +1,5 @@
 //! The places that changed, as a host looks at them.
-ghost use Rattle.std.specs.Prelude.{◌≡◌, true, is_some, IfOk, OnOk};
-ghost use Rattle.std.specs.List.{All};
-ghost use Rattle.std.specs.Option.{option_copied};
+ghost use Rattle.std.specs.{Prelude.{◌≡◌, true, is_some, IfOk, OnOk}, List.{All}, Option.{option_copied}};
 ghost use Rattle.load_places.specs.Levels.{level_for};
 ghost use Rattle.path_maps.specs.Views.{view_of};
 ghost use Rattle.parallel_load.specs.Touched.{AddsParts, HasParts, KeepsWords};

@@ -1,15 +1,10 @@
 //! What a load keeps of the places of one component: of each name at which something is visible what that says of aliases. So a
 //! load tells whether another store says the same.
-ghost use Rattle.std.specs.Prelude.{◌≡◌, ◌↔◌, ◌++◌, [], true, IfOk, OnOk, map};
-ghost use Rattle.std.specs.List.Sorted.{IsStrictlySortedBy};
-ghost use Rattle.std.specs.Option.{option_copied};
+ghost use Rattle.std.specs.{Prelude.{◌≡◌, ◌↔◌, ◌++◌, [], true, IfOk, OnOk, map}, List.Sorted.{IsStrictlySortedBy}, Option.{option_copied}};
 ghost use Rattle.list_laws.specs.Members.{IsAmong};
 ghost use Rattle.unit_name.specs.Names.{name_cmp};
-ghost use Rattle.fragment_choice.specs.AliasWordLaws.{IsShown};
-ghost use Rattle.fragment_choice.specs.AliasWords.{alias_words};
-ghost use Rattle.parallel_load.specs.OwnWords.{AreOwnWords, words_in};
-ghost use Rattle.parallel_load.specs.Sources.{shown_names};
-ghost use Rattle.parallel_load.specs.Words.{IsWordAt, IsWordOf, with_own_words};
+ghost use Rattle.fragment_choice.specs.{AliasWordLaws.{IsShown}, AliasWords.{alias_words}};
+ghost use Rattle.parallel_load.specs.{OwnWords.{AreOwnWords, words_in}, Sources.{shown_names}, Words.{IsWordAt, IsWordOf, with_own_words}};
 
 use load_places::LEVELS;
 use plain_values::{Bytes, Items};
@@ -113,8 +108,7 @@ pub(crate) struct KeptWords {
 }
 
 impl Model for KeptWords {
-    ghost use Rattle.std.specs.Prelude.{IsTrue};
-    ghost use Rattle.std.specs.FinMap.{is_sorted};
+    ghost use Rattle.std.specs.{Prelude.{IsTrue}, FinMap.{is_sorted}};
     ghost use Rattle.unit_name.specs.Names.{name_cmp};
     ghost use Rattle.parallel_load.specs.OwnWords.{NamedWords, coded_named_words};
 

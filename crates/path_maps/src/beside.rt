@@ -1,14 +1,8 @@
 //! The entries of a scope, one after another in path order, each with what another store holds at its path there.
-ghost use Rattle.std.specs.Prelude.{◌≡◌, ◌∷◌, [], MatchOption};
-ghost use Rattle.std.specs.FinMap.{find};
-ghost use Rattle.std.specs.Option.{option_copied};
-ghost use Rattle.std.specs.Ordering.{nat_cmp};
-ghost use Rattle.join_law.specs.VersionOrder.{written_at};
-ghost use Rattle.join_law.specs.Maps.{or_empty};
+ghost use Rattle.std.specs.{Prelude.{◌≡◌, ◌∷◌, [], MatchOption}, FinMap.{find}, Option.{option_copied}, Ordering.{nat_cmp}};
+ghost use Rattle.join_law.specs.{VersionOrder.{written_at}, Maps.{or_empty}};
 ghost use Rattle.load_path.specs.Paths.{IsPath};
-ghost use Rattle.path_maps.specs.Beside.{ranks_beside};
-ghost use Rattle.path_maps.specs.PathMaps.{AreNames, AreFolders, listed};
-ghost use Rattle.path_maps.specs.Spread.{AllKeys};
+ghost use Rattle.path_maps.specs.{Beside.{ranks_beside}, PathMaps.{AreNames, AreFolders, listed}, Spread.{AllKeys}};
 
 use crate::cursors::{Cursor, Nested};
 use crate::entries::PathEntry;
@@ -27,8 +21,7 @@ pub(crate) struct Both<'a, P: Drop> {
 }
 
 impl<'a, P: Drop> Model for Both<'a, P> {
-    ghost use Rattle.std.specs.Prelude.{Option};
-    ghost use Rattle.std.specs.Option.{option_copied};
+    ghost use Rattle.std.specs.{Prelude.{Option}, Option.{option_copied}};
     ghost use Rattle.edit_sums.specs.Entries.{Entry};
 
     ghost Value = { P × Option Entry };
@@ -144,12 +137,10 @@ struct RanksBeside<'a> {
 }
 
 impl<'a> Model for RanksBeside<'a> {
-    ghost use Rattle.std.specs.Prelude.{List};
+    ghost use Rattle.std.specs.{Prelude.{List}, Option.{option_copied}};
     ghost use Rattle.load_path.specs.Paths.{PathParts};
-    ghost use Rattle.std.specs.Option.{option_copied};
     ghost use Rattle.join_law.specs.Maps.{or_empty};
-    ghost use Rattle.path_maps.specs.Beside.{Compared, by_rank_beside};
-    ghost use Rattle.path_maps.specs.Cursors.{AreRanksLeft};
+    ghost use Rattle.path_maps.specs.{Beside.{Compared, by_rank_beside}, Cursors.{AreRanksLeft}};
 
     ghost Value = { List (List (List (Compared PathParts))) };
 
@@ -201,8 +192,7 @@ pub(crate) struct PathsBeside<'a> {
 impl<'a> Model for PathsBeside<'a> {
     ghost use Rattle.std.specs.Prelude.{List};
     ghost use Rattle.load_path.specs.Paths.{PathParts};
-    ghost use Rattle.path_maps.specs.Beside.{Compared};
-    ghost use Rattle.path_maps.specs.Cursors.{left_of};
+    ghost use Rattle.path_maps.specs.{Beside.{Compared}, Cursors.{left_of}};
 
     ghost Value = { List (Compared PathParts) };
 

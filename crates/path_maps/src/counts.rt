@@ -1,8 +1,7 @@
 //! What maps of maps hold, counted.
 ghost use Rattle.std.specs.Prelude.{◌≡◌, ◌≤◌, length};
 ghost use Rattle.edit_sums.specs.Sums.{greatest_counter};
-ghost use Rattle.path_maps.specs.Kept.{HasLawfulPaths};
-ghost use Rattle.path_maps.specs.PlaceMaps.{all_listed};
+ghost use Rattle.path_maps.specs.{Kept.{HasLawfulPaths}, PlaceMaps.{all_listed}};
 
 use crate::places::Entries;
 use crate::stores::ScopeMap;

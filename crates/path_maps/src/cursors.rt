@@ -23,8 +23,7 @@ pub struct Nested<C, O> {
 }
 
 impl<T, C: Cursor<T>, O: Cursor<C>> Cursor<T> for Nested<C, O> {
-    ghost use Rattle.std.specs.Prelude.{◌++◌};
-    ghost use Rattle.std.specs.List.{flat_map};
+    ghost use Rattle.std.specs.{Prelude.{◌++◌}, List.{flat_map}};
     ghost use Rattle.path_maps.specs.Cursors.{in_hand};
 
     ghost left = { λ n. in_hand C.left n.inner ++ flat_map C.left (O.left n.outer) };

@@ -1,9 +1,7 @@
 //! Where a store shows something else than an older one, of the places that it holds itself.
 ghost use Rattle.std.specs.Prelude.{◌≡◌, [], IfOk, IsOk};
 ghost use Rattle.std.specs.FinMap as finmap;
-ghost use Rattle.path_maps.specs.Beside.{beside};
-ghost use Rattle.path_maps.specs.Changes.{additions};
-ghost use Rattle.path_maps.specs.Together.{differing_beside};
+ghost use Rattle.path_maps.specs.{Beside.{beside}, Changes.{additions}, Together.{differing_beside}};
 
 use crate::stores::Store;
 use load_places::Place;

@@ -1,13 +1,8 @@
 //! The entries of a scope, one after another in path order: ranks, folders and names that are left.
-ghost use Rattle.std.specs.Prelude.{◌≡◌, ◌∷◌, [], IfOk, IfSome, MatchOption};
+ghost use Rattle.std.specs.{Prelude.{◌≡◌, ◌∷◌, [], IfOk, IfSome, MatchOption}, List.{flat_map}, Option.{option_copied, option_map}};
 ghost use Rattle.load_path.specs.Paths.{IsPath, path_cmp};
-ghost use Rattle.path_maps.specs.Cursors.{or_nothing, left_of};
-ghost use Rattle.std.specs.List.{flat_map};
-ghost use Rattle.std.specs.Option.{option_copied, option_map};
+ghost use Rattle.path_maps.specs.{Cursors.{or_nothing, left_of}, Folders.{path_at}, PathMaps.{in_folder, listed}, Spread.{AllKeys}};
 ghost use Rattle.edit_sums.specs.Sums.{shown};
-ghost use Rattle.path_maps.specs.Folders.{path_at};
-ghost use Rattle.path_maps.specs.PathMaps.{in_folder, listed};
-ghost use Rattle.path_maps.specs.Spread.{AllKeys};
 
 use crate::cursors::{Cursor, Nested};
 use crate::stores::{FolderMap, NameMap, RankMap};
@@ -118,8 +113,7 @@ impl<'a> Model for NamesLeft<'a> {
     ghost use Rattle.std.specs.Prelude.{List};
     ghost use Rattle.load_path.specs.Paths.{PathParts};
     ghost use Rattle.edit_sums.specs.Entries.{Entry};
-    ghost use Rattle.path_maps.specs.PathMaps.{in_folder};
-    ghost use Rattle.path_maps.specs.Cursors.{AreNamesLeft};
+    ghost use Rattle.path_maps.specs.{PathMaps.{in_folder}, Cursors.{AreNamesLeft}};
 
     ghost Value = { List (PathParts × Entry) };
 

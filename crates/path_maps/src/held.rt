@@ -1,12 +1,8 @@
 //! What a scope holds: look-ups by the parts of paths, and folders.
-ghost use Rattle.std.specs.Prelude.{◌≡◌, filter};
-ghost use Rattle.std.specs.Option.{option_copied, option_map, IfSome};
+ghost use Rattle.std.specs.{Prelude.{◌≡◌, filter}, Option.{option_copied, option_map, IfSome}};
 ghost use Rattle.std.specs.FinMap as finmap;
 ghost use Rattle.join_law.specs.Maps.{or_empty};
-ghost use Rattle.path_maps.specs.Folders.{is_in, path_at};
-ghost use Rattle.path_maps.specs.Kept.{AreLawful};
-ghost use Rattle.path_maps.specs.PathMaps.{flat};
-ghost use Rattle.path_maps.specs.Scopes.{shown_at};
+ghost use Rattle.path_maps.specs.{Folders.{is_in, path_at}, Kept.{AreLawful}, PathMaps.{flat}, Scopes.{shown_at}};
 
 use crate::entries::{PathEntries, PathEntry};
 use crate::look_ups::{folder_at, pair_at};
@@ -30,9 +26,7 @@ impl<'a> Model for Held<'a> {
     ghost use Rattle.join_law.specs.Maps.{or_empty};
     ghost use Rattle.load_path.specs.PathLaws.{coded_path};
     ghost use Rattle.edit_sums.specs.EntryCodes.{coded_entry};
-    ghost use Rattle.path_maps.specs.Kept.{AreLawful};
-    ghost use Rattle.path_maps.specs.PathMaps.{flat};
-    ghost use Rattle.path_maps.specs.Scopes.{PathMap};
+    ghost use Rattle.path_maps.specs.{Kept.{AreLawful}, PathMaps.{flat}, Scopes.{PathMap}};
 
     ghost Value = { PathMap };
 

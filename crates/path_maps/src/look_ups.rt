@@ -1,14 +1,9 @@
 //! Look-ups by bytes that stand in no map: no key is built for them.
-ghost use Rattle.std.specs.Prelude.{◌≡◌, ◌<◌, [], Some, None, length, IsTrue, IfOk, IfErr, MatchOption};
-ghost use Rattle.std.specs.Option.{option_copied};
-ghost use Rattle.std.specs.Ordering.{nat_cmp};
-ghost use Rattle.std.specs.FinMap.{find, is_sorted};
+ghost use Rattle.std.specs.{Prelude.{◌≡◌, ◌<◌, [], Some, None, length, IsTrue, IfOk, IfErr, MatchOption}, Option.{option_copied}};
+ghost use Rattle.std.specs.{Ordering.{nat_cmp}, FinMap.{find, is_sorted}};
 ghost use Rattle.join_law.specs.Maps.{or_empty};
-ghost use Rattle.load_places.specs.Places.{scope_cmp};
-ghost use Rattle.load_places.specs.declared.places.Scope.TheVariants.{Host};
-ghost use Rattle.path_maps.specs.Folders.{IsPlaceOf};
-ghost use Rattle.path_maps.specs.PathMaps.{bytes_cmp};
-ghost use Rattle.path_maps.specs.PlaceMaps.{IsFoundAt};
+ghost use Rattle.load_places.specs.{Places.{scope_cmp}, declared.places.Scope.TheVariants.{Host}};
+ghost use Rattle.path_maps.specs.{Folders.{IsPlaceOf}, PathMaps.{bytes_cmp}, PlaceMaps.{IsFoundAt}};
 
 use crate::stores::{NameMap, RankMap, ScopeMap};
 use load_places::{HostName, Scope};

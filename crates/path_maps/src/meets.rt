@@ -1,7 +1,5 @@
 //! Look-ups of keys that rise, among pairs that are left.
-ghost use Rattle.std.specs.Prelude.{◌≡◌, List, ℕ, IsTrue};
-ghost use Rattle.std.specs.Option.{option_copied};
-ghost use Rattle.std.specs.declared.cmp.Ordering.TheVariants.{Less};
+ghost use Rattle.std.specs.{Prelude.{◌≡◌, List, ℕ, IsTrue}, Option.{option_copied}, declared.cmp.Ordering.TheVariants.{Less}};
 ghost use Rattle.std.specs.FinMap.{find, is_sorted};
 ghost use Rattle.path_maps.specs.PathMaps.{bytes_cmp};
 

@@ -1,13 +1,8 @@
 //! The entries of a store, one after another in place order: scopes that are left, and what each has.
-ghost use Rattle.std.specs.Prelude.{◌≡◌, ◌∷◌, [], map, IfOk, MatchOption};
-ghost use Rattle.std.specs.List.{flat_map};
-ghost use Rattle.std.specs.Option.{option_copied};
+ghost use Rattle.std.specs.{Prelude.{◌≡◌, ◌∷◌, [], map, IfOk, MatchOption}, List.{flat_map}, Option.{option_copied}};
 ghost use Rattle.load_places.specs.Places.{place_cmp};
 ghost use Rattle.edit_sums.specs.Sums.{shown};
-ghost use Rattle.path_maps.specs.Cursors.{left_of};
-ghost use Rattle.path_maps.specs.Kept.{HasLawfulPaths};
-ghost use Rattle.path_maps.specs.PlaceMaps.{all_listed, placed};
-ghost use Rattle.path_maps.specs.Scopes.{within};
+ghost use Rattle.path_maps.specs.{Cursors.{left_of}, Kept.{HasLawfulPaths}, PlaceMaps.{all_listed, placed}, Scopes.{within}};
 
 use crate::cursors::{Cursor, Nested};
 use crate::entries::{PathEntries, PathEntry};
@@ -141,8 +136,7 @@ impl<'a> Model for ScopesLeft<'a> {
     ghost use Rattle.std.specs.Prelude.{List};
     ghost use Rattle.load_places.specs.Places.{PlaceParts};
     ghost use Rattle.edit_sums.specs.Entries.{Entry};
-    ghost use Rattle.path_maps.specs.Cursors.{by_scope};
-    ghost use Rattle.path_maps.specs.Kept.{HasLawfulPaths};
+    ghost use Rattle.path_maps.specs.{Cursors.{by_scope}, Kept.{HasLawfulPaths}};
 
     ghost Value = { List (List (PlaceParts × Entry)) };
 

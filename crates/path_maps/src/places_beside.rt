@@ -1,8 +1,6 @@
 //! The entries of one store, one after another in place order, each with what another holds at its place.
-ghost use Rattle.std.specs.Prelude.{◌≡◌, ◌∷◌, [], MatchOption};
-ghost use Rattle.std.specs.Option.{option_copied};
-ghost use Rattle.path_maps.specs.Beside.{scopes_beside};
-ghost use Rattle.path_maps.specs.Kept.{HasLawfulPaths};
+ghost use Rattle.std.specs.{Prelude.{◌≡◌, ◌∷◌, [], MatchOption}, Option.{option_copied}};
+ghost use Rattle.path_maps.specs.{Beside.{scopes_beside}, Kept.{HasLawfulPaths}};
 
 use crate::beside::{Both, PathsBeside};
 use crate::cursors::{Cursor, Nested};
@@ -53,8 +51,7 @@ struct ScopesBeside<'a> {
 impl<'a> Model for ScopesBeside<'a> {
     ghost use Rattle.std.specs.Prelude.{List};
     ghost use Rattle.load_places.specs.Places.{PlaceParts};
-    ghost use Rattle.path_maps.specs.Beside.{Compared, by_scope_beside};
-    ghost use Rattle.path_maps.specs.Kept.{HasLawfulPaths};
+    ghost use Rattle.path_maps.specs.{Beside.{Compared, by_scope_beside}, Kept.{HasLawfulPaths}};
 
     ghost Value = { List (List (Compared PlaceParts)) };
 
@@ -89,8 +86,7 @@ pub struct Beside<'a> {
 impl<'a> Model for Beside<'a> {
     ghost use Rattle.std.specs.Prelude.{List};
     ghost use Rattle.load_places.specs.Places.{PlaceParts};
-    ghost use Rattle.path_maps.specs.Beside.{Compared};
-    ghost use Rattle.path_maps.specs.Cursors.{left_of};
+    ghost use Rattle.path_maps.specs.{Beside.{Compared}, Cursors.{left_of}};
 
     ghost Value = { List (Compared PlaceParts) };
 

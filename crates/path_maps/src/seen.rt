@@ -1,10 +1,8 @@
 //! What a host looks at in a store, or what is looked at without one: look-ups by level, folder and name, and by place.
-ghost use Rattle.std.specs.Prelude.{◌≡◌, ◌∷◌, [], filter, IfOk, MatchOption};
-ghost use Rattle.std.specs.Option.{option_and_then, option_copied, option_map, IfSome};
+ghost use Rattle.std.specs.{Prelude.{◌≡◌, ◌∷◌, [], filter, IfOk, MatchOption}, Option.{option_and_then, option_copied, option_map, IfSome}};
 ghost use Rattle.std.specs.FinMap as finmap;
 ghost use Rattle.edit_sums.specs.Sums.{shown};
-ghost use Rattle.path_maps.specs.Folders.{is_in, path_at};
-ghost use Rattle.path_maps.specs.Sights.{behind_entries, holding};
+ghost use Rattle.path_maps.specs.{Folders.{is_in, path_at}, Sights.{behind_entries, holding}};
 ghost use Rattle.path_maps.specs.Views.{content_at, held_by, held_by_own, scope_at, seen, seen_place};
 
 use crate::entries::{PathEntries, PathEntry};
@@ -69,8 +67,7 @@ impl<'a> Model for SeenEntries<'a> {
     ghost use Rattle.std.specs.Prelude.{List, map, ◌≡◌, ◌/◌};
     ghost use Rattle.load_path.specs.Paths.{PathParts};
     ghost use Rattle.edit_sums.specs.Entries.{Entry};
-    ghost use Rattle.path_maps.specs.Spread.{AllKeys};
-    ghost use Rattle.path_maps.specs.Views.{at_level};
+    ghost use Rattle.path_maps.specs.{Spread.{AllKeys}, Views.{at_level}};
 
     ghost Value = { List (PathParts × Entry) };
 

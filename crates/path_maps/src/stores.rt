@@ -1,20 +1,13 @@
 //! Stores.
 ghost use Rattle.std.specs.Prelude.{◌≡◌, ◌≢◌, ◌≤◌, ◌↔◌, ◌+◌, None, IsTrue, IsSome, IsOk, IfOk, OnOk, OnErr, IfErr, filter, is_some, map};
-ghost use Rattle.std.specs.Bool.{OnTrue, OnFalse};
-ghost use Rattle.std.specs.Option.{option_copied};
-ghost use Rattle.std.specs.List.Sorted.{IsStrictlySortedBy};
+ghost use Rattle.std.specs.{Bool.{OnTrue, OnFalse}, Option.{option_copied}, List.Sorted.{IsStrictlySortedBy}};
 ghost use Rattle.std.specs.FinMap as finmap;
 ghost use Rattle.list_laws.specs.Members.{IsAmong};
 ghost use Rattle.load_places.specs.Places.{PlaceParts, place_cmp};
-ghost use Rattle.edit_sums.specs.declared.contents.Content.TheVariants.{Gone};
-ghost use Rattle.edit_sums.specs.Flat.{at_fleet};
+ghost use Rattle.edit_sums.specs.{declared.contents.Content.TheVariants.{Gone}, Flat.{at_fleet}};
 ghost use Rattle.edit_sums.specs.Sums.{changed_places, high_of, join, sum_of, visible_at, with_edit, IsStoreBelow};
-ghost use Rattle.path_maps.specs.Beside.{beside};
-ghost use Rattle.path_maps.specs.Changes.{additions};
-ghost use Rattle.path_maps.specs.Folders.{is_within};
-ghost use Rattle.path_maps.specs.PlaceMaps.{AreScopes, all_held};
-ghost use Rattle.path_maps.specs.Scopes.{scope_of};
-ghost use Rattle.path_maps.specs.Views.{own_of, view_of};
+ghost use Rattle.path_maps.specs.{Beside.{beside}, Changes.{additions}, Folders.{is_within}, PlaceMaps.{AreScopes, all_held}};
+ghost use Rattle.path_maps.specs.{Scopes.{scope_of}, Views.{own_of, view_of}};
 
 use crate::changes::count_changes;
 use crate::counts::{Counts, count_entries};
@@ -60,12 +53,9 @@ pub struct Store {
 
 impl Model for Store {
     ghost use Rattle.std.specs.FinMap as finmap;
-    ghost use Rattle.load_places.specs.Places.{place_cmp};
-    ghost use Rattle.load_places.specs.PlaceLaws.{coded_place};
-    ghost use Rattle.edit_sums.specs.Entries.{Entry};
-    ghost use Rattle.edit_sums.specs.EntryCodes.{coded_entry};
-    ghost use Rattle.path_maps.specs.PlaceMaps.{all_held};
-    ghost use Rattle.path_maps.specs.Kept.{IsKept};
+    ghost use Rattle.load_places.specs.{Places.{place_cmp}, PlaceLaws.{coded_place}};
+    ghost use Rattle.edit_sums.specs.{Entries.{Entry}, EntryCodes.{coded_entry}};
+    ghost use Rattle.path_maps.specs.{PlaceMaps.{all_held}, Kept.{IsKept}};
 
     ghost Value = { finmap.FinMap place_cmp Entry };
 

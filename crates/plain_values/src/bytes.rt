@@ -114,8 +114,7 @@ impl Bytes {
 }
 
 impl PartialEq for Bytes {
-    ghost use Rattle.std.specs.Ordering.{nat_cmp, eq_by_cmp};
-    ghost use Rattle.std.specs.Cmp.{eq_by_cmp_equiv, partial_equiv_from_equiv};
+    ghost use Rattle.std.specs.{Ordering.{nat_cmp, eq_by_cmp}, Cmp.{eq_by_cmp_equiv, partial_equiv_from_equiv}};
     ghost use Rattle.std.specs.Cmp.Lexicographic.{slice_cmp, nat_list_cmp_total};
 
     ghost eq = { eq_by_cmp (slice_cmp nat_cmp) };
@@ -128,15 +127,13 @@ impl PartialEq for Bytes {
 }
 
 impl Eq for Bytes {
-    ghost use Rattle.std.specs.Cmp.{eq_by_cmp_equiv};
-    ghost use Rattle.std.specs.Cmp.Lexicographic.{nat_list_cmp_total};
+    ghost use Rattle.std.specs.{Cmp.{eq_by_cmp_equiv}, Cmp.Lexicographic.{nat_list_cmp_total}};
 
     ghost laws = { eq_by_cmp_equiv nat_list_cmp_total };
 }
 
 impl PartialOrd for Bytes {
-    ghost use Rattle.std.specs.Ordering.{nat_cmp, as_partial_cmp};
-    ghost use Rattle.std.specs.Cmp.{partial_order_from_total};
+    ghost use Rattle.std.specs.{Ordering.{nat_cmp, as_partial_cmp}, Cmp.{partial_order_from_total}};
     ghost use Rattle.std.specs.Cmp.Lexicographic.{slice_cmp, nat_list_cmp_total};
 
     ghost partial_cmp = { as_partial_cmp (slice_cmp nat_cmp) };
@@ -149,9 +146,7 @@ impl PartialOrd for Bytes {
 }
 
 impl Ord for Bytes {
-    ghost use Rattle.std.specs.Ordering.{nat_cmp};
-    ghost use Rattle.std.specs.Prelude.{refl};
-    ghost use Rattle.std.specs.Cmp.Lexicographic.{slice_cmp, nat_list_cmp_total};
+    ghost use Rattle.std.specs.{Ordering.{nat_cmp}, Prelude.{refl}, Cmp.Lexicographic.{slice_cmp, nat_list_cmp_total}};
 
     ghost cmp = { slice_cmp nat_cmp };
 

@@ -1,6 +1,5 @@
 //! The traits of values that are copied where memory allows, and of keys.
-ghost use Rattle.std.specs.Prelude.{◌≡◌, IfOk};
-ghost use Rattle.std.specs.declared.cmp.Ordering.TheVariants.{Equal};
+ghost use Rattle.std.specs.{Prelude.{◌≡◌, IfOk}, declared.cmp.Ordering.TheVariants.{Equal}};
 
 use std::alloc::AllocError;
 

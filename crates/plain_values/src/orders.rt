@@ -1,9 +1,6 @@
 //! The order of byte strings, and whether they are the same.
-ghost use Rattle.std.specs.Prelude.{◌≡◌, ◌≢◌, ◌≤◌, ◌+◌, None, length, take};
-ghost use Rattle.std.specs.Option.{IfSome};
-ghost use Rattle.std.specs.Ordering.{eq_by_cmp, nat_cmp};
-ghost use Rattle.std.specs.Cmp.Lexicographic.{slice_cmp};
-ghost use Rattle.std.specs.declared.cmp.Ordering.TheVariants.{Equal};
+ghost use Rattle.std.specs.{Prelude.{◌≡◌, ◌≢◌, ◌≤◌, ◌+◌, None, length, take}, Option.{IfSome}, Ordering.{eq_by_cmp, nat_cmp}};
+ghost use Rattle.std.specs.{Cmp.Lexicographic.{slice_cmp}, declared.cmp.Ordering.TheVariants.{Equal}};
 ghost use Rattle.plain_values.specs.Spelling.{spelled};
 
 use std::cmp::Ordering;

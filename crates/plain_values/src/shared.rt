@@ -12,8 +12,7 @@ pub struct SharedBytes {
 }
 
 impl Model for SharedBytes {
-    ghost use Rattle.std.specs.Prelude.{List, ℕ};
-    ghost use Rattle.std.specs.Arc.{arc_value};
+    ghost use Rattle.std.specs.{Prelude.{List, ℕ}, Arc.{arc_value}};
 
     ghost Value = { List ℕ };
 

@@ -1,7 +1,6 @@
 //! What a plan of numbered units is made from.
 ghost use Rattle.std.specs.Prelude.{◌≡◌, ◌<◌, length};
-ghost use Rattle.index_rows.specs.Rows.{AreRowsOf, AreTurned, row as row_of};
-ghost use Rattle.index_rows.specs.Steps.{AreOpposite, AreStepsOf, steps_from};
+ghost use Rattle.index_rows.specs.{Rows.{AreRowsOf, AreTurned, row as row_of}, Steps.{AreOpposite, AreStepsOf, steps_from}};
 
 use index_rows::Steps;
 

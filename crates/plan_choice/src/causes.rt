@@ -1,12 +1,8 @@
 //! Why there is no plan: what the target needs is looked at first.
-ghost use Rattle.std.specs.Prelude.{◌≡◌, ◌<◌, ℕ, length, IfOk, IsTrue, MatchOption};
-ghost use Rattle.std.specs.Ordering.{nat_cmp};
+ghost use Rattle.std.specs.{Prelude.{◌≡◌, ◌<◌, ℕ, length, IfOk, IsTrue, MatchOption}, Ordering.{nat_cmp}};
 ghost use Rattle.list_laws.specs.Members.{IsAmong};
-ghost use Rattle.index_rows.specs.Rows.{Marked};
-ghost use Rattle.index_rows.specs.Steps.{AreStepsOf, steps_from};
-ghost use Rattle.plan_choice.specs.RowCases.{case_of};
-ghost use Rattle.plan_choice.specs.RowRefusals.{refusal_of};
-ghost use Rattle.plan_choice.specs.Answers.{IsFirstPair, IsRefusal, IsClearBelow};
+ghost use Rattle.index_rows.specs.{Rows.{Marked}, Steps.{AreStepsOf, steps_from}};
+ghost use Rattle.plan_choice.specs.{RowCases.{case_of}, RowRefusals.{refusal_of}, Answers.{IsFirstPair, IsRefusal, IsClearBelow}};
 
 use crate::answers::RowRefusal;
 use crate::marked_cases::MarkedCase;

@@ -1,13 +1,9 @@
 //! What is pulled, what is dropped of it, and what is chosen.
-ghost use Rattle.std.specs.Prelude.{◌≡◌, ◌<◌, ◌⊎◌, ◌↔◌, ◌++◌, ℕ, length, All, IfOk, IsTrue, slice_index};
-ghost use Rattle.std.specs.Ordering.{nat_cmp};
+ghost use Rattle.std.specs.{Prelude.{◌≡◌, ◌<◌, ◌⊎◌, ◌↔◌, ◌++◌, ℕ, length, All, IfOk, IsTrue, slice_index}, Ordering.{nat_cmp}};
 ghost use Rattle.list_laws.specs.Members.{IsAmong};
 ghost use Rattle.index_rows.specs.Rows.{Marked};
-ghost use Rattle.plan_choice.specs.Answers.{IsClearBelow};
-ghost use Rattle.plan_choice.specs.RowCases.{case_of, count_of};
-ghost use Rattle.plan_choice.specs.Sets.{IsPulled, IsExtra, IsDropped, IsChosen};
-ghost use Rattle.plan_choice.specs.Marking.{AreMarksOf, IsListOf};
-ghost use Rattle.plan_choice.specs.Losing.{IsLoser, SetsMarks};
+ghost use Rattle.plan_choice.specs.{Answers.{IsClearBelow}, RowCases.{case_of, count_of}, Sets.{IsPulled, IsExtra, IsDropped, IsChosen}};
+ghost use Rattle.plan_choice.specs.{Marking.{AreMarksOf, IsListOf}, Losing.{IsLoser, SetsMarks}};
 
 use crate::cases::PlanRows;
 use crate::marked_cases::MarkedCase;

@@ -1,13 +1,8 @@
 //! Laws of plans, for all units: each the contract of a function that does nothing.
-ghost use Rattle.std.specs.Prelude.{◌≡◌, ◌≤◌, ℕ, List, map};
-ghost use Rattle.std.specs.Ordering.{nat_cmp};
-ghost use Rattle.std.specs.FinMap.{IsAntisymmetric};
+ghost use Rattle.std.specs.{Prelude.{◌≡◌, ◌≤◌, ℕ, List, map}, Ordering.{nat_cmp}, FinMap.{IsAntisymmetric}};
 ghost use Rattle.index_rows.specs.Numbering.{IsNumbering};
-ghost use Rattle.plan_choice.specs.Case.{Case};
-ghost use Rattle.plan_choice.specs.NamedCases.{IsNamedCase, named_refusal};
-ghost use Rattle.plan_choice.specs.SetLaws.{SparesItself};
-ghost use Rattle.plan_choice.specs.Answers.{Refusal, rank, Stands, IsRefusal, IsPlan};
-ghost use Rattle.plan_choice.specs.AnswerLaws.{KeepsPromises};
+ghost use Rattle.plan_choice.specs.{Case.{Case}, NamedCases.{IsNamedCase, named_refusal}, SetLaws.{SparesItself}};
+ghost use Rattle.plan_choice.specs.{Answers.{Refusal, rank, Stands, IsRefusal, IsPlan}, AnswerLaws.{KeepsPromises}};
 
 /// There is one plan at most, and one refusal, and not both. A refusal is the first whose cause stands.
 pub fn plans_are_one<N: Ord>()

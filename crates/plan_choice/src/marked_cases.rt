@@ -1,8 +1,6 @@
 //! A case with the marks and steps that its choices go by.
 ghost use Rattle.std.specs.Prelude.{◌≡◌, IfOk};
-ghost use Rattle.plan_choice.specs.Marking.{ArePairsOf};
-ghost use Rattle.plan_choice.specs.RowCases.{case_of, count_of};
-ghost use Rattle.plan_choice.specs.Sets.{AreInConflict};
+ghost use Rattle.plan_choice.specs.{Marking.{ArePairsOf}, RowCases.{case_of, count_of}, Sets.{AreInConflict}};
 
 use crate::cases::PlanRows;
 use index_rows::{Steps, reached, unmarked};
@@ -20,8 +18,7 @@ pub struct MarkedCase<'c, 'a> {
 }
 
 impl<'c, 'a> Model for MarkedCase<'c, 'a> {
-    ghost use Rattle.plan_choice.specs.declared.cases.PlanRows.{PlanRows};
-    ghost use Rattle.plan_choice.specs.MarkedCases.{IsMarked};
+    ghost use Rattle.plan_choice.specs.{declared.cases.PlanRows.{PlanRows}, MarkedCases.{IsMarked}};
 
     ghost Value = { PlanRows };
 

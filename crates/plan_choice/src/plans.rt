@@ -1,14 +1,10 @@
 //! The plan, or the first refusal whose cause stands.
-ghost use Rattle.std.specs.Prelude.{◌≡◌, ℕ, length, IfOk, IfErr};
-ghost use Rattle.std.specs.Ordering.{nat_cmp};
+ghost use Rattle.std.specs.{Prelude.{◌≡◌, ℕ, length, IfOk, IfErr}, Ordering.{nat_cmp}};
 ghost use Rattle.list_laws.specs.Members.{IsAmong};
-ghost use Rattle.index_rows.specs.Rows.{Marked};
-ghost use Rattle.index_rows.specs.Steps.{AreStepsOf, steps_from};
+ghost use Rattle.index_rows.specs.{Rows.{Marked}, Steps.{AreStepsOf, steps_from}};
 ghost use Rattle.name_closure.specs.Chains.{IsClosure};
-ghost use Rattle.plan_choice.specs.RowCases.{case_of, count_of};
-ghost use Rattle.plan_choice.specs.RowRefusals.{IsAnswer, refusal_of};
-ghost use Rattle.plan_choice.specs.Sets.{IsChosen, Starts, IsOusted, TakesAlong};
-ghost use Rattle.plan_choice.specs.Answers.{IsClearBelow, IsRefusal, IsPlan};
+ghost use Rattle.plan_choice.specs.{RowCases.{case_of, count_of}, RowRefusals.{IsAnswer, refusal_of}};
+ghost use Rattle.plan_choice.specs.{Sets.{IsChosen, Starts, IsOusted, TakesAlong}, Answers.{IsClearBelow, IsRefusal, IsPlan}};
 ghost use Rattle.plan_choice.specs.Marking.{AreMarksOf, IsListOf};
 
 use crate::answers::{RowPlan, RowRefusal};

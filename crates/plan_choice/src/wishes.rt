@@ -1,9 +1,6 @@
 //! Which units can be pulled by a mere wish.
 ghost use Rattle.std.specs.Prelude.{◌<◌, ◌↔◌, IfOk, IsTrue};
-ghost use Rattle.plan_choice.specs.RowCases.{case_of, count_of};
-ghost use Rattle.plan_choice.specs.Sets.{IsGood};
-ghost use Rattle.plan_choice.specs.Marking.{AreMarksOf, IsListOf};
-ghost use Rattle.plan_choice.specs.Soundness.{IsSound};
+ghost use Rattle.plan_choice.specs.{RowCases.{case_of, count_of}, Sets.{IsGood}, Marking.{AreMarksOf, IsListOf}, Soundness.{IsSound}};
 
 use crate::marked_cases::MarkedCase;
 use index_rows::{reached, unmarked};

@@ -1,6 +1,5 @@
 //! How answers are written.
-ghost use Rattle.std.specs.Prelude.{◌≡◌, ◌∷◌, ◌++◌, IfOk, OnOk, codes};
-ghost use Rattle.std.specs.List.{flat_map};
+ghost use Rattle.std.specs.{Prelude.{◌≡◌, ◌∷◌, ◌++◌, IfOk, OnOk, codes}, List.{flat_map}};
 ghost use Rattle.load_places.specs.Texts.{place_text};
 ghost use Rattle.script_answers.specs.Texts.{refusal_name, refusal_values, error_line, ok_line, changed_line, crowd_line, entries_line, entry_line, files_text, content_text, version_text};
 

@@ -1,7 +1,5 @@
 //! Each question has one answer.
-ghost use Rattle.script_answers.specs.CrowdLaws.{CrowdsAreToldOnce};
-ghost use Rattle.script_answers.specs.FileLaws.{FilesAreToldOnce};
-ghost use Rattle.script_answers.specs.TellsLaws.{QuestionsAreToldOnce};
+ghost use Rattle.script_answers.specs.{CrowdLaws.{CrowdsAreToldOnce}, FileLaws.{FilesAreToldOnce}, TellsLaws.{QuestionsAreToldOnce}};
 
 /// What is told of a node's store is told in one way, or refused in one way.
 pub fn one_answer()

@@ -1,6 +1,5 @@
 //! How a plan is written.
-ghost use Rattle.std.specs.Prelude.{◌≡◌, ◌++◌, IfOk, OnOk};
-ghost use Rattle.std.specs.List.{flat_map};
+ghost use Rattle.std.specs.{Prelude.{◌≡◌, ◌++◌, IfOk, OnOk}, List.{flat_map}};
 ghost use Rattle.script_answers.specs.Plans.{plan_text, start_line, stop_line, unit_line};
 
 use start_plan::Plan;

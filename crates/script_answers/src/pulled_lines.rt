@@ -1,6 +1,5 @@
 //! How what a unit pulls is written.
-ghost use Rattle.std.specs.Prelude.{◌≡◌, ◌++◌, IfOk, OnOk};
-ghost use Rattle.std.specs.List.{flat_map};
+ghost use Rattle.std.specs.{Prelude.{◌≡◌, ◌++◌, IfOk, OnOk}, List.{flat_map}};
 ghost use Rattle.script_answers.specs.PulledLines.{depth_line, pulled_text};
 
 use std::alloc::{AllocError, Global};

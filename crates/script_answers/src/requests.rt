@@ -1,8 +1,7 @@
 //! The questions that words make.
 ghost use Rattle.std.specs.Prelude.{◌≡◌, Ok, MatchResult};
 ghost use Rattle.unit_name.specs.Names.{name_of};
-ghost use Rattle.script_answers.specs.Requests.{IsNameFault, names_in, request_of};
-ghost use Rattle.script_answers.specs.Tells.{question_asked};
+ghost use Rattle.script_answers.specs.{Requests.{IsNameFault, names_in, request_of}, Tells.{question_asked}};
 
 use fleet_answers::Question;
 use plain_values::Items;

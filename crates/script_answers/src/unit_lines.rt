@@ -1,6 +1,5 @@
 //! How a unit is written.
-ghost use Rattle.std.specs.Prelude.{◌≡◌, ◌++◌, ℕ, List, IfOk, OnOk};
-ghost use Rattle.std.specs.List.{flat_map};
+ghost use Rattle.std.specs.{Prelude.{◌≡◌, ◌++◌, ℕ, List, IfOk, OnOk}, List.{flat_map}};
 ghost use Rattle.script_answers.specs.UnitLines.{cause_text, dropin_line, head_text, kind_line, note_line, row_line, status_text, unit_text};
 
 use crate::names::append_names;

@@ -1,5 +1,7 @@
 //! Commands, and why they are refused.
 ghost use Rattle.std.specs.Prelude.{◌≡◌, ℕ, List};
+ghost use Rattle.script_commands.specs.declared.commands.Fault.TheVariants.{Refused, Memory};
+ghost use Rattle.script_commands.specs.Faults.{fault_of_place, fault_of_host, fault_of_content, fault_of_name, fault_of_edit};
 
 use crate::edit_counts::EditCount;
 use edit_sums::ContentFault;
@@ -225,9 +227,6 @@ pub enum Fault {
 }
 
 impl From<LineRefusal> for Fault {
-    ghost use Rattle.std.specs.Prelude.{◌≡◌};
-    ghost use Rattle.script_commands.specs.declared.commands.Fault.TheVariants.{Refused};
-
     ghost from_gives = { λ refusal fault. fault ≡ Refused refusal };
 
     fn from(refusal: LineRefusal) -> Fault {
@@ -236,9 +235,6 @@ impl From<LineRefusal> for Fault {
 }
 
 impl From<AllocError> for Fault {
-    ghost use Rattle.std.specs.Prelude.{◌≡◌};
-    ghost use Rattle.script_commands.specs.declared.commands.Fault.TheVariants.{Memory};
-
     ghost from_gives = { λ _ fault. fault ≡ Memory };
 
     fn from(_refused: AllocError) -> Fault {
@@ -258,9 +254,6 @@ impl<T: Drop> From<AllocFailed<T>> for Fault {
 }
 
 impl From<PlaceFault> for Fault {
-    ghost use Rattle.std.specs.Prelude.{◌≡◌};
-    ghost use Rattle.script_commands.specs.Faults.{fault_of_place};
-
     ghost from_gives = { λ refused fault. fault ≡ fault_of_place refused };
 
     fn from(refused: PlaceFault) -> Fault {
@@ -275,9 +268,6 @@ impl From<PlaceFault> for Fault {
 }
 
 impl From<HostFault> for Fault {
-    ghost use Rattle.std.specs.Prelude.{◌≡◌};
-    ghost use Rattle.script_commands.specs.Faults.{fault_of_host};
-
     ghost from_gives = { λ refused fault. fault ≡ fault_of_host refused };
 
     fn from(refused: HostFault) -> Fault {
@@ -289,9 +279,6 @@ impl From<HostFault> for Fault {
 }
 
 impl From<ContentFault> for Fault {
-    ghost use Rattle.std.specs.Prelude.{◌≡◌};
-    ghost use Rattle.script_commands.specs.Faults.{fault_of_content};
-
     ghost from_gives = { λ refused fault. fault ≡ fault_of_content refused };
 
     fn from(refused: ContentFault) -> Fault {
@@ -304,9 +291,6 @@ impl From<ContentFault> for Fault {
 }
 
 impl From<NameFault> for Fault {
-    ghost use Rattle.std.specs.Prelude.{◌≡◌};
-    ghost use Rattle.script_commands.specs.Faults.{fault_of_name};
-
     ghost from_gives = { λ refused fault. fault ≡ fault_of_name refused };
 
     fn from(refused: NameFault) -> Fault {
@@ -321,9 +305,6 @@ impl From<NameFault> for Fault {
 }
 
 impl From<EditFault> for Fault {
-    ghost use Rattle.std.specs.Prelude.{◌≡◌};
-    ghost use Rattle.script_commands.specs.Faults.{fault_of_edit};
-
     ghost from_gives = { λ refused fault. fault ≡ fault_of_edit refused };
 
     fn from(refused: EditFault) -> Fault {

@@ -1,7 +1,6 @@
 //! The fields of a line, read from left to right.
 ghost use Rattle.std.specs.Prelude.{◌≡◌, ◌≢◌, ◌≤◌, [], ◌∷◌, true, OnOk, MatchResult};
-ghost use Rattle.script_words.specs.Names.{is_name};
-ghost use Rattle.script_words.specs.Words.{words_of, after_word, text_after};
+ghost use Rattle.script_words.specs.{Names.{is_name}, Words.{words_of, after_word, text_after}};
 ghost use Rattle.script_commands.specs.declared.commands.LineRefusal.TheVariants.{Arguments};
 ghost use Rattle.script_commands.specs.Fields.{AreNotOne, AreNotOneEditCount, AreNotOneName, AreNotOneNumber, BeginsWithNoName, BeginsWithNoNode, BeginsWithNoNumber, BeginsWithNode, BeginsWithNumber};
 

@@ -1,6 +1,5 @@
 //! From a line to a command.
-ghost use Rattle.std.specs.Prelude.{◌≡◌};
-ghost use Rattle.std.specs.Str.{bytes_eq};
+ghost use Rattle.std.specs.{Prelude.{◌≡◌}, Str.{bytes_eq}};
 ghost use Rattle.script_words.specs.Words.{words_of, text_after};
 ghost use Rattle.script_commands.specs.Commands.{change_of, command_of, question_of, unit_question_of};
 

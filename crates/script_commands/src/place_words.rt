@@ -1,8 +1,7 @@
 //! What the words behind a command's nodes write: places, files and links.
 ghost use Rattle.std.specs.Prelude.{◌≡◌, ◌⊎◌, Ok, Err, MatchResult};
 ghost use Rattle.load_places.specs.Texts.{place_of};
-ghost use Rattle.script_commands.specs.Files.{IsFileOf, IsLinkTo, IsNoFile, IsNoLink};
-ghost use Rattle.script_commands.specs.Places.{IsPlaceFault, places_of};
+ghost use Rattle.script_commands.specs.{Files.{IsFileOf, IsLinkTo, IsNoFile, IsNoLink}, Places.{IsPlaceFault, places_of}};
 
 use crate::commands::{Fault, LineRefusal, Words};
 use edit_sums::Content;

@@ -1,9 +1,7 @@
 //! Sources, and a script that is read from one.
 ghost use Rattle.std.specs.Prelude.{◌≡◌, ◌≤◌, ◌+◌, ◌⊎◌, ℕ, List, Option, true, length, vec_len, is_err, IfOk, OnOk, OnErr, IsErrOf};
-ghost use Rattle.std.specs.Io.{ReadsAtMost};
-ghost use Rattle.std.specs.Io.KnownBytes.{Consumes, IsAtEnd, ReadConsumes};
-ghost use Rattle.script_pipes.specs.Failures.{FailedSince, count_with};
-ghost use Rattle.script_pipes.specs.KnownBytes.{AreAll, ConsumesFront, IsOver};
+ghost use Rattle.std.specs.{Io.{ReadsAtMost}, Io.KnownBytes.{Consumes, IsAtEnd, ReadConsumes}};
+ghost use Rattle.script_pipes.specs.{Failures.{FailedSince, count_with}, KnownBytes.{AreAll, ConsumesFront, IsOver}};
 ghost use Rattle.script_pipes.specs.declared.reading.ReadFault.TheVariants.{Memory};
 
 use std::alloc::{AllocError, Global};

@@ -1,7 +1,6 @@
 //! The readers and writers of std as sources and sinks.
 ghost use Rattle.std.specs.Prelude.{◌≡◌, true};
-ghost use Rattle.script_pipes.specs.Failures.{count_with};
-ghost use Rattle.script_pipes.specs.Watch.{Watch};
+ghost use Rattle.script_pipes.specs.{Failures.{count_with}, Watch.{Watch}};
 
 use crate::reading::Source;
 use crate::writing::Sink;

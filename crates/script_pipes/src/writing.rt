@@ -1,9 +1,7 @@
 //! Sinks, and bytes that are written to one.
-ghost use Rattle.std.specs.Prelude.{◌≡◌, ◌<◌, ◌≤◌, ℕ, true, List, length, take, Option, OnOk, OnErr, IfOk};
-ghost use Rattle.std.specs.Io.{WritesAtMost};
+ghost use Rattle.std.specs.{Prelude.{◌≡◌, ◌<◌, ◌≤◌, ℕ, true, List, length, take, Option, OnOk, OnErr, IfOk}, Io.{WritesAtMost}};
 ghost use Rattle.std.specs.Io.KnownBytes.{Appends, Keeps, WriteAppends};
-ghost use Rattle.script_pipes.specs.Failures.{FailedSince, count_with, is_refusal};
-ghost use Rattle.script_pipes.specs.KnownBytes.{AppendsFront};
+ghost use Rattle.script_pipes.specs.{Failures.{FailedSince, count_with, is_refusal}, KnownBytes.{AppendsFront}};
 
 use std::io;
 use thiserror::Error;

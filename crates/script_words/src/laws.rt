@@ -1,11 +1,8 @@
 //! Laws that say, by how a script is put together, which lines, words and bytes are read out of it.
-ghost use Rattle.std.specs.Prelude.{◌≡◌, ◌<◌, ◌≤◌, ◌+◌, ◌^◌, ℕ, replicate, List, [], ◌∷◌, ◌++◌, length, All};
-ghost use Rattle.std.specs.Fmt.{decimal};
+ghost use Rattle.std.specs.{Prelude.{◌≡◌, ◌<◌, ◌≤◌, ◌+◌, ◌^◌, ℕ, replicate, List, [], ◌∷◌, ◌++◌, length, All}, Fmt.{decimal}};
 ghost use Rattle.std.specs.List.{flat_map};
 ghost use Rattle.list_laws.specs.Lines.{HasNoLineFeed, IsPlainLine};
-ghost use Rattle.script_words.specs.Lines.{lines_of};
-ghost use Rattle.script_words.specs.Words.{words_of, text_after, spaced, IsWord};
-ghost use Rattle.script_words.specs.Numbers.{number_of};
+ghost use Rattle.script_words.specs.{Lines.{lines_of}, Words.{words_of, text_after, spaced, IsWord}, Numbers.{number_of}};
 ghost use Rattle.script_words.specs.Text.{Spells, HasNoBackslash, with_doubled};
 
 /// Lines with their endings behind them are the first lines of that script.

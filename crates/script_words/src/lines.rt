@@ -1,9 +1,6 @@
 //! The lines of a script.
-ghost use Rattle.std.specs.Prelude.{◌≡◌, ◌∷◌, ◌<◌, length};
-ghost use Rattle.std.specs.List.{list_all};
-ghost use Rattle.std.specs.Str.Lines.{strip_carriage_return};
-ghost use Rattle.script_words.specs.Lines.{lines_of, is_passed_over};
-ghost use Rattle.script_words.specs.Words.{is_space};
+ghost use Rattle.std.specs.{Prelude.{◌≡◌, ◌∷◌, ◌<◌, length}, List.{list_all}, Str.Lines.{strip_carriage_return}};
+ghost use Rattle.script_words.specs.{Lines.{lines_of, is_passed_over}, Words.{is_space}};
 
 use bstr::ByteSlice;
 

@@ -1,7 +1,5 @@
 //! The names that scripts give.
-ghost use Rattle.std.specs.Prelude.{◌≡◌};
-ghost use Rattle.std.specs.Char.{is_ascii_alphanumeric};
-ghost use Rattle.std.specs.List.{list_all};
+ghost use Rattle.std.specs.{Prelude.{◌≡◌}, Char.{is_ascii_alphanumeric}, List.{list_all}};
 ghost use Rattle.script_words.specs.Names.{is_name};
 
 /// The most bytes of a name.

@@ -1,8 +1,5 @@
 //! The numbers that words spell.
-ghost use Rattle.std.specs.Prelude.{◌≡◌, ◌≤◌, true, length};
-ghost use Rattle.std.specs.Char.{is_ascii_digit};
-ghost use Rattle.std.specs.List.{list_all};
-ghost use Rattle.std.specs.Str.Parse.{digits_value};
+ghost use Rattle.std.specs.{Prelude.{◌≡◌, ◌≤◌, true, length}, Char.{is_ascii_digit}, List.{list_all}, Str.Parse.{digits_value}};
 ghost use Rattle.script_words.specs.Numbers.{number_of};
 
 /// The most digits of a number, zeros in front among them.

@@ -1,6 +1,5 @@
 //! Text with escapes.
-ghost use Rattle.std.specs.Prelude.{◌≡◌, ◌<◌, MatchOption, IfOk, IfSome, SomeIff, length};
-ghost use Rattle.std.specs.Char.{digit_value};
+ghost use Rattle.std.specs.{Prelude.{◌≡◌, ◌<◌, MatchOption, IfOk, IfSome, SomeIff, length}, Char.{digit_value}};
 ghost use Rattle.script_words.specs.Text.{Spells, IsBadText, byte_read, escape_read, hex_read};
 
 use std::alloc::{AllocError, Global};

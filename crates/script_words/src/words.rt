@@ -1,6 +1,5 @@
 //! The words of a line.
-ghost use Rattle.std.specs.Prelude.{◌≡◌, [], ◌∷◌, ◌<◌, ◌≤◌, length, MatchOption, IfSome};
-ghost use Rattle.std.specs.List.{prefix_len, position_or_len};
+ghost use Rattle.std.specs.{Prelude.{◌≡◌, [], ◌∷◌, ◌<◌, ◌≤◌, length, MatchOption, IfSome}, List.{prefix_len, position_or_len}};
 ghost use Rattle.script_words.specs.Words.{words_of, after_word, text_after, is_space, skip_spaces};
 
 /// How many spaces a line begins with.

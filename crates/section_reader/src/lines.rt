@@ -1,6 +1,5 @@
 //! The physical lines of a file.
-ghost use Rattle.std.specs.Prelude.{◌≡◌, ◌∷◌, ◌<◌, ◌+◌, [], MatchOption, IfNone, length};
-ghost use Rattle.std.specs.Str.Lines.{lines, strip_carriage_return};
+ghost use Rattle.std.specs.{Prelude.{◌≡◌, ◌∷◌, ◌<◌, ◌+◌, [], MatchOption, IfNone, length}, Str.Lines.{lines, strip_carriage_return}};
 ghost use Rattle.section_reader.specs.Lines.{without_mark, physical_lines};
 
 use bstr::ByteSlice;
@@ -27,8 +26,7 @@ pub(crate) struct Lines<'a> {
 }
 
 impl<'a> Model for Lines<'a> {
-    ghost use Rattle.std.specs.Prelude.{List, ◌+◌, ◌<◌, ◌^◌, length};
-    ghost use Rattle.std.specs.Str.Lines.{lines};
+    ghost use Rattle.std.specs.{Prelude.{List, ◌+◌, ◌<◌, ◌^◌, length}, Str.Lines.{lines}};
     ghost use Rattle.section_reader.specs.Lines.{Line, numbered};
 
     ghost Value = { List Line };

@@ -1,7 +1,6 @@
 //! Continued lines.
 ghost use Rattle.std.specs.Prelude.{◌≡◌, ◌<◌, ◌≤◌, ◌++◌, ◌∷◌, [], length, IfOk, OnOk};
-ghost use Rattle.section_reader.specs.Parts.{spaced};
-ghost use Rattle.section_reader.specs.Logical.{going_on, joined_lines, lines_behind};
+ghost use Rattle.section_reader.specs.{Parts.{spaced}, Logical.{going_on, joined_lines, lines_behind}};
 
 use crate::lines::Lines;
 use crate::parts::{LineForm, form};

@@ -1,6 +1,5 @@
 //! What single lines are, and their parts.
-ghost use Rattle.std.specs.Prelude.{◌≡◌, ◌<◌, ◌≤◌, MatchOption, None, Some, length};
-ghost use Rattle.std.specs.List.{list_all, prefix_len, suffix_len};
+ghost use Rattle.std.specs.{Prelude.{◌≡◌, ◌<◌, ◌≤◌, MatchOption, None, Some, length}, List.{list_all, prefix_len, suffix_len}};
 ghost use Rattle.bstr.specs.Find.{IsFirstByte};
 ghost use Rattle.section_reader.specs.Parts.{is_white, trim_start, trim_end, trimmed, is_blank, is_comment, is_bracketed, is_equals, form, header_name, pair_of};
 

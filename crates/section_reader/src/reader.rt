@@ -1,7 +1,6 @@
 //! The reader: one pass over the lines of a file.
 ghost use Rattle.std.specs.Prelude.{◌≡◌, ◌++◌, ◌∷◌, [], List, IfOk, OnOk};
-ghost use Rattle.section_reader.specs.Lines.{Line};
-ghost use Rattle.section_reader.specs.Logical.{kept};
+ghost use Rattle.section_reader.specs.{Lines.{Line}, Logical.{kept}};
 ghost use Rattle.section_reader.specs.Places.{items_at, notes_at, place_behind, header_notes, items_from, notes_from};
 ghost use Rattle.section_reader.specs.Sections.{assignments_of, notes_of};
 

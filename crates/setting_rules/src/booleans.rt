@@ -1,7 +1,5 @@
 //! Booleans.
-ghost use Rattle.std.specs.Prelude.{◌≡◌};
-ghost use Rattle.std.specs.List.{list_any};
-ghost use Rattle.std.specs.Str.{str_eq_ignore_ascii_case};
+ghost use Rattle.std.specs.{Prelude.{◌≡◌}, List.{list_any}, Str.{str_eq_ignore_ascii_case}};
 ghost use Rattle.setting_rules.specs.Rules.{boolean};
 
 /// What a text says as a boolean, in any case of letters (systemd.syntax(7), "Introduction").

@@ -1,9 +1,6 @@
 //! The dependencies of a unit, kind by kind.
-ghost use Rattle.std.specs.Prelude.{◌≡◌, ◌++◌, ◌∷◌, [], IfOk, OnOk, map};
-ghost use Rattle.std.specs.List.{flat_map};
-ghost use Rattle.setting_rules.specs.Dependencies.{key_for, in_byte_order, names_by, faults_by};
-ghost use Rattle.setting_rules.specs.Settings.{note_on};
-ghost use Rattle.setting_rules.specs.Words.{words_of};
+ghost use Rattle.std.specs.{Prelude.{◌≡◌, ◌++◌, ◌∷◌, [], IfOk, OnOk, map}, List.{flat_map}};
+ghost use Rattle.setting_rules.specs.{Dependencies.{key_for, in_byte_order, names_by, faults_by}, Settings.{note_on}, Words.{words_of}};
 
 use crate::kinds::DepKind;
 use crate::notes::{SettingNote, SettingNoteKind};

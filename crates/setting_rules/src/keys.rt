@@ -16,9 +16,7 @@ pub struct SettingKey {
 }
 
 impl SettingKey {
-    ghost use Rattle.setting_rules.specs.Settings.{key_of};
-    ghost use Rattle.setting_rules.specs.Rows.{is_dependency};
-    ghost use Rattle.setting_rules.specs.Maps.{same_key};
+    ghost use Rattle.setting_rules.specs.{Settings.{key_of}, Rows.{is_dependency}, Maps.{same_key}};
 
     /// The key that an assignment sets, with the same bytes. It fails for want of memory alone.
     pub(crate) fn of(assignment: &Assignment) -> Result<SettingKey, AllocError>

@@ -1,9 +1,7 @@
 //! The kinds of dependencies.
-ghost use Rattle.std.specs.Prelude.{◌≡◌, IsTrue};
-ghost use Rattle.std.specs.List.{slice_index_or};
+ghost use Rattle.std.specs.{Prelude.{◌≡◌, IsTrue}, List.{slice_index_or}};
 ghost use Rattle.setting_rules.specs.declared.kinds.DepKind.TheVariants.{Before};
-ghost use Rattle.setting_rules.specs.Kinds.{kinds, settable, is_settable, inverse, word, settable_kind};
-ghost use Rattle.setting_rules.specs.Places.{place};
+ghost use Rattle.setting_rules.specs.{Kinds.{kinds, settable, is_settable, inverse, word, settable_kind}, Places.{place}};
 
 /// How one unit depends on another (systemd.unit(5), "Mapping of unit properties to their inverses"). Each kind stands
 /// before its inverse, which says the same of the two units the other way round.

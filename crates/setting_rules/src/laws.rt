@@ -1,8 +1,6 @@
 //! What is true of all assignments, names and kinds: laws, each the contract of a function that does nothing.
-ghost use Rattle.setting_rules.specs.EnteredLaws.{KeysJoin, OneKeyEnters};
-ghost use Rattle.setting_rules.specs.FamilyLaws.{ConditionsEmptyAll, AssertionsEmptyAll};
-ghost use Rattle.setting_rules.specs.JoinLaws.{ListsJoin};
-ghost use Rattle.setting_rules.specs.OrderLaws.{NamesRise, NamesStay};
+ghost use Rattle.setting_rules.specs.{EnteredLaws.{KeysJoin, OneKeyEnters}, FamilyLaws.{ConditionsEmptyAll, AssertionsEmptyAll}};
+ghost use Rattle.setting_rules.specs.{JoinLaws.{ListsJoin}, OrderLaws.{NamesRise, NamesStay}};
 ghost use Rattle.setting_rules.specs.ResetLaws.{KeepsAllValues, ResetsForget, OtherKeysChangeNothing, PassedOverChangesNothing, EmptyDependenciesChangeNothing, SettingsShowValues};
 ghost use Rattle.setting_rules.specs.SwitchLaws.{LastBooleanStays, LastBooleanDecides, NothingRefusedUnsaid};
 ghost use Rattle.setting_rules.specs.TemplateLaws.{InstancesAreTaken, PrefixesAreTaken, OtherNamesStay};

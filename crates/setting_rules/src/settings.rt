@@ -1,7 +1,6 @@
 //! What the assignments of a unit come to.
 ghost use Rattle.std.specs.Prelude.{◌≡◌, ◌∷◌, [], ◌++◌, IfOk, OnOk, drop, false, if◌then◌else◌};
-ghost use Rattle.setting_rules.specs.Effects.{effect, changed_by, resets_family, start_of};
-ghost use Rattle.setting_rules.specs.Maps.{changed};
+ghost use Rattle.setting_rules.specs.{Effects.{effect, changed_by, resets_family, start_of}, Maps.{changed}};
 ghost use Rattle.setting_rules.specs.Settings.{key_of, is_bad_by, note_on, behind_last, settings_of, boolean_notes};
 ghost use Rattle.setting_rules.specs.declared.notes.SettingNoteKind.TheVariants.{BadBoolean};
 

@@ -1,9 +1,7 @@
 //! What a node has accepted, beside the counts of it.
 ghost use Rattle.std.specs.Prelude.{◌≡◌, ℕ, ◌-◌, ◌<◌, ◌^◌, length, slice_index, IfOk, IfErr};
 ghost use Rattle.node_histories.specs.Histories.{counter_of, opening_of, takes_in, takes_of};
-ghost use Rattle.shared_node.specs.Accounts.{IsTakenAfter};
-ghost use Rattle.shared_node.specs.Seats.{Agrees};
-ghost use Rattle.shared_node.specs.Faults.{IsDisagreement};
+ghost use Rattle.shared_node.specs.{Accounts.{IsTakenAfter}, Seats.{Agrees}, Faults.{IsDisagreement}};
 
 use crate::faults::CloseCause;
 use crate::seat::Seat;
@@ -20,8 +18,7 @@ pub(crate) struct Account<N: NodeName> {
 
 impl<N: NodeName> Model for Account<N> {
     ghost use Rattle.std.specs.Prelude.{◌≡◌, ℕ, ◌<◌, length, slice_index};
-    ghost use Rattle.shared_node.specs.Accounts.{AccountNow};
-    ghost use Rattle.shared_node.specs.Codes.{coded_account};
+    ghost use Rattle.shared_node.specs.{Accounts.{AccountNow}, Codes.{coded_account}};
     ghost use Rattle.node_histories.specs.Histories.{takes_of, counter_of};
 
     ghost Value = { AccountNow };

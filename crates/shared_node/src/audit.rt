@@ -1,9 +1,7 @@
 //! How a keeper compares its counts with those of seats.
-ghost use Rattle.std.specs.Prelude.{◌≡◌, ◌+◌, length, IfOk, IfErr};
-ghost use Rattle.std.specs.List.{sum_by};
+ghost use Rattle.std.specs.{Prelude.{◌≡◌, ◌+◌, length, IfOk, IfErr}, List.{sum_by}};
 ghost use Rattle.node_histories.specs.Histories.{replica_of, takes_in};
-ghost use Rattle.shared_node.specs.Seats.{AllAgree};
-ghost use Rattle.shared_node.specs.Faults.{AtCause, IsDisagreement};
+ghost use Rattle.shared_node.specs.{Seats.{AllAgree}, Faults.{AtCause, IsDisagreement}};
 
 use crate::account::Account;
 use crate::faults::CloseCause;

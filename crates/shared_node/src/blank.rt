@@ -2,8 +2,7 @@
 ghost use Rattle.std.specs.Prelude.{◌≡◌, ℕ, ◌<◌, ◌≤◌, ◌∷◌, [], length, drop, slice_index, IfOk, IfErr};
 ghost use Rattle.left_right.specs.Sides.{view};
 ghost use Rattle.node_histories.specs.declared.events.HistoryEvent.TheVariants.{Opening};
-ghost use Rattle.shared_node.specs.Sights.{latest, sight_of};
-ghost use Rattle.shared_node.specs.BlankFaults.{AtBlankFault};
+ghost use Rattle.shared_node.specs.{Sights.{latest, sight_of}, BlankFaults.{AtBlankFault}};
 
 use crate::post::publish;
 use crate::sight::PageWriter;
@@ -30,12 +29,8 @@ pub struct Blank {
 impl Model for Blank {
     ghost use Rattle.std.specs.Prelude.{◌≡◌, ℕ, ◌<◌, ◌∷◌, [], length, drop, slice_index};
     ghost use Rattle.left_right.specs.Sides.{view as sight};
-    ghost use Rattle.node_histories.specs.declared.events.HistoryEvent.TheVariants.{Opening};
-    ghost use Rattle.node_histories.specs.Books.{head_of};
-    ghost use Rattle.node_histories.specs.Histories.{opening_of};
-    ghost use Rattle.shared_node.specs.Blanks.{BlankNow};
-    ghost use Rattle.shared_node.specs.Codes.{coded_blank};
-    ghost use Rattle.shared_node.specs.Sights.{latest, sight_of};
+    ghost use Rattle.node_histories.specs.{declared.events.HistoryEvent.TheVariants.{Opening}, Books.{head_of}, Histories.{opening_of}};
+    ghost use Rattle.shared_node.specs.{Blanks.{BlankNow}, Codes.{coded_blank}, Sights.{latest, sight_of}};
 
     ghost Value = { BlankNow };
 

@@ -1,7 +1,6 @@
 //! The keeper of a node, as it lies under the lock.
 ghost use Rattle.std.specs.Prelude.{◌≡◌, ◌+◌, ◌<◌, ◌∷◌, [], IfOk, IfSome, IfNone, MatchResult};
-ghost use Rattle.node_histories.specs.declared.events.HistoryEvent.TheVariants.{Opening};
-ghost use Rattle.node_histories.specs.Histories.{IsLegal, opening_of, replica_of};
+ghost use Rattle.node_histories.specs.{declared.events.HistoryEvent.TheVariants.{Opening}, Histories.{IsLegal, opening_of, replica_of}};
 
 use crate::account::Account;
 use crate::blank::Blank;
@@ -24,10 +23,8 @@ pub(crate) struct Keeper<N: NodeName> {
 
 impl<N: NodeName> Model for Keeper<N> {
     ghost use Rattle.std.specs.Prelude.{◌≡◌, ◌≤◌, ◌+◌};
-    ghost use Rattle.node_histories.specs.Books.{head_of};
-    ghost use Rattle.node_histories.specs.Histories.{takes_in};
-    ghost use Rattle.shared_node.specs.Codes.{coded_keeper};
-    ghost use Rattle.shared_node.specs.Keepers.{KeeperNow};
+    ghost use Rattle.node_histories.specs.{Books.{head_of}, Histories.{takes_in}};
+    ghost use Rattle.shared_node.specs.{Codes.{coded_keeper}, Keepers.{KeeperNow}};
 
     ghost Value = { KeeperNow };
 

@@ -1,6 +1,5 @@
 //! A node that threads share.
-ghost use Rattle.std.specs.Prelude.{◌≡◌, ◌+◌, ◌<◌, IfOk, IfErr};
-ghost use Rattle.std.specs.List.{sum_by};
+ghost use Rattle.std.specs.{Prelude.{◌≡◌, ◌+◌, ◌<◌, IfOk, IfErr}, List.{sum_by}};
 ghost use Rattle.node_histories.specs.declared.events.HistoryEvent.TheVariants.{Edited, Absorbed};
 ghost use Rattle.node_histories.specs.Histories.{IsLegal, EndsWith, EndsChanging, opening_of, replica_of, takes_in};
 ghost use Rattle.node_histories.specs.Codes.{replica-prop, IsLegal-prop};

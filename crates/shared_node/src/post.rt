@@ -24,9 +24,7 @@ impl<N: NodeName> Model for Post<N> {
     ghost use mathlib.Core.List.{IsPrefix};
     ghost use Rattle.left_right.specs.Sides.{view as sight};
     ghost use Rattle.node_histories.specs.Histories.{opening_of};
-    ghost use Rattle.shared_node.specs.Posts.{PostNow};
-    ghost use Rattle.shared_node.specs.Codes.{coded_post};
-    ghost use Rattle.shared_node.specs.Sights.{newest, sight_of};
+    ghost use Rattle.shared_node.specs.{Posts.{PostNow}, Codes.{coded_post}, Sights.{newest, sight_of}};
 
     ghost Value = { PostNow };
 
@@ -58,8 +56,7 @@ pub struct Told<N: NodeName> {
 
 impl<N: NodeName> Model for Told<N> {
     ghost use Rattle.std.specs.Prelude.{List};
-    ghost use Rattle.node_histories.specs.declared.events.HistoryEvent.{HistoryEvent};
-    ghost use Rattle.node_histories.specs.Codes.{coded_history};
+    ghost use Rattle.node_histories.specs.{declared.events.HistoryEvent.{HistoryEvent}, Codes.{coded_history}};
 
     ghost Value = { List HistoryEvent };
 

@@ -23,9 +23,7 @@ pub struct Seat<N: NodeName> {
 impl<N: NodeName> Model for Seat<N> {
     ghost use Rattle.std.specs.Prelude.{◌≡◌, ◌<◌, true};
     ghost use Rattle.left_right.specs.Sides.{view as sight};
-    ghost use Rattle.shared_node.specs.Seats.{SeatNow};
-    ghost use Rattle.shared_node.specs.Codes.{coded_seat};
-    ghost use Rattle.shared_node.specs.Sights.{book_of};
+    ghost use Rattle.shared_node.specs.{Seats.{SeatNow}, Codes.{coded_seat}, Sights.{book_of}};
 
     ghost Value = { SeatNow };
 
@@ -48,9 +46,7 @@ pub struct View<N: NodeName> {
 impl<N: NodeName> Model for View<N> {
     ghost use Rattle.std.specs.Prelude.{◌≡◌, ◌<◌, true};
     ghost use Rattle.left_right.specs.Sides.{view as sight};
-    ghost use Rattle.shared_node.specs.Seats.{SeatNow};
-    ghost use Rattle.shared_node.specs.Codes.{coded_seat};
-    ghost use Rattle.shared_node.specs.Sights.{book_of};
+    ghost use Rattle.shared_node.specs.{Seats.{SeatNow}, Codes.{coded_seat}, Sights.{book_of}};
 
     ghost Value = { SeatNow };
 

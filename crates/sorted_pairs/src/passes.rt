@@ -1,6 +1,5 @@
 //! One pass over sorted pairs: those that are passed, and those that are not.
-ghost use Rattle.std.specs.Prelude.{◌≡◌, ◌+◌, ◌<◌, ◌≤◌, ◌++◌, [], take, drop, vec_len, vec_capacity};
-ghost use Rattle.std.specs.VecDeque.{deque_len};
+ghost use Rattle.std.specs.{Prelude.{◌≡◌, ◌+◌, ◌<◌, ◌≤◌, ◌++◌, [], take, drop, vec_len, vec_capacity}, VecDeque.{deque_len}};
 ghost use Rattle.sorted_pairs.specs.Places.{AreBelow, IsNotBelow};
 
 use std::collections::VecDeque;

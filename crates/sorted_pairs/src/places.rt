@@ -1,6 +1,5 @@
 //! Places of keys.
-ghost use Rattle.std.specs.Prelude.{◌≡◌, ◌≤◌, ◌<◌, length, IsTrue, IfOk, IfErr};
-ghost use Rattle.std.specs.FinMap.{is_sorted};
+ghost use Rattle.std.specs.{Prelude.{◌≡◌, ◌≤◌, ◌<◌, length, IsTrue, IfOk, IfErr}, FinMap.{is_sorted}};
 ghost use Rattle.sorted_pairs.specs.Places.{IsAt, IsGap};
 
 use std::cmp::Ordering;

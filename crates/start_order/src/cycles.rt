@@ -1,12 +1,8 @@
 //! The cycle to which one comes from the least stuck node.
-ghost use Rattle.std.specs.Prelude.{◌≡◌, ◌<◌, ◌≤◌, ℕ, slice_index, length, IfOk};
-ghost use Rattle.std.specs.Ordering.{nat_cmp};
+ghost use Rattle.std.specs.{Prelude.{◌≡◌, ◌<◌, ◌≤◌, ℕ, slice_index, length, IfOk}, Ordering.{nat_cmp}};
 ghost use Rattle.list_laws.specs.Members.{IsAmong};
-ghost use Rattle.index_rows.specs.Rows.{Marked, AllBelow};
-ghost use Rattle.index_rows.specs.Least.{IsLeast};
-ghost use Rattle.start_order.specs.StartOrder.{IsBlocker, IsCycle};
-ghost use Rattle.start_order.specs.Precedes.{Precedes};
-ghost use Rattle.start_order.specs.Walks.{IsWalk};
+ghost use Rattle.index_rows.specs.{Rows.{Marked, AllBelow}, Least.{IsLeast}};
+ghost use Rattle.start_order.specs.{StartOrder.{IsBlocker, IsCycle}, Precedes.{Precedes}, Walks.{IsWalk}};
 
 use index_rows::{least_marked, no_marks, row};
 use std::alloc::{AllocError, Global};

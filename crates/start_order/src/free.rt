@@ -1,8 +1,7 @@
 //! The nodes that can start.
 ghost use Rattle.std.specs.Prelude.{◌≡◌, ◌≤◌, ◌<◌, ◌↔◌, ◌⊎◌, ℕ, slice_index, length, IfOk, OnOk, IsTrue, MatchOption};
+ghost use Rattle.std.specs.{List.Sorted.{IsStrictlySortedBy}, Ordering.{nat_cmp}};
 ghost use Rattle.list_laws.specs.Members.{IsAmong};
-ghost use Rattle.std.specs.List.Sorted.{IsStrictlySortedBy};
-ghost use Rattle.std.specs.Ordering.{nat_cmp};
 ghost use Rattle.index_rows.specs.Rows.{Marked};
 ghost use Rattle.start_order.specs.Counts.{IsLeastIn};
 
@@ -20,9 +19,7 @@ pub struct Free {
 }
 
 impl Model for Free {
-    ghost use Rattle.std.specs.Prelude.{◌++◌, ℕ, List};
-    ghost use Rattle.std.specs.List.Sorted.{IsStrictlySortedBy};
-    ghost use Rattle.std.specs.Ordering.{nat_cmp};
+    ghost use Rattle.std.specs.{Prelude.{◌++◌, ℕ, List}, List.Sorted.{IsStrictlySortedBy}, Ordering.{nat_cmp}};
 
     ghost Value = { List ℕ };
 

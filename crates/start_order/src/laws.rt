@@ -1,7 +1,5 @@
 //! Laws of start lists and cycles, for all nodes: each the contract of a function that does nothing.
-ghost use Rattle.std.specs.Prelude.{◌≡◌, ℕ, List, map};
-ghost use Rattle.std.specs.Ordering.{nat_cmp};
-ghost use Rattle.std.specs.FinMap.{IsAntisymmetric};
+ghost use Rattle.std.specs.{Prelude.{◌≡◌, ℕ, List, map}, Ordering.{nat_cmp}, FinMap.{IsAntisymmetric}};
 ghost use Rattle.list_laws.specs.Members.{IsAmong};
 ghost use Rattle.start_order.specs.StartOrder.{IsStartList, IsStuck, IsCycle};
 ghost use Rattle.index_rows.specs.Numbering.{IsNumbering, AreNames, AreNamedSteps};

@@ -1,10 +1,8 @@
 //! The start list, or the cycle that prevents it.
-ghost use Rattle.std.specs.Prelude.{◌≡◌, ◌↔◌, ℕ, length, IfOk, IfErr};
-ghost use Rattle.std.specs.Ordering.{nat_cmp};
+ghost use Rattle.std.specs.{Prelude.{◌≡◌, ◌↔◌, ℕ, length, IfOk, IfErr}, Ordering.{nat_cmp}};
 ghost use Rattle.list_laws.specs.Members.{IsAmong};
 ghost use Rattle.index_rows.specs.Rows.{Marked, AllBelow, AreRowsOf, AreTurned};
-ghost use Rattle.start_order.specs.StartOrder.{IsStartList, IsStuck, IsCycle};
-ghost use Rattle.start_order.specs.Precedes.{Precedes};
+ghost use Rattle.start_order.specs.{StartOrder.{IsStartList, IsStuck, IsCycle}, Precedes.{Precedes}};
 
 use crate::counts::{counts_of, lower};
 use crate::cycles::cycle_from;

@@ -1,12 +1,10 @@
 //! The case of a plan, by numbers.
 ghost use Rattle.std.specs.Prelude.{IfOk, [], ◌∷◌};
 ghost use Rattle.name_closure.specs.ListedLaws.{Named};
-ghost use Rattle.index_rows.specs.Numbering.{AreNamedSteps, IsNumbering};
-ghost use Rattle.index_rows.specs.Steps.{AreStepsOf, steps_from};
+ghost use Rattle.index_rows.specs.{Numbering.{AreNamedSteps, IsNumbering}, Steps.{AreStepsOf, steps_from}};
 ghost use Rattle.unit_name.specs.Names.{name_cmp};
 ghost use Rattle.setting_rules.specs.declared.kinds.DepKind.TheVariants.{Requisite, Wants};
-ghost use Rattle.plan_choice.specs.NamedCases.{IsNamedCase};
-ghost use Rattle.plan_choice.specs.RowCases.{case_of as case_of_rows};
+ghost use Rattle.plan_choice.specs.{NamedCases.{IsNamedCase}, RowCases.{case_of as case_of_rows}};
 ghost use Rattle.inverse_deps.specs.Numbers.{count_of, name_at};
 ghost use Rattle.unit_graph.specs.Graphs.{LeadsBy};
 ghost use Rattle.start_plan.specs.Requests.{AsksTemplate, IsOfGraph, case_of};

@@ -5,8 +5,7 @@ ghost use Rattle.index_rows.specs.Rows.{Marked};
 ghost use Rattle.parallel_load.specs.Loads.{unit_part};
 ghost use Rattle.inverse_deps.specs.Numbers.{count_of};
 ghost use Rattle.unit_graph.specs.Graphs.{IsNumberFor};
-ghost use Rattle.start_plan.specs.Requests.{has_fragment, is_loaded, is_manual};
-ghost use Rattle.start_plan.specs.Marks.{AreMarksBy};
+ghost use Rattle.start_plan.specs.{Requests.{has_fragment, is_loaded, is_manual}, Marks.{AreMarksBy}};
 
 use index_rows::no_marks;
 use parallel_load::{Loaded, NameLoad, Status};

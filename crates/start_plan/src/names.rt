@@ -2,10 +2,8 @@
 ghost use Rattle.std.specs.Prelude.{◌≡◌, ◌<◌, ℕ, Some, All, IfOk, false, map};
 ghost use Rattle.parallel_load.specs.Loads.{unit_in};
 ghost use Rattle.plan_choice.specs.RowRefusals.{refusal_of};
-ghost use Rattle.inverse_deps.specs.Edges.{IsUnitIn};
-ghost use Rattle.inverse_deps.specs.Numbers.{count_of, name_at};
-ghost use Rattle.start_plan.specs.Requests.{is_loaded};
-ghost use Rattle.start_plan.specs.Tellings.{IsFaultOf, IsToldBy, IsTellable};
+ghost use Rattle.inverse_deps.specs.{Edges.{IsUnitIn}, Numbers.{count_of, name_at}};
+ghost use Rattle.start_plan.specs.{Requests.{is_loaded}, Tellings.{IsFaultOf, IsToldBy, IsTellable}};
 
 use crate::requests::{Plan, Refusal};
 use inverse_deps::names_at;

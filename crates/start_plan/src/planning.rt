@@ -4,8 +4,7 @@ ghost use Rattle.index_rows.specs.Numbering.{IsNumbering};
 ghost use Rattle.unit_name.specs.Names.{name_cmp};
 ghost use Rattle.plan_choice.specs.RowRefusals.{refusal_of};
 ghost use Rattle.inverse_deps.specs.Numbers.{count_of, name_at};
-ghost use Rattle.start_plan.specs.Numbered.{IsNumberedPlan, IsNumberedRefusal};
-ghost use Rattle.start_plan.specs.Outcomes.{IsPlanned, IsRefusalOf};
+ghost use Rattle.start_plan.specs.{Numbered.{IsNumberedPlan, IsNumberedRefusal}, Outcomes.{IsPlanned, IsRefusalOf}};
 ghost use Rattle.start_plan.specs.Requests.{AsksTemplate, IsOfGraph};
 
 use crate::cases::case_of;

@@ -1,4 +1,6 @@
 //! What is asked of a plan, and what it answers.
+ghost use Rattle.std.specs.Prelude.{◌≡◌};
+ghost use Rattle.start_plan.specs.declared.requests.Refusal.TheVariants.{Memory};
 
 use plain_values::Items;
 use replica_store::HostName;
@@ -57,9 +59,6 @@ pub enum Refusal {
 }
 
 impl From<AllocError> for Refusal {
-    ghost use Rattle.std.specs.Prelude.{◌≡◌};
-    ghost use Rattle.start_plan.specs.declared.requests.Refusal.TheVariants.{Memory};
-
     ghost from_gives = { λ _ refusal. refusal ≡ Memory };
 
     fn from(_fault: AllocError) -> Refusal {

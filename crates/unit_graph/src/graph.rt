@@ -1,11 +1,9 @@
 //! The graph of a load.
-ghost use Rattle.std.specs.Prelude.{◌≡◌, ◌↔◌, IsTrue, MatchOption};
-ghost use Rattle.std.specs.Option.{option_copied};
+ghost use Rattle.std.specs.{Prelude.{◌≡◌, ◌↔◌, IsTrue, MatchOption}, Option.{option_copied}};
 ghost use Rattle.index_rows.specs.Numbering.{IsNumbering};
 ghost use Rattle.unit_name.specs.Names.{name_cmp};
 ghost use Rattle.parallel_load.specs.Loads.{main_in};
-ghost use Rattle.inverse_deps.specs.Edges.{AreEdges, names_in};
-ghost use Rattle.inverse_deps.specs.Numbers.{count_of, name_at};
+ghost use Rattle.inverse_deps.specs.{Edges.{AreEdges, names_in}, Numbers.{count_of, name_at}};
 ghost use Rattle.unit_graph.specs.Graphs.{HasInverses, IsKnown, IsNumberFor, LeadToUnits, manual_in, status_in};
 
 use inverse_deps::{Edges, number_of};

@@ -1,6 +1,5 @@
 //! What is reached in a graph, and how far it is.
-ghost use Rattle.std.specs.Prelude.{◌≡◌, ◌<◌, IfOk, map};
-ghost use Rattle.std.specs.List.{All};
+ghost use Rattle.std.specs.{Prelude.{◌≡◌, ◌<◌, IfOk, map}, List.{All}};
 ghost use Rattle.inverse_deps.specs.Numbers.{count_of, name_at};
 ghost use Rattle.unit_graph.specs.Graphs.{AreDepths, IsKnown, IsNumberFor, IsReach, pulling};
 

@@ -1,14 +1,9 @@
 //! The steps of several kinds.
-ghost use Rattle.std.specs.Prelude.{◌∷◌, [], ℕ, IfOk};
-ghost use Rattle.std.specs.List.Sorted.{IsStrictlySortedBy};
-ghost use Rattle.std.specs.Ordering.{nat_cmp};
+ghost use Rattle.std.specs.{Prelude.{◌∷◌, [], ℕ, IfOk}, List.Sorted.{IsStrictlySortedBy}, Ordering.{nat_cmp}};
 ghost use Rattle.name_closure.specs.ListedLaws.{Named};
-ghost use Rattle.index_rows.specs.Numbering.{AreNamedSteps};
-ghost use Rattle.index_rows.specs.Rows.{AreRowsOf, row as row_of};
-ghost use Rattle.index_rows.specs.Steps.{AreStepsOf, steps_from};
+ghost use Rattle.index_rows.specs.{Numbering.{AreNamedSteps}, Rows.{AreRowsOf, row as row_of}, Steps.{AreStepsOf, steps_from}};
 ghost use Rattle.inverse_deps.specs.Numbers.{count_of, name_at};
-ghost use Rattle.unit_graph.specs.Graphs.{LeadsBy};
-ghost use Rattle.unit_graph.specs.Tables.{IsTable};
+ghost use Rattle.unit_graph.specs.{Graphs.{LeadsBy}, Tables.{IsTable}};
 
 use crate::graph::Graph;
 use index_rows::Steps;

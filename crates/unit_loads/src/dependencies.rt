@@ -1,10 +1,7 @@
 //! The units that a unit names, by words and by links.
 ghost use Rattle.std.specs.Prelude.{◌≡◌, ◌++◌, ◌∷◌, [], IfOk, OnOk};
-ghost use Rattle.setting_rules.specs.Dependencies.{key_for};
-ghost use Rattle.setting_rules.specs.Settings.{note_on};
-ghost use Rattle.unit_loads.specs.Steps.{with_linked};
-ghost use Rattle.unit_loads.specs.Units.{dependency_notes, linked_by, link_notes, lists_with};
-ghost use Rattle.setting_rules.specs.declared.notes.SettingNoteKind.TheVariants.{BadName};
+ghost use Rattle.setting_rules.specs.{Dependencies.{key_for}, Settings.{note_on}, declared.notes.SettingNoteKind.TheVariants.{BadName}};
+ghost use Rattle.unit_loads.specs.{Steps.{with_linked}, Units.{dependency_notes, linked_by, link_notes, lists_with}};
 
 use crate::links::LinkNames;
 use plain_values::{Bytes, Items};

@@ -1,9 +1,7 @@
 //! The files of a unit.
-ghost use Rattle.std.specs.Prelude.{◌≡◌, ◌++◌, ◌∷◌, [], IfOk, OnOk, map};
-ghost use Rattle.std.specs.Option.{option_copied};
+ghost use Rattle.std.specs.{Prelude.{◌≡◌, ◌++◌, ◌∷◌, [], IfOk, OnOk, map}, Option.{option_copied}};
 ghost use Rattle.section_reader.specs.Sections.{assignments_of, notes_of};
-ghost use Rattle.unit_loads.specs.Steps.{lent_items, lent_notes};
-ghost use Rattle.unit_loads.specs.Units.{bytes_at, file_bytes, notes_at};
+ghost use Rattle.unit_loads.specs.{Steps.{lent_items, lent_notes}, Units.{bytes_at, file_bytes, notes_at}};
 
 use crate::units::UnitNote;
 use plain_values::Items;

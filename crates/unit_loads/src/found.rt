@@ -1,7 +1,6 @@
 //! What stands for a loaded unit beside its names.
 ghost use Rattle.std.specs.Prelude.{◌≡◌, IfOk};
-ghost use Rattle.unit_loads.specs.Steps.{ComesTo, found_unit};
-ghost use Rattle.unit_loads.specs.Units.{HasSettings};
+ghost use Rattle.unit_loads.specs.{Steps.{ComesTo, found_unit}, Units.{HasSettings}};
 
 use crate::files::UnitText;
 use crate::links::LinkNames;

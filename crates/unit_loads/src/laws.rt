@@ -2,8 +2,7 @@
 ghost use Rattle.unit_loads.specs.ElsewhereLaws.{ElsewhereChangesNothing, NearPathsDecide};
 ghost use Rattle.unit_loads.specs.FootprintLaws.{AgreeSeen, FootprintsDecide, StoreFootprintsDecide};
 ghost use Rattle.unit_loads.specs.NameLaws.{ListsHaveWhatIsNamed, ListsRise, OthersNameNone, UnitsListAllKinds};
-ghost use Rattle.unit_loads.specs.TypeLaws.{UnitsHaveOneType};
-ghost use Rattle.unit_loads.specs.UnitLaws.{OneUnit};
+ghost use Rattle.unit_loads.specs.{TypeLaws.{UnitsHaveOneType}, UnitLaws.{OneUnit}};
 
 /// All names of a unit have one type, so one type's folder speaks for it.
 pub fn one_type()

@@ -1,9 +1,7 @@
 //! A unit of a store.
-ghost use Rattle.std.specs.Prelude.{◌≡◌, IfOk};
-ghost use Rattle.std.specs.Option.{option_copied};
+ghost use Rattle.std.specs.{Prelude.{◌≡◌, IfOk}, Option.{option_copied}};
 ghost use Rattle.path_maps.specs.Views.{view_of};
-ghost use Rattle.fragment_choice.specs.Resolutions.{main, resolution};
-ghost use Rattle.fragment_choice.specs.UnitNames.{AreNames};
+ghost use Rattle.fragment_choice.specs.{Resolutions.{main, resolution}, UnitNames.{AreNames}};
 ghost use Rattle.unit_loads.specs.Units.{HasNothing, IsUnit, no_names};
 
 use crate::found::Found;

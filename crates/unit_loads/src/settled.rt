@@ -1,8 +1,6 @@
 //! What the files and the links of a unit come to.
 ghost use Rattle.std.specs.Prelude.{◌≡◌, ◌++◌, IfOk, OnOk, map};
-ghost use Rattle.setting_rules.specs.Rows.{escape_notes, rows_of};
-ghost use Rattle.setting_rules.specs.Settings.{settings_of};
-ghost use Rattle.setting_rules.specs.Switches.{refuses};
+ghost use Rattle.setting_rules.specs.{Rows.{escape_notes, rows_of}, Settings.{settings_of}, Switches.{refuses}};
 ghost use Rattle.unit_loads.specs.Units.{dependency_notes, lists_with, setting_notes};
 
 use crate::dependencies::named_units;

@@ -1,6 +1,5 @@
 //! Unit names.
-ghost use Rattle.std.specs.Prelude.{◌≡◌, ◌↔◌, IsTrue, IfOk, IfErr, OnOk, OnErr, Ok, Some, IsSome, is_some};
-ghost use Rattle.std.specs.List.{list_all};
+ghost use Rattle.std.specs.{Prelude.{◌≡◌, ◌↔◌, IsTrue, IfOk, IfErr, OnOk, OnErr, Ok, Some, IsSome, is_some}, List.{list_all}};
 ghost use Rattle.unit_name.specs.Names.{name_of, IsName, IsFaultOf, is_name_byte, kind, shape, prefix, instance};
 ghost use Rattle.unit_name.specs.Forms.{template_of, with_instance, instance_name, is_instance};
 
@@ -242,8 +241,7 @@ fn instance_bytes(
 }
 
 impl PartialEq for UnitName {
-    ghost use Rattle.std.specs.Ordering.{eq_by_cmp};
-    ghost use Rattle.std.specs.Cmp.{eq_by_cmp_equiv, partial_equiv_from_equiv};
+    ghost use Rattle.std.specs.{Ordering.{eq_by_cmp}, Cmp.{eq_by_cmp_equiv, partial_equiv_from_equiv}};
     ghost use Rattle.std.specs.Cmp.Lexicographic.{nat_list_cmp_total};
     ghost use Rattle.unit_name.specs.Names.{name_cmp};
 
@@ -257,16 +255,13 @@ impl PartialEq for UnitName {
 }
 
 impl Eq for UnitName {
-    ghost use Rattle.std.specs.Cmp.{eq_by_cmp_equiv};
-    ghost use Rattle.std.specs.Cmp.Lexicographic.{nat_list_cmp_total};
+    ghost use Rattle.std.specs.{Cmp.{eq_by_cmp_equiv}, Cmp.Lexicographic.{nat_list_cmp_total}};
 
     ghost laws = { eq_by_cmp_equiv nat_list_cmp_total };
 }
 
 impl PartialOrd for UnitName {
-    ghost use Rattle.std.specs.Ordering.{as_partial_cmp};
-    ghost use Rattle.std.specs.Cmp.{partial_order_from_total};
-    ghost use Rattle.std.specs.Cmp.Lexicographic.{nat_list_cmp_total};
+    ghost use Rattle.std.specs.{Ordering.{as_partial_cmp}, Cmp.{partial_order_from_total}, Cmp.Lexicographic.{nat_list_cmp_total}};
     ghost use Rattle.unit_name.specs.Names.{name_cmp};
 
     ghost partial_cmp = { as_partial_cmp name_cmp };
@@ -279,8 +274,7 @@ impl PartialOrd for UnitName {
 }
 
 impl Ord for UnitName {
-    ghost use Rattle.std.specs.Prelude.{refl};
-    ghost use Rattle.std.specs.Cmp.Lexicographic.{nat_list_cmp_total};
+    ghost use Rattle.std.specs.{Prelude.{refl}, Cmp.Lexicographic.{nat_list_cmp_total}};
     ghost use Rattle.unit_name.specs.Names.{name_cmp};
 
     ghost cmp = { name_cmp };

@@ -1,6 +1,5 @@
 //! The parts of a name, found in its bytes.
-ghost use Rattle.std.specs.Prelude.{◌≡◌, ◌≤◌, ◌-◌, ◌==◌, length, not, position};
-ghost use Rattle.std.specs.List.{position_or_len, suffix_len, after_last};
+ghost use Rattle.std.specs.{Prelude.{◌≡◌, ◌≤◌, ◌-◌, ◌==◌, length, not, position}, List.{position_or_len, suffix_len, after_last}};
 ghost use Rattle.unit_name.specs.Names.{is_at, stem, suffix, prefix, instance, kind, is_name_byte, bad_place};
 
 use crate::kinds::{Kind, kind_of_word};

@@ -1,7 +1,6 @@
 //! Values with the specifiers of a unit's name (systemd.unit(5), "Specifiers").
 ghost use Rattle.std.specs.Prelude.{◌≡◌, ◌++◌, IfOk, IfErr, OnOk, MatchOption, Some, None, IsSome, is_some};
-ghost use Rattle.unit_name.specs.Escapes.{unescape};
-ghost use Rattle.unit_name.specs.Specifiers.{specifier, last_part, expand, IsExpandFault};
+ghost use Rattle.unit_name.specs.{Escapes.{unescape}, Specifiers.{specifier, last_part, expand, IsExpandFault}};
 
 use crate::UnitName;
 use crate::escapes::{push_unescaped, spells_bytes};

@@ -1,4 +1,7 @@
 //! Why there is no load by workers.
+ghost use Rattle.std.specs.Prelude.{◌≡◌};
+ghost use Rattle.worker_rounds.specs.Refusals.{refusal_of};
+
 use name_closure::ClosureFault;
 use thiserror::Error;
 
@@ -16,9 +19,6 @@ pub enum RoundFault {
 }
 
 impl From<ClosureFault> for RoundFault {
-    ghost use Rattle.std.specs.Prelude.{◌≡◌};
-    ghost use Rattle.worker_rounds.specs.Refusals.{refusal_of};
-
     ghost from_gives = { λ fault refusal. refusal ≡ refusal_of fault };
 
     fn from(fault: ClosureFault) -> RoundFault {

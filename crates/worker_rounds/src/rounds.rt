@@ -1,12 +1,8 @@
 //! The rounds of a closure, each loaded by workers.
-ghost use Rattle.std.specs.Prelude.{◌≡◌, ◌↔◌, ◌⊎◌, ◌<◌, ◌≤◌, Err, length, All, IfOk, IfErr};
-ghost use Rattle.std.specs.BTreeMap.{keys};
+ghost use Rattle.std.specs.{Prelude.{◌≡◌, ◌↔◌, ◌⊎◌, ◌<◌, ◌≤◌, Err, length, All, IfOk, IfErr}, BTreeMap.{keys}};
 ghost use Rattle.std.specs.List.Sorted.{IsStrictlySortedBy};
-ghost use Rattle.name_closure.specs.Chains.{IsClosure, HasOver};
-ghost use Rattle.name_closure.specs.ListedLaws.{Listed};
-ghost use Rattle.name_closure.specs.Loading.{LeadsByLoad, AreLoaded, IsRound};
-ghost use Rattle.worker_rounds.specs.Refusals.{OnTooMany};
-ghost use Rattle.worker_rounds.specs.declared.faults.RoundFault.TheVariants.{Workers};
+ghost use Rattle.name_closure.specs.{Chains.{IsClosure, HasOver}, ListedLaws.{Listed}, Loading.{LeadsByLoad, AreLoaded, IsRound}};
+ghost use Rattle.worker_rounds.specs.{Refusals.{OnTooMany}, declared.faults.RoundFault.TheVariants.{Workers}};
 
 use crate::crews::is_crew;
 use crate::faults::RoundFault;

@@ -1,9 +1,7 @@
 //! Shares of a list: elements cut for workers, and what was made of them put together.
-ghost use Rattle.std.specs.Prelude.{◌≡◌, ◌<◌, length, map, min, All, IfOk};
-ghost use Rattle.std.specs.List.{flat_map, range_with_len};
+ghost use Rattle.std.specs.{Prelude.{◌≡◌, ◌<◌, length, map, min, All, IfOk}, List.{flat_map, range_with_len}};
 ghost use Rattle.std.specs.Fork.{AcceptsJobs, GivesJobs};
-ghost use Rattle.worker_rounds.specs.Joined.{IsJoined};
-ghost use Rattle.worker_rounds.specs.Shares.{AreShares, AreWorked};
+ghost use Rattle.worker_rounds.specs.{Joined.{IsJoined}, Shares.{AreShares, AreWorked}};
 
 use std::alloc::{AllocError, Global};
 use std::collections::VecDeque;

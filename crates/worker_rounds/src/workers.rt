@@ -1,8 +1,6 @@
 //! Workers: each loads a share of a round.
-ghost use Rattle.std.specs.Prelude.{◌≡◌, ℕ, ◌<◌, ◌≤◌, ◌*◌, length, take, drop, slice_index_or, All, IfOk};
-ghost use Rattle.std.specs.List.{flat_map};
-ghost use Rattle.std.specs.List.Sorted.{IsStrictlySortedBy};
-ghost use Rattle.std.specs.Map.{keys_of};
+ghost use Rattle.std.specs.{Prelude.{◌≡◌, ℕ, ◌<◌, ◌≤◌, ◌*◌, length, take, drop, slice_index_or, All, IfOk}, List.{flat_map}};
+ghost use Rattle.std.specs.{List.Sorted.{IsStrictlySortedBy}, Map.{keys_of}};
 ghost use Rattle.name_closure.specs.Loading.{AreLoaded, AreLoads, AreOthers, IsRound};
 
 use crate::gates::{Gate, pass_gate};

@@ -1,10 +1,8 @@
 //! Laws of worlds, for all lists of events.
 ghost use Rattle.std.specs.Prelude.{◌≡◌, ◌++◌, ℕ, None, List};
 ghost use Rattle.edit_sums.specs.Sums.{EntryMap, IsHonest, edits_of, join};
-ghost use Rattle.world_law.specs.declared.events.Event.{Event};
-ghost use Rattle.world_law.specs.Cuts.{cut, digest_of};
-ghost use Rattle.world_law.specs.Worlds.{EachStoreIsItsSum, EachStoreIsLeast, SameTookSameStore};
-ghost use Rattle.world_law.specs.Took.{HoldsTheSum, TookAsTold};
+ghost use Rattle.world_law.specs.{declared.events.Event.{Event}, Cuts.{cut, digest_of}};
+ghost use Rattle.world_law.specs.{Worlds.{EachStoreIsItsSum, EachStoreIsLeast, SameTookSameStore}, Took.{HoldsTheSum, TookAsTold}};
 
 /// Whatever happens, each node's store is the sum of what it took, and nodes that took the same
 /// hold the same, at any two moments: if the edits that are put are honest, which is to say that no

@@ -1,8 +1,7 @@
 //! Commands that change one node, or how many workers load.
 ghost use Rattle.std.specs.Prelude.{◌≡◌, ◌<◌, length, vec_len, IfOk, OnOk, OnErr, MatchResult};
 ghost use Rattle.script_commands.specs.declared.commands.Command.TheVariants.{Node, Put, Link, Remove, Workers};
-ghost use Rattle.fleet_script.specs.Does.{Writes};
-ghost use Rattle.fleet_script.specs.Holds.{Executes, Goes, HasNoSite, IsSite, kept_in};
+ghost use Rattle.fleet_script.specs.{Does.{Writes}, Holds.{Executes, Goes, HasNoSite, IsSite, kept_in}};
 
 use crate::states::{Shell, Told};
 use edit_sums::Content;

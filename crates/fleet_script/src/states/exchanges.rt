@@ -4,8 +4,7 @@ ghost use Rattle.edit_sums.specs.Sums.{changed_places};
 ghost use Rattle.replica_store.specs.Replicas.{Replicated};
 ghost use Rattle.world_law.specs.Cuts.{cut, digest_of};
 ghost use Rattle.script_commands.specs.declared.commands.Command.TheVariants.{Merge, Part, Send, Sweep};
-ghost use Rattle.fleet_script.specs.Does.{if_any};
-ghost use Rattle.fleet_script.specs.Holds.{Executes, IsJoinedAt, kept_in};
+ghost use Rattle.fleet_script.specs.{Does.{if_any}, Holds.{Executes, IsJoinedAt, kept_in}};
 
 use crate::states::{Shell, Told};
 use delta_gossip::sweep;

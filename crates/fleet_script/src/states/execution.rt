@@ -1,9 +1,7 @@
 //! Lines are answered.
 ghost use Rattle.std.specs.Prelude.{IfOk, MatchResult};
 ghost use Rattle.script_commands.specs.Commands.{command_of};
-ghost use Rattle.fleet_script.specs.Does.{Does, Refuses};
-ghost use Rattle.fleet_script.specs.Holds.{Continues, Goes, HasRoom, kept_in};
-ghost use Rattle.fleet_script.specs.Scripts.{AnswersLine};
+ghost use Rattle.fleet_script.specs.{Does.{Does, Refuses}, Holds.{Continues, Goes, HasRoom, kept_in}, Scripts.{AnswersLine}};
 
 use crate::states::{Shell, Told};
 use script_answers::{Inquiry, refused};

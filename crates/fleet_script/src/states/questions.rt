@@ -1,8 +1,7 @@
 //! Commands that only read.
 ghost use Rattle.script_commands.specs.declared.commands.Command.TheVariants.{Files, Cat, Same, Crowd};
 ghost use Rattle.script_answers.specs.Tells.{TellsInquiry};
-ghost use Rattle.fleet_script.specs.Does.{Reads};
-ghost use Rattle.fleet_script.specs.Holds.{Executes, Goes, HasRoom, kept_in};
+ghost use Rattle.fleet_script.specs.{Does.{Reads}, Holds.{Executes, Goes, HasRoom, kept_in}};
 
 use crate::states::{Shell, Told};
 use script_answers::{Inquiry, list_files, tell_crowd, tell_files, tell_inquiry};
