@@ -9,7 +9,7 @@ ghost use Rattle.fleet_answers.specs.Answers.{AreKnown, IsSnapshot, IsTold, host
 use crate::questions::{Answer, Question};
 use crate::tellings::{linked_unit, planned, pulled};
 use inverse_deps::{Edges, are_linked_alike, edges};
-use parallel_load::{Gate, LoadFault, Loaded, load_fleet, load_here, refresh};
+use parallel_load::{Gate, LoadFault, Loaded, Refreshed, load_fleet, load_here, refresh_in_place};
 use plain_values::{Items, Shared, TryClone};
 use replica_store::{HostName, Place, Store};
 use std::alloc::{AllocError, Global};
@@ -98,9 +98,14 @@ impl Snapshot {
         ensures over { IfErr result (λ fault. OnTooMany fault (IsTooLarge (view_of store.now self.host) self.extra)) }
         ensures no_workers { IfErr result (λ fault. OnWorkers fault ⊥) }
     {
-        let loaded = refresh(&self.loaded, store, touched)?;
-        let edges = edges_for(self, &loaded);
-        Ok(Snapshot { loaded, edges })
+        let Snapshot { loaded, edges } = self;
+        match refresh_in_place(loaded, store, touched)? {
+            Refreshed::InPlace(loaded) => Ok(Snapshot { loaded, edges }),
+            Refreshed::Anew(before, loaded) => {
+                let edges = edges_for(edges, &before, &loaded);
+                Ok(Snapshot { loaded, edges })
+            }
+        }
     }
 
     /// The same, as if these names had been asked for in place of those that were: edges stay. It takes no memory.
@@ -157,13 +162,17 @@ impl Snapshot {
     }
 }
 
-// The edges of a snapshot that were made, where they are those of another load too.
-fn edges_for(snapshot: Snapshot, loaded: &Loaded) -> Option<Shared<Edges>>
+// The edges of a load that were made, where they are those of another load too.
+fn edges_for(
+    edges: Option<Shared<Edges>>,
+    before: &Loaded,
+    loaded: &Loaded,
+) -> Option<Shared<Edges>>
+    requires edges { IfSome edges (AreEdges before.now) }
     ensures edges { IfSome result (AreEdges loaded.now) }
 {
-    let Snapshot { loaded: old, edges } = snapshot;
     match edges {
-        Some(made) if are_linked_alike(&old, loaded) => Some(made),
+        Some(made) if are_linked_alike(before, loaded) => Some(made),
         _ => None,
     }
 }

@@ -25,7 +25,7 @@ use Rattle.inverse_deps.specs.NamingLaws.{names_along, names_either, names_none,
 use Rattle.inverse_deps.specs.NumberLaws.{load_numbering, unit_number}
 use Rattle.inverse_deps.specs.Numbers.{count_of, name_at}
 use Rattle.inverse_deps.specs.Tables.{AreNumbersBy, HasKind}
-use Rattle.inverse_deps.proofs.Stepping.{rows_named, same_at}
+use Rattle.inverse_deps.specs.RowLaws.{rows_named, same_at}
 
 -- what holds of each that stands in a list
 pub all_among : {X : Type 0} (P : X → Type 0) (xs : List X) → ((x : X) → IsAmong x xs → P x) → All P xs

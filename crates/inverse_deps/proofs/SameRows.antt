@@ -22,36 +22,7 @@ use Rattle.inverse_deps.specs.EdgeLaws.{edges_go_over}
 use Rattle.inverse_deps.specs.Edges.{DependsOn, HaveSameEdges, IsEdge}
 use Rattle.inverse_deps.specs.Numbers.{count_of, name_at}
 use Rattle.inverse_deps.specs.NumberLaws.{key_at_place, keys_length, unit_number}
-use Rattle.inverse_deps.proofs.Stepping.{rows_named}
-
--- what a load has: its names in order, and rows of its dependencies
-pub record HasRows (load : LoadMap) (rows : List (List Dependency)) : Type 0 where
-  pub sorted : IsTrue (is_sorted name_cmp load.names)
-  pub are : AreDependencyRows load.names rows
-
-module _ (rows : List (List Dependency)) (a b : LoadMap) (in_a : HasRows a rows) (in_b : HasRows b rows) (names : keys_of a.names ≡ keys_of b.names) where
-  named_alike : (i : ℕ) → name_at a i ≡ name_at b i
-  named_alike i = ap (λ (ks : List Name). get_or ks i []) names
-
-  counts : count_of a ≡ count_of b
-  counts = sym (keys_length a.names) ∙ ap length names ∙ keys_length b.names
-
-  depends : (dep : DepKind) (u v : Name) → DependsOn a dep u v → DependsOn b dep u v
-  depends dep u v d =
-      let n = unit_number a u (d.unit, d.unit_is) in
-      let r = (rows_named a in_a.sorted dep rows in_a.are n.0 n.1.0).numbered v (subst (λ (w : Name). DependsOn a dep w v) (sym n.1.1) d) in
-      let lt = n.1.0 in
-      let below : n.0 < count_of b = omega (arith, lt, counts) in
-      let there = (rows_named b in_b.sorted dep rows in_b.are n.0 below).named r.0 r.1.0 in
-      subst (λ (w : Name). DependsOn b dep w v) (sym (named_alike n.0) ∙ n.1.1)
-      (subst (λ (w : Name). DependsOn b dep (name_at b n.0) w) (sym (named_alike r.0) ∙ r.1.1) there)
-
-  edge : (dep : DepKind) (u v : Name) → IsEdge a dep u v → IsEdge b dep u v
-  edge dep u v (inl d) = inl (depends dep u v d)
-  edge dep u v (inr d) = inr (depends (inverse dep) v u d)
-
-pub same_edges : (rows : List (List Dependency)) (a b : LoadMap) → HasRows a rows → HasRows b rows → keys_of a.names ≡ keys_of b.names → HaveSameEdges a b
-same_edges rows a b in_a in_b names = edges_go_over a b names (λ dep u v. (edge rows a b in_a in_b names dep u v, edge rows b a in_b in_a (sym names) dep u v))
+use Rattle.inverse_deps.specs.RowLaws.{rows_make_the_edges}
 
 -- ---- lists that a test finds the same
 
@@ -70,9 +41,14 @@ pub linked_alike : (a b : LoadMap) (ns ms : List (Name × NameLoad)) (rows other
 linked_alike a b ns ms rows others e f in_order also_in_order names in_a in_b told =
     let S : List (Name × NameLoad) → Type 0 = λ es. IsTrue (is_sorted name_cmp es) in
     let same : rows ≡ others = same_by (pointwise (dep_eq.eq-value).it) (same_by (dep_eq.eq-value).it one_same) rows others told in
-    same_edges rows a b (record { sorted = subst S e in_order; are = in_a })
-    (record { sorted = subst S f also_in_order; are = subst (λ (rs : List (List Dependency)). AreDependencyRows b.names rs) (sym same) in_b })
-    (ap keys_of (sym e) ∙ names ∙ ap keys_of f)
+    rows_make_the_edges a b (record {
+      names_are = ap keys_of (sym e) ∙ names ∙ ap keys_of f;
+      sorted = subst S e in_order;
+      sorted_too = subst S f also_in_order;
+      table = rows;
+      rows = in_a;
+      rows_too = subst (λ (rs : List (List Dependency)). AreDependencyRows b.names rs) (sym same) in_b;
+    })
 
 -- ---- names that are compared one by one
 

@@ -24,57 +24,8 @@ use Rattle.inverse_deps.specs.Edges.{IsUnitIn, DependsOn, IsEdge}
 use Rattle.inverse_deps.specs.Numbers.{count_of, name_at}
 use Rattle.inverse_deps.specs.NamingLaws.{names_along, names_either, turned_named}
 use Rattle.inverse_deps.specs.NumberLaws.{load_numbering, unit_at, unit_number}
+use Rattle.inverse_deps.specs.RowLaws.{rows_named, same_at}
 use Rattle.inverse_deps.specs.Tables.{AreNumbersBy, HasKind}
-
-module _ (load : LoadMap) (sorted : IsTrue (is_sorted name_cmp load.names)) (dep : DepKind) (number : ℕ) (p : Name × NameLoad) (below : number < count_of load) where
-  part : unit_in load (name_at load number) ≡ unit_part (get_or load.names number p).1
-  part = unit_at load sorted number p below
-
-  there : (one : NameLoad) → (get_or load.names number p).1 ≡ one → (v : Name) → IsListed (lists_in one) dep v → IsUnitIn load v → DependsOn load dep (name_at load number) v
-  there (OfUnit u) e v l w = record { unit = u; unit_is = part ∙ ap unit_part e; listed = l; other = w }
-  there (OfAlias m) e v l w = none_there l.list l.there
-
-  back : (one : NameLoad) → (get_or load.names number p).1 ≡ one → (v : Name) → DependsOn load dep (name_at load number) v → IsListed (lists_in one) dep v
-  back (OfUnit u) e v d =
-      let f : Some d.unit ≡ Some u = sym d.unit_is ∙ part ∙ ap unit_part e in
-      let same : d.unit ≡ u = cc (f) in
-      let Q : LoadedUnit → Type 0 = λ w. IsListed w.deps dep v in
-      subst Q same d.listed
-  back (OfAlias m) e v d = absurd (none-some _ (sym (part ∙ ap unit_part e) ∙ d.unit_is))
-
-  -- a name's dependencies of the kind are what it depends on
-  pub kinds_named : (deps : List Dependency) → AreDependenciesOf load.names (lists_in (get_or load.names number p).1) deps
-      → AreNames (count_of load) (name_at load) (HasKind deps dep) (DependsOn load dep (name_at load number))
-  kinds_named deps a = record { within = within; named = named; numbered = numbered }
-    where
-      within : (i : ℕ) → HasKind deps dep i → i < count_of load
-      within i k =
-          let P : ℕ → Type 0 = λ j. j < count_of load in
-          subst P k.number_is (a.each k.one k.there).below
-
-      named : (i : ℕ) → HasKind deps dep i → DependsOn load dep (name_at load number) (name_at load i)
-      named i k =
-          let d = a.each k.one k.there in
-          let K : DepKind → Type 0 = λ e. IsListed (lists_in (get_or load.names number p).1) e (name_at load k.one.number) in
-          let L : ℕ → Type 0 = λ j. IsListed (lists_in (get_or load.names number p).1) dep (name_at load j) in
-          let U : ℕ → Type 0 = λ j. IsUnitIn load (name_at load j) in
-          there (get_or load.names number p).1 refl (name_at load i) (subst L k.number_is (subst K k.kind_is d.listed)) (subst U k.number_is d.unit)
-
-      numbered : (v : Name) → DependsOn load dep (name_at load number) v → (i : ℕ) × (HasKind deps dep i × (name_at load i ≡ v))
-      numbered v d =
-          let r = a.all dep v (back (get_or load.names number p).1 refl v d) in
-          (r.one.number, (record { one = r.one; there = r.there; kind_is = r.kind_is; number_is = refl }, r.named))
-
--- what stands at a place, whatever stands for none
-pub same_at : {X : Type 0} (xs : List X) (i : ℕ) (d e : X) → i < length xs → get_or xs i d ≡ get_or xs i e
-same_at [] i d e l = absurd (omega arith)
-same_at (x ∷ xs) zero d e l = refl
-same_at (x ∷ xs) (suc i) d e l = same_at xs i d e (omega arith)
-
--- the same for the rows of a load
-pub rows_named : (load : LoadMap) → IsTrue (is_sorted name_cmp load.names) → (dep : DepKind) (rows : List (List Dependency)) → AreDependencyRows load.names rows
-    → AreNamedSteps (count_of load) (name_at load) (λ i j. HasKind (get_or rows i []) dep j) (DependsOn load dep)
-rows_named load sorted dep rows a number l = let p : Name × NameLoad = ([], OfAlias []) in kinds_named load sorted dep number p l (get_or rows number []) (a.rows number p l)
 
 -- the numbers of a row's dependencies are the numbers of what its name depends on
 pub row_named : (load : LoadMap) → IsTrue (is_sorted name_cmp load.names) → (dep : DepKind) (rows : List (List Dependency)) → AreDependencyRows load.names rows → (number : ℕ) → number < length rows

@@ -6,5 +6,6 @@ pub mod Links
 pub mod MakingLaws
 pub mod NamingLaws
 pub mod NumberLaws
+pub mod RowLaws
 pub mod Tables
 pub mod Numbers

@@ -26,7 +26,6 @@ use Rattle.parallel_load.specs.declared.loaded.Dependency.{Dependency}
 use Rattle.parallel_load.specs.declared.loaded.NameLoad.{NameLoad}
 use Rattle.parallel_load.specs.declared.loaded.NameLoad.TheVariants.{Unit as OfUnit, Alias as OfAlias}
 use Rattle.parallel_load.specs.declared.mains.Settled.{Settled}
-use Rattle.parallel_load.specs.declared.patching.LoadsAgain.{LoadsAgain}
 use Rattle.parallel_load.specs.Alone.{IsLoadAlone}
 use Rattle.parallel_load.specs.Found.{IsFound}
 use Rattle.parallel_load.specs.KeptLoadLaws.{KeepsItsNames, same_names_keep_the_universe, words_keep_visible_names}
@@ -35,6 +34,7 @@ use Rattle.parallel_load.specs.LoadRows.{AreLoadsAgain, AreRows, IsKept, IsLoadA
 use Rattle.parallel_load.specs.Loads.{AreNamedAlone, IsLoad, LoadMap, with_lists}
 use Rattle.parallel_load.specs.Numbering.{AreNumbered, IsMainNumber, main_name}
 use Rattle.parallel_load.specs.OwnWords.{AreOwnWords}
+use Rattle.parallel_load.specs.Patched.{with_loads}
 use Rattle.parallel_load.specs.Refreshes.{IsBefore, IsMissed}
 use Rattle.parallel_load.specs.Settled.{AreSettled, list_numbers, load_numbers, name_lists, name_loads, name_numbers, settled_name}
 use Rattle.parallel_load.specs.Touched.{HasParts, KeepsWords}
@@ -215,13 +215,13 @@ again_as store h k folders ms ns olds names lists named news e f g d a =
     let S : List (List DependencyList) → Type 0 = λ x. AreLoadsAgain (view_of store h) folders ms olds x news in
     subst P e (subst Q f (subst R g (subst S d a)))
 
--- the same of what is there
-pub again_there : (store : EntryMap) (h k : Looker) (folders : List (List ℕ)) (ms ns : List (Name × ℕ)) (olds names : List (Name × NameLoad)) (lists named : List (List DependencyList))
-    (o : Option LoadsAgain) (x : LoadsAgain) → h ≡ k → ms ≡ ns → olds ≡ names → lists ≡ named → o ≡ Some x → IfSome o (λ all. AreLoadsAgain (view_of store h) folders ms olds lists all.names.items)
-    → AreLoadsAgain (view_of store k) folders ns names named x.names.items
-again_there store h k folders ms ns olds names lists named o x e f g d is a =
-    let P : Option LoadsAgain → Type 0 = λ one. IfSome one (λ all. AreLoadsAgain (view_of store h) folders ms olds lists all.names.items) in
-    again_as store h k folders ms ns olds names lists named x.names.items e f g d (subst P is a)
+-- the same of names with some units in place of others
+pub again_for : (store : EntryMap) (h k : Looker) (folders : List (List ℕ)) (ms ns : List (Name × ℕ)) (olds names : List (Name × NameLoad)) (lists named : List (List DependencyList))
+    (units : List (ℕ × NameLoad)) → h ≡ k → ms ≡ ns → olds ≡ names → lists ≡ named → AreLoadsAgain (view_of store h) folders ms olds lists (with_loads olds units)
+    → AreLoadsAgain (view_of store k) folders ns names named (with_loads names units)
+again_for store h k folders ms ns olds names lists named units e f g d a =
+    let P : List (Name × NameLoad) → Type 0 = λ x. AreLoadsAgain (view_of store k) folders ns names named (with_loads x units) in
+    subst P g (again_as store h k folders ms ns olds names lists named (with_loads olds units) e f g d a)
 
 -- rows with what their names stand for now
 abbrev rows_with : List Settled → List (Name × NameLoad) → List Settled

@@ -9,3 +9,4 @@ mod Rows
 mod Settling
 mod Staying
 mod Steps
+mod UnitsPut

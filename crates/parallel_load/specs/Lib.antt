@@ -17,6 +17,7 @@ pub mod Numbers
 pub mod OwnWordLaws
 pub mod OwnWords
 pub mod PairLaws
+pub mod Patched
 pub mod Refreshes
 pub mod Refusals
 pub mod SameLaws

@@ -10,7 +10,7 @@ use crate::loaded::{Dependency, KeptRows, Loaded, NameLoad};
 use crate::loader::add_names;
 use crate::mains::{Mains, Settled};
 use crate::words::KeptWords;
-use plain_values::{Items, Shared};
+use plain_values::{Items, Shared, TryClone};
 use replica_store::HostName;
 use std::alloc::{AllocError, Global};
 use std::collections::BTreeMap;
@@ -150,8 +150,8 @@ fn load_of(
     load_with(alloc, host, extra, names, kept, fresh)
 }
 
-/// The load of these names, which are in byte order, with what is kept beside them. It fails for want of memory alone.
-pub(crate) fn load_with(
+// The load of these names, which are in byte order, with what is kept beside them.
+fn load_with(
     alloc: Global,
     host: Option<&HostName>,
     extra: &[UnitName],
@@ -171,6 +171,36 @@ pub(crate) fn load_with(
     add_names(&mut asked, extra)?;
     let extra = Items::from_vec(asked);
     Ok(Loaded::new(host, extra, names, kept, fresh))
+}
+
+/// The same load again. Its names are copied, and all that stands for them is shared. It fails for want of memory alone.
+pub(crate) fn copy_of_load(loaded: &Loaded) -> Result<Loaded, AllocError>
+    ensures copy { IfOk result (λ copy. copy ≡ loaded.now) }
+{
+    let alloc = loaded.allocator();
+    let names = copies_of(alloc, loaded.names())?;
+    load_with(
+        alloc,
+        loaded.host(),
+        loaded.extra(),
+        names,
+        loaded.kept()?,
+        loaded.fresh(),
+    )
+}
+
+// Copies of names, with what stands for them, which is shared.
+fn copies_of(
+    alloc: Global,
+    names: &[(UnitName, NameLoad)],
+) -> Result<Vec<(UnitName, NameLoad)>, AllocError>
+    ensures copies { IfOk result (λ copies. copies.items ≡ names.now) }
+{
+    let mut copies = Vec::with_capacity(alloc, names.len())?;
+    for (name, load) in names {
+        copies.push((name.try_clone()?, load.try_clone()?))?;
+    }
+    Ok(copies)
 }
 
 // The name of a host, if there is one. It shares its bytes.

@@ -32,6 +32,6 @@ pub use footprints::footprint;
 pub use laws::{asked_laws, kept_load_laws, load_laws, one_load, touched_laws};
 pub use loaded::{Dependency, Loaded, NameLoad};
 pub use loads::{MOST_NAMES, load_fleet, load_here};
-pub use refreshing::refresh;
+pub use refreshing::{Refreshed, refresh, refresh_in_place};
 pub use unit_loads::{Status, Unit, UnitNote, load_one};
 pub use worker_rounds::{Gate, MOST_WORKERS, TURNS, is_crew};

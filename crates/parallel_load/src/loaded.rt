@@ -1,8 +1,8 @@
 //! A load: what all names stand for.
-ghost use Rattle.std.specs.{Prelude.{◌≡◌, IfOk, IsTrue, length, map}, FinMap.{is_sorted}, Option.{option_copied}};
+ghost use Rattle.std.specs.{Prelude.{◌≡◌, ◌<◌, IfOk, IsTrue, length, map}, FinMap.{is_sorted}, List.{All}, Option.{option_copied}};
 ghost use Rattle.unit_name.specs.Names.{name_cmp};
 ghost use Rattle.parallel_load.specs.{AskedLaws.{asked_for}, Loads.{load_at, main_in, unit_in, units_in}, Numbers.{AreDependencyRows}};
-ghost use Rattle.parallel_load.specs.LoadRows.{IsKept};
+ghost use Rattle.parallel_load.specs.{LoadRows.{IsKept}, Patched.{FitIn, patched_load, put_load, with_loads}};
 
 use crate::kept::NamedLists;
 use crate::mains::Mains;
@@ -68,6 +68,13 @@ pub(crate) struct KeptRows {
     pub words: Shared<KeptWords>,
 }
 
+/// Units of a load that are read again, by the numbers of their names, and what the load keeps beside its names, which stays.
+#[derive(Drop)]
+pub(crate) struct Patches {
+    pub kept: Shared<KeptRows>,
+    pub units: Vec<(usize, NameLoad)>,
+}
+
 impl Model for Loaded {
     ghost use Rattle.parallel_load.specs.{Loads.{LoadMap, coded_load}, LoadRows.{IsKept}};
 
@@ -131,6 +138,20 @@ impl Loaded {
         ensures load { result ≡ asked_for extra self }
     {
         Loaded { extra, ..self }
+    }
+
+    /// The load with these units in place of those that it had, which alone were read. It takes no memory.
+    pub(crate) fn patched(self, patches: Patches) -> Loaded
+        requires fit { FitIn self patches }
+        ensures load { result ≡ patched_load self patches.units.items }
+    {
+        let Patches { kept, units } = patches;
+        let Loaded {
+            host, extra, names, ..
+        } = self;
+        let fresh = units.len() as u64;
+        let names = with_units(names, units);
+        Loaded::new(host, extra, names, kept, fresh)
     }
 
     /// All names of the universe in byte order, each with what it stands for. It takes no memory.
@@ -215,4 +236,27 @@ impl Loaded {
             Err(_) => None,
         }
     }
+}
+
+// Names with these units in place of those that stood for names by numbers.
+fn with_units(
+    names: Vec<(UnitName, NameLoad)>,
+    units: Vec<(usize, NameLoad)>,
+) -> Vec<(UnitName, NameLoad)>
+    requires within { All (λ u. u.0 < length names.items) units.items }
+    ensures names { result.items ≡ with_loads names.items units.items }
+{
+    let mut names = names;
+    for (number, unit) in units {
+        put_unit(&mut names, number, unit);
+    }
+    names
+}
+
+// Has a name stand for this.
+fn put_unit(names: &mut Vec<(UnitName, NameLoad)>, number: usize, unit: NameLoad)
+    requires within { number < length names.old.items }
+    ensures put { names.new.items ≡ put_load names.old.items number unit }
+{
+    names[number].1 = unit;
 }

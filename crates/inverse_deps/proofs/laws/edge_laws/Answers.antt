@@ -1,5 +1,6 @@
 use Rattle.inverse_deps.specs.AskedLaws.{asking_makes_no_edges}
 use Rattle.inverse_deps.specs.EdgeLaws.{dependencies_are_edges, edges_come_from_names, lists_are_of_all_edges, one_list_by_kind, one_list_of_edges}
+use Rattle.inverse_deps.specs.RowLaws.{rows_make_the_edges}
 use Rattle.inverse_deps.proofs.laws.edge_laws.Goals as goal
 
 pub returns-clause-one : goal.returns-clause-one
@@ -19,3 +20,6 @@ returns-clause-names c = edges_come_from_names
 
 pub returns-clause-asked : goal.returns-clause-asked
 returns-clause-asked c = asking_makes_no_edges
+
+pub returns-clause-rows : goal.returns-clause-rows
+returns-clause-rows c = rows_make_the_edges

@@ -7,7 +7,7 @@ use Rattle.parallel_load.specs.OwnWords.{AreOwnWords}
 use Rattle.parallel_load.specs.Settled.{IsSettledLoad}
 use Rattle.parallel_load.proofs.Settling.{load_made, not_too_large, whole_found}
 use Rattle.parallel_load.proofs.Staying.{words_stay}
-use Rattle.parallel_load.proofs.refreshing.refresh.Goals as goal
+use Rattle.parallel_load.proofs.refreshing.refreshed_anew.Goals as goal
 
 pub settled-requires-clause-whole : goal.settled-requires-clause-whole
 settled-requires-clause-whole c = whole_found (view_of c.args.store.now c.args.loaded.now.host) c.args.loaded.now.extra c.in_ok-found.found.entries c.in_ok-found.ensures.found

@@ -1,20 +1,21 @@
-use Rattle.std.proofs.Common.{inr, ap, sym, ◌∙◌}
+use Rattle.std.proofs.Common.{ap, sym, ◌∙◌}
 use Rattle.parallel_load.specs.declared.mains.Settled.{Settled}
 use Rattle.parallel_load.specs.Settled.{load_settled}
 use Rattle.parallel_load.proofs.Keeping.{lists_same}
-use Rattle.parallel_load.proofs.patching.load_again.Goals as goal
+use Rattle.parallel_load.proofs.UnitsPut.{not_false}
+use Rattle.parallel_load.proofs.patching.unit_again.Goals as goal
 
 pub read_unit-requires-clause-main : goal.read_unit-requires-clause-main
 read_unit-requires-clause-main c = (c.requires.own c.in-Unit.was c.in-Unit.is).0
 
-pub returns-in_ok-settled : goal.returns-in_ok-settled
-returns-in_ok-settled c = record {
-  again = inr (record {
+pub returns : goal.returns
+returns c = record {
+  again = record {
     was = c.in-Unit.was;
     load_is = c.in-Unit.is;
     unit = c.in_ok-unit.unit;
     is_unit = c.in_ok-unit.ensures.unit;
-    names_stay = sym c.as_slice.ensures.elements ∙ lists_same c.as_slice.result.now c.as_slice-2.result.now (sym c.eq.ensures ∙ c.if-eq.true) ∙ c.as_slice-2.ensures.lists;
+    names_stay = sym c.as_slice.ensures.elements ∙ lists_same c.as_slice.result.now c.as_slice-2.result.now (not_false _ (sym c.ne.ensures ∙ c.if-ne.false)) ∙ c.as_slice-2.ensures.lists;
     is = ap (λ (r : Settled). r.load) c.in_ok-settled.ensures.one ∙ ap (load_settled c.args.mains.now) c.in_ok-kept.ensures.kept;
-  });
+  };
 }

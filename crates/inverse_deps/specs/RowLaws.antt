@@ -1,0 +1,115 @@
+-- Loads with the same names and the same dependencies by numbers have the same edges.
+-- Source: this project's own.
+use Rattle.std.proofs.Common.{◌≡◌, ◌<◌, ◌⊎◌, ℕ, zero, suc, List, [], ◌∷◌, length, get_or, inl, inr, IsTrue, Some, refl, ap, sym, subst, ◌∙◌, arith}
+use Rattle.std.specs.FinMap.Entries.{is_sorted}
+use Rattle.std.proofs.lemmas.Option.{none-some}
+use Rattle.list_laws.specs.Members.{none_there}
+use Rattle.index_rows.specs.Numbering.{AreNames, AreNamedSteps}
+use Rattle.unit_name.specs.Names.{Name, name_cmp}
+use Rattle.setting_rules.specs.declared.kinds.DepKind.{DepKind}
+use Rattle.setting_rules.specs.Kinds.{inverse}
+use Rattle.unit_loads.specs.declared.units.Unit.{Unit as LoadedUnit}
+use Rattle.unit_loads.specs.NamedUnits.{IsListed}
+use Rattle.parallel_load.specs.declared.loaded.Dependency.{Dependency}
+use Rattle.parallel_load.specs.declared.loaded.NameLoad.{NameLoad}
+use Rattle.parallel_load.specs.declared.loaded.NameLoad.TheVariants.{Unit as OfUnit, Alias as OfAlias}
+use Rattle.parallel_load.specs.Loads.{LoadMap, lists_in, unit_in, unit_part}
+use Rattle.parallel_load.specs.Numbers.{AreDependenciesOf, AreDependencyRows}
+use Rattle.parallel_load.specs.Patched.{HaveSameRows}
+use Rattle.inverse_deps.specs.EdgeLaws.{edges_go_over}
+use Rattle.inverse_deps.specs.Edges.{DependsOn, HaveSameEdges, IsEdge, IsUnitIn}
+use Rattle.inverse_deps.specs.Numbers.{count_of, name_at}
+use Rattle.inverse_deps.specs.NumberLaws.{keys_length, unit_at, unit_number}
+use Rattle.inverse_deps.specs.Tables.{HasKind}
+
+-- loads with the same rows have the same edges
+abbrev pub RowsMakeTheEdges : Type 0
+RowsMakeTheEdges = (a b : LoadMap) → HaveSameRows a b → HaveSameEdges a b
+
+-- ---- the dependencies of a name
+
+module _ (load : LoadMap) (sorted : IsTrue (is_sorted name_cmp load.names)) (dep : DepKind) (number : ℕ) (p : Name × NameLoad) (below : number < count_of load) where
+  part : unit_in load (name_at load number) ≡ unit_part (get_or load.names number p).1
+  part = unit_at load sorted number p below
+
+  there : (one : NameLoad) → (get_or load.names number p).1 ≡ one → (v : Name) → IsListed (lists_in one) dep v → IsUnitIn load v → DependsOn load dep (name_at load number) v
+  there (OfUnit u) e v l w = record { unit = u; unit_is = part ∙ ap unit_part e; listed = l; other = w }
+  there (OfAlias m) e v l w = none_there l.list l.there
+
+  back : (one : NameLoad) → (get_or load.names number p).1 ≡ one → (v : Name) → DependsOn load dep (name_at load number) v → IsListed (lists_in one) dep v
+  back (OfUnit u) e v d =
+      let f : Some d.unit ≡ Some u = sym d.unit_is ∙ part ∙ ap unit_part e in
+      let same : d.unit ≡ u = cc (f) in
+      let Q : LoadedUnit → Type 0 = λ w. IsListed w.deps dep v in
+      subst Q same d.listed
+  back (OfAlias m) e v d = absurd (none-some _ (sym (part ∙ ap unit_part e) ∙ d.unit_is))
+
+  -- a name's dependencies of the kind are what it depends on
+  pub kinds_named : (deps : List Dependency) → AreDependenciesOf load.names (lists_in (get_or load.names number p).1) deps
+      → AreNames (count_of load) (name_at load) (HasKind deps dep) (DependsOn load dep (name_at load number))
+  kinds_named deps a = record { within = within; named = named; numbered = numbered }
+    where
+      within : (i : ℕ) → HasKind deps dep i → i < count_of load
+      within i k =
+          let P : ℕ → Type 0 = λ j. j < count_of load in
+          subst P k.number_is (a.each k.one k.there).below
+
+      named : (i : ℕ) → HasKind deps dep i → DependsOn load dep (name_at load number) (name_at load i)
+      named i k =
+          let d = a.each k.one k.there in
+          let K : DepKind → Type 0 = λ e. IsListed (lists_in (get_or load.names number p).1) e (name_at load k.one.number) in
+          let L : ℕ → Type 0 = λ j. IsListed (lists_in (get_or load.names number p).1) dep (name_at load j) in
+          let U : ℕ → Type 0 = λ j. IsUnitIn load (name_at load j) in
+          there (get_or load.names number p).1 refl (name_at load i) (subst L k.number_is (subst K k.kind_is d.listed)) (subst U k.number_is d.unit)
+
+      numbered : (v : Name) → DependsOn load dep (name_at load number) v → (i : ℕ) × (HasKind deps dep i × (name_at load i ≡ v))
+      numbered v d =
+          let r = a.all dep v (back (get_or load.names number p).1 refl v d) in
+          (r.one.number, (record { one = r.one; there = r.there; kind_is = r.kind_is; number_is = refl }, r.named))
+
+-- what stands at a place, whatever stands for none
+pub same_at : {X : Type 0} (xs : List X) (i : ℕ) (d e : X) → i < length xs → get_or xs i d ≡ get_or xs i e
+same_at [] i d e l = absurd (omega arith)
+same_at (x ∷ xs) zero d e l = refl
+same_at (x ∷ xs) (suc i) d e l = same_at xs i d e (omega arith)
+
+-- the same for the rows of a load
+pub rows_named : (load : LoadMap) → IsTrue (is_sorted name_cmp load.names) → (dep : DepKind) (rows : List (List Dependency)) → AreDependencyRows load.names rows
+    → AreNamedSteps (count_of load) (name_at load) (λ i j. HasKind (get_or rows i []) dep j) (DependsOn load dep)
+rows_named load sorted dep rows a number l = let p : Name × NameLoad = ([], OfAlias []) in kinds_named load sorted dep number p l (get_or rows number []) (a.rows number p l)
+
+-- ---- edges
+
+module _ (a b : LoadMap) (same : HaveSameRows a b) where
+  named_alike : (i : ℕ) → name_at a i ≡ name_at b i
+  named_alike i = ap (λ (ks : List Name). get_or ks i []) same.names_are
+
+  counts : count_of a ≡ count_of b
+  counts = sym (keys_length a.names) ∙ ap length same.names_are ∙ keys_length b.names
+
+  depends : (dep : DepKind) (u v : Name) → DependsOn a dep u v → DependsOn b dep u v
+  depends dep u v d =
+      let n = unit_number a u (d.unit, d.unit_is) in
+      let r = (rows_named a same.sorted dep same.table same.rows n.0 n.1.0).numbered v (subst (λ (w : Name). DependsOn a dep w v) (sym n.1.1) d) in
+      let lt = n.1.0 in
+      let below : n.0 < count_of b = omega (arith, lt, counts) in
+      let there = (rows_named b same.sorted_too dep same.table same.rows_too n.0 below).named r.0 r.1.0 in
+      subst (λ (w : Name). DependsOn b dep w v) (sym (named_alike n.0) ∙ n.1.1)
+      (subst (λ (w : Name). DependsOn b dep (name_at b n.0) w) (sym (named_alike r.0) ∙ r.1.1) there)
+
+  edge : (dep : DepKind) (u v : Name) → IsEdge a dep u v → IsEdge b dep u v
+  edge dep u v (inl d) = inl (depends dep u v d)
+  edge dep u v (inr d) = inr (depends (inverse dep) v u d)
+
+turned_round : (a b : LoadMap) → HaveSameRows a b → HaveSameRows b a
+turned_round a b same = record {
+  names_are = sym same.names_are;
+  sorted = same.sorted_too;
+  sorted_too = same.sorted;
+  table = same.table;
+  rows = same.rows_too;
+  rows_too = same.rows;
+}
+
+pub rows_make_the_edges : RowsMakeTheEdges
+rows_make_the_edges a b same = edges_go_over a b same.names_are (λ dep u v. (edge a b same dep u v, edge b a (turned_round a b same) dep u v))
