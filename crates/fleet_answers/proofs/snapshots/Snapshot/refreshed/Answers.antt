@@ -1,0 +1,16 @@
+use Rattle.std.proofs.Common.{subst}
+use Rattle.inverse_deps.specs.Edges.{AreEdges}
+use Rattle.inverse_deps.specs.RowLaws.{rows_make_the_edges}
+use Rattle.path_maps.specs.Views.{view_of}
+use Rattle.parallel_load.specs.declared.refreshing.Refreshed.{Refreshed}
+use Rattle.parallel_load.specs.Loads.{LoadMap}
+use Rattle.parallel_load.specs.Patched.{IsRefreshed}
+use Rattle.fleet_answers.proofs.Held.{if_some}
+use Rattle.fleet_answers.proofs.snapshots.Snapshot.refreshed.Goals as goal
+
+pub invariant_of-result : goal.invariant_of-result
+invariant_of-result c =
+    let old : LoadMap = c.self.inside.loaded in
+    let P : Refreshed → Type 0 = IsRefreshed (view_of c.args.store.now old.host) old in
+    if_some (AreEdges old) (AreEdges c.in-InPlace.loaded) (λ edges h. (rows_make_the_edges old c.in-InPlace.loaded (subst P c.in-InPlace.is c.in_ok-loaded.ensures.load).1 edges).0 h)
+    c.self.inside.edges c.self.invariant
