@@ -7,7 +7,7 @@ use Rattle.std.specs.List.Sorted.{IsStrictlySortedBy}
 use Rattle.std.specs.Ordering.{is_eq}
 use Rattle.std.specs.declared.cmp.Ordering.{Ordering}
 use Rattle.std.specs.declared.cmp.Ordering.TheVariants.{Equal}
-use Rattle.std.proofs.Common.{cond, inl, inr, refl, sym, ap, ◌∙◌, subst}
+use Rattle.std.proofs.Common.{◌≤◌, length, arith, cond, inl, inr, refl, sym, ap, ◌∙◌, subst}
 use Rattle.std.proofs.lemmas.Bool.{true≢false}
 use Rattle.std.proofs.lemmas.Cmp.{tied_itself}
 use Rattle.std.proofs.lemmas.List.Kept.{IsStrictlySortedBy-dedup, Contains-dedup, Contains-from_dedup}
@@ -15,6 +15,13 @@ use Rattle.std.proofs.lemmas.List.Sorted.{Contains-permutation, IsPermutation-sy
 use Rattle.list_laws.specs.Members.{IsAmong, among_from_contains, contains_from_among}
 use Rattle.list_laws.specs.Orderings.{is_equal}
 use Rattle.name_closure.specs.Growth.{AreNew}
+
+-- one node or none rises
+pub few_rise : {N : Type 0} (order : N → N → Ordering) (nodes : List N) → length nodes ≤ 1 → IsStrictlySortedBy order nodes
+unfolding IsStrictlySortedBy
+few_rise order [] few = tt
+few_rise order (n ∷ []) few = (tt, tt)
+few_rise order (n ∷ m ∷ nodes) few = absurd (omega arith)
 
 module _ {N : Type 0} (order : N → N → Ordering) (total : IsTotalOrder order) (exact : (x y : N) → order x y ≡ Equal → x ≡ y) where
   -- a test by comparisons finds the members, and nothing else

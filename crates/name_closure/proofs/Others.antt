@@ -1,5 +1,5 @@
 -- The nodes that a round names and that aren't its own.
-use Rattle.std.specs.Prelude.{◌≡◌, ◌⊎◌, ◌<◌, ◌+◌, ℕ, zero, suc, List, [], ◌∷◌, ◌++◌, length}
+use Rattle.std.specs.Prelude.{◌≡◌, ◌⊎◌, ◌↔◌, ◌<◌, ◌+◌, ℕ, zero, suc, List, [], ◌∷◌, ◌++◌, length}
 use Rattle.std.specs.List.{flat_map}
 use Rattle.std.specs.Map.{keys_of}
 use Rattle.std.proofs.Common.{arith, inl, inr, sym, ap, subst, ◌∙◌, get_or, take, append-nil}
@@ -81,3 +81,18 @@ module _ {N : Type 0} (own : List N) where
     origin = λ n h. o.origin n ((same n).0 h);
     took = λ n h. elim (o.took n h) [ inl a ↦ inl a | inr b ↦ inr ((same n).1 b) ];
   }
+
+-- the same of all with others in place of some of them, which have the same members
+pub others_of_members : {N : Type 0} (own all more once some : List N) → ((n : N) → IsAmong n once ↔ IsAmong n more) → AreOthers own (all ++ once) some → AreOthers own (all ++ more) some
+others_of_members {N} own all more once some same o = record {
+  origin = λ n h. from n (IsAmong-append_cases n all once (o.origin n h));
+  took = λ n h. o.took n (to n (IsAmong-append_cases n all more h));
+}
+  where
+    from : (n : N) → IsAmong n all ⊎ IsAmong n once → IsAmong n (all ++ more)
+    from n (inl a) = IsAmong-append_left n all more a
+    from n (inr b) = IsAmong-append_right n all more ((same n).0 b)
+
+    to : (n : N) → IsAmong n all ⊎ IsAmong n more → IsAmong n (all ++ once)
+    to n (inl a) = IsAmong-append_left n all once a
+    to n (inr b) = IsAmong-append_right n all once ((same n).1 b)

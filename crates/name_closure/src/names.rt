@@ -45,7 +45,7 @@ pub fn others_named<K: Key, L: Loads<K>>(
     let mut names = Vec::new(alloc);
     for (_, one) in part {
         let more = loader.names(alloc, one)?;
-        add_others(pairs, &mut names, more)?;
+        add_others(pairs, &mut names, each_once(more))?;
     }
     Ok(each_once(names))
 }
@@ -86,7 +86,9 @@ pub(crate) fn each_once<K: Key>(nodes: Vec<K>) -> Vec<K>
     ensures members { (n : K) → IsAmong n result.items ↔ IsAmong n nodes.items }
 {
     let mut once = nodes;
-    once.sort_unstable();
-    once.dedup();
+    if once.len() > 1 {
+        once.sort_unstable();
+        once.dedup();
+    }
     once
 }

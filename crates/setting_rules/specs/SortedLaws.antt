@@ -1,5 +1,5 @@
 -- Names that are sorted and freed of repeats.
-use Rattle.std.proofs.Common.{◌≡◌, List, subst, sym, ◌∙◌, refl}
+use Rattle.std.proofs.Common.{◌≡◌, ◌<◌, List, [], ◌∷◌, length, arith, subst, sym, ◌∙◌, refl}
 use Rattle.std.specs.Prelude.{IsPermutation, IsSorted}
 use Rattle.std.specs.List.{dedup, list_any}
 use Rattle.std.specs.List.Sorted.{IsStrictlySortedBy}
@@ -15,6 +15,23 @@ use Rattle.unit_name.specs.Names.{Name, name_cmp}
 use Rattle.unit_name.specs.NameLaws.{name_cmp-IsAntisymmetric}
 use Rattle.setting_rules.specs.Dependencies.{in_byte_order}
 use Rattle.setting_rules.specs.OrderLaws.{IsAmong-from_any, any-from_IsAmong, any-in_byte_order, names_rise}
+
+-- names that rise are in byte order
+rising_in_order : (names : List Name) → IsStrictlySortedBy name_cmp names → in_byte_order names ≡ names
+rising_in_order names rising =
+    one_rising_list name_cmp nat_list_cmp_total (in_byte_order names) names (names_rise names) rising
+    (λ z. (λ h. IsAmong-from_any z names (sym (any-in_byte_order z names) ∙ any-from_IsAmong z (in_byte_order names) h),
+    λ h. IsAmong-from_any z (in_byte_order names) (any-in_byte_order z names ∙ any-from_IsAmong z names h)))
+
+few_rise : (names : List Name) → length names < 2 → IsStrictlySortedBy name_cmp names
+unfolding IsStrictlySortedBy
+few_rise [] few = tt
+few_rise (n ∷ []) few = (tt, tt)
+few_rise (n ∷ m ∷ names) few = absurd (omega arith)
+
+-- one name is, and none
+pub few_in_order : (names : List Name) → length names < 2 → in_byte_order names ≡ names
+few_in_order names few = rising_in_order names (few_rise names few)
 
 pub sorted_is : (names s d : List Name) → IsPermutation names s → IsSorted name_cmp s → d ≡ dedup (eq_by_cmp name_cmp) s → d ≡ in_byte_order names
 sorted_is names s d permutation sorted is =

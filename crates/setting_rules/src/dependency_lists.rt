@@ -146,6 +146,9 @@ impl Dependencies {
 pub fn in_byte_order(mut names: Vec<UnitName>) -> Items<UnitName>
     ensures names { result ≡ in_byte_order names.items }
 {
+    if names.len() < 2 {
+        return Items::from_vec(names);
+    }
     names.sort_unstable();
     names.dedup();
     Items::from_vec(names)

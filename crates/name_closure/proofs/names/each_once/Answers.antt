@@ -1,15 +1,16 @@
+use Rattle.std.proofs.Common.{arith}
 use Rattle.std.proofs.lemmas.List.Filters.{dedup_is}
-use Rattle.name_closure.proofs.News.{once_rises, once_back, once_there}
+use Rattle.name_closure.proofs.News.{few_rise, once_rises, once_back, once_there}
 use Rattle.name_closure.proofs.names.each_once.Goals as goal
 
-pub returns-clause-rising : goal.returns-clause-rising
-returns-clause-rising g c =
+pub returns-then-len-gt1-clause-rising : goal.returns-then-len-gt1-clause-rising
+returns-then-len-gt1-clause-rising g c =
     once_rises g.K.Ord.cmp g.met.K.Ord.total g.met.K.Key.exact g.K.PartialEq.eq g.met.K.Eq.laws g.met.K.Ord.matches_eq c.args.nodes.items
     c.sort_unstable.new.self.items c.dedup.new.self.items c.sort_unstable.ensures.permutation c.sort_unstable.ensures.sorted
     (dedup_is g.K.PartialEq.eq _ _ c.dedup.ensures.filtered)
 
-pub returns-clause-members : goal.returns-clause-members
-returns-clause-members g c = λ n. (
+pub returns-then-len-gt1-clause-members : goal.returns-then-len-gt1-clause-members
+returns-then-len-gt1-clause-members g c = λ n. (
   once_back g.K.Ord.cmp g.met.K.Ord.total g.met.K.Key.exact g.K.PartialEq.eq g.met.K.Eq.laws g.met.K.Ord.matches_eq c.args.nodes.items
       c.sort_unstable.new.self.items c.dedup.new.self.items c.sort_unstable.ensures.permutation c.sort_unstable.ensures.sorted
       (dedup_is g.K.PartialEq.eq _ _ c.dedup.ensures.filtered) n,
@@ -17,3 +18,6 @@ returns-clause-members g c = λ n. (
       c.sort_unstable.new.self.items c.dedup.new.self.items c.sort_unstable.ensures.permutation c.sort_unstable.ensures.sorted
       (dedup_is g.K.PartialEq.eq _ _ c.dedup.ensures.filtered) n,
 )
+
+pub returns-else-len-gt1-clause-rising : goal.returns-else-len-gt1-clause-rising
+returns-else-len-gt1-clause-rising g c = few_rise g.K.Ord.cmp c.args.nodes.items (omega (arith, c.if-len-gt1.false, c.len.ensures))
