@@ -40,6 +40,15 @@ impl Model for Remembered {
     ghost invariant = { λ r. IsSnapshotOf r.store r.snapshot };
 }
 
+// By what a store is loaded.
+#[derive(Drop)]
+struct Means<'a, R, G> {
+    rt: &'a R,
+    alloc: Global,
+    workers: usize,
+    gate: &'a G,
+}
+
 /// A snapshot for a question, and the store that it is of where that is kept with it already.
 #[derive(Drop)]
 struct Found {
@@ -127,19 +136,22 @@ fn serves(store: &Store, snapshot: &Snapshot, names: &[UnitName]) -> bool
 
 // All is loaded anew.
 fn loaded_anew<R: Threads + Sync, G: Gate + Sync>(
-    rt: &R,
-    alloc: Global,
+    means: &Means<R, G>,
     store: &Store,
     host: Option<&HostName>,
     names: &[UnitName],
-    workers: usize,
-    gate: &G,
 ) -> Result<Found, LoadFault>
     ensures snapshot { IfOk result (λ found. IsSnapshot (view_of store.now (option_copied host.entry)) names.now found.snapshot) }
     ensures own { IfOk result (λ found. found.kept_with ≡ None) }
     ensures over { IfErr result (λ fault. OnTooMany fault (IsTooLarge (view_of store.now (option_copied host.entry)) names.now)) }
 {
-    let snapshot = Snapshot::by_workers(rt, alloc, store, host, names, workers, gate)?;
+    let Means {
+        rt,
+        alloc,
+        workers,
+        gate,
+    } = means;
+    let snapshot = Snapshot::by_workers(*rt, *alloc, store, host, names, *workers, *gate)?;
     Ok(Found {
         snapshot,
         kept_with: None,
@@ -208,14 +220,11 @@ impl Snapshots {
     // or else all is loaded anew. Where memory is refused, all that is remembered is forgotten, and it is tried once more.
     fn found<R: Threads + Sync, G: Gate + Sync>(
         &mut self,
-        rt: &R,
-        alloc: Global,
+        means: &Means<R, G>,
         node: usize,
         store: &Store,
         host: Option<&HostName>,
         names: &[UnitName],
-        workers: usize,
-        gate: &G,
     ) -> Result<Found, LoadFault>
         ensures snapshot { IfOk result (λ found. IsSnapshot (view_of store.now (option_copied host.entry)) names.now found.snapshot) }
         ensures own { IfOk result (λ found. IfSome found.kept_with (λ own. IsSnapshotOf own found.snapshot)) }
@@ -223,12 +232,12 @@ impl Snapshots {
     {
         let made = match self.take(node, host, names) {
             Some(one) => one.renewed(store),
-            None => loaded_anew(rt, alloc, store, host, names, workers, gate),
+            None => loaded_anew(means, store, host, names),
         };
         match made {
             Err(LoadFault::Memory) => {
                 self.clear();
-                loaded_anew(rt, alloc, store, host, names, workers, gate)
+                loaded_anew(means, store, host, names)
             }
             made => made,
         }
@@ -303,7 +312,13 @@ pub fn answer_again<R: Threads + Sync, G: Gate + Sync>(
         return Ok(Answer::Template);
     };
     let host = question.host();
-    match snapshots.found(rt, alloc, node, store, host, &names, workers, gate) {
+    let means = Means {
+        rt,
+        alloc,
+        workers,
+        gate,
+    };
+    match snapshots.found(&means, node, store, host, &names) {
         Ok(found) => Ok(snapshots.told(node, store, found, question)?),
         Err(LoadFault::TooManyUnits) => Ok(Answer::TooManyUnits),
         Err(_) => Err(AnswerFault::Memory),

@@ -167,7 +167,7 @@ level_among (suc (suc (suc (suc (suc (suc zero)))))) h = inr (inr (inr (inr (inr
 level_among (suc (suc (suc (suc (suc (suc (suc zero))))))) h = inr (inr (inr (inr (inr (inr (inr (inl refl)))))))
 level_among (suc (suc (suc (suc (suc (suc (suc (suc l)))))))) h = absurd (omega arith)
 
-among_level : (l : ℕ) → IsAmong l levels → IsLevel l
+pub among_level : (l : ℕ) → IsAmong l levels → IsLevel l
 among_level l (inl e) = omega (arith, e)
 among_level l (inr (inl e)) = omega (arith, e)
 among_level l (inr (inr (inl e))) = omega (arith, e)

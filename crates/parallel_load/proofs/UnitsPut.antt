@@ -173,6 +173,5 @@ pub not_false : (b : Bool) → not b ≡ false → b ≡ true
 not_false true h = refl
 not_false false h = cc (h)
 
-
 pub load_is : (load made : LoadMap) → made.host ≡ load.host → made.extra ≡ load.extra → made.names ≡ load.names → made.named ≡ load.named → made.words ≡ load.words → made ≡ load
 load_is load made host extra names named words = λ i. record { host = host i; extra = extra i; names = names i; named = named i; words = words i }

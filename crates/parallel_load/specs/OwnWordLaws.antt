@@ -1,5 +1,5 @@
 -- Laws of the words that a load keeps: a view has one list of them, which has the words of every name; and where words stay, it stays.
-use Rattle.std.proofs.Common.{◌≡◌, ℕ, Option, Some, None, List, [], ◌∷◌, map, refl, ap, sym, ◌∙◌, subst, inl, inr, arith}
+use Rattle.std.proofs.Common.{◌≡◌, ℕ, Option, Some, None, List, [], ◌∷◌, map, refl, ap, sym, ◌∙◌, subst, inl, inr}
 use Rattle.std.specs.Prelude.{is_some, unwrap_or}
 use Rattle.std.specs.Cmp.Lexicographic.{nat_list_cmp_total}
 use Rattle.std.specs.FinMap.{find, nat_cmp-IsAntisymmetric, slice_cmp-IsAntisymmetric}
@@ -10,11 +10,11 @@ use Rattle.std.proofs.lemmas.List.Elements.{All-head, All-tail, All-weaker}
 use Rattle.std.proofs.lemmas.Option.{none-some}
 use Rattle.list_laws.specs.Members.{IsAmong}
 use Rattle.list_laws.specs.Rising.{one_rising_list}
-use Rattle.load_places.specs.Levels.{IsLevel, levels}
+use Rattle.load_places.specs.Levels.{levels}
 use Rattle.path_maps.specs.Views.{View, seen_at}
 use Rattle.unit_name.specs.Names.{Name, name_cmp}
 use Rattle.edit_sums.specs.declared.contents.Content.{Content}
-use Rattle.fragment_choice.specs.AliasWordLaws.{IsShown, SameWords, alias_words_show}
+use Rattle.fragment_choice.specs.AliasWordLaws.{IsShown, SameWords, alias_words_show, among_level}
 use Rattle.fragment_choice.specs.AliasWords.{Target, alias_words, target_part, targets_in, words_of}
 use Rattle.fragment_choice.specs.Choices.{own_path}
 use Rattle.unit_loads.specs.MemberLaws.{among_map}
@@ -44,17 +44,6 @@ one_list_of_words s a b p q =
 
 -- ---- the words of every name
 
-level_of : (l : ℕ) → IsAmong l levels → IsLevel l
-level_of l (inl e) = omega (arith, e)
-level_of l (inr (inl e)) = omega (arith, e)
-level_of l (inr (inr (inl e))) = omega (arith, e)
-level_of l (inr (inr (inr (inl e)))) = omega (arith, e)
-level_of l (inr (inr (inr (inr (inl e))))) = omega (arith, e)
-level_of l (inr (inr (inr (inr (inr (inl e)))))) = omega (arith, e)
-level_of l (inr (inr (inr (inr (inr (inr (inl e))))))) = omega (arith, e)
-level_of l (inr (inr (inr (inr (inr (inr (inr (inl e)))))))) = omega (arith, e)
-level_of l (inr (inr (inr (inr (inr (inr (inr (inr h)))))))) = absurd h
-
 -- a name at which nothing is visible has no words
 module _ (s : View) (n : Name) (hidden : IsShown s n → ⊥) where
   none_seen : (l : ℕ) → IsAmong l levels → seen_at s (own_path n l) ≡ None
@@ -62,7 +51,7 @@ module _ (s : View) (n : Name) (hidden : IsShown s n → ⊥) where
     where
       by : (o : Option Content) → seen_at s (own_path n l) ≡ o → o ≡ None
       by None e = refl
-      by (Some c) e = absurd (hidden (l, level_of l a, ap is_some e))
+      by (Some c) e = absurd (hidden (l, among_level l a, ap is_some e))
 
   no_targets : (ls : List ℕ) → ((l : ℕ) → IsAmong l ls → seen_at s (own_path n l) ≡ None) → targets_in s n ls ≡ []
   no_targets [] h = refl

@@ -18,6 +18,9 @@ use std::thread::Threads;
 use unit_name::UnitName;
 use worker_rounds::{Share, work_by_shares};
 
+// A name with what it stands for.
+type Named = (UnitName, NameLoad);
+
 /// The load of what was found, with dependencies by main names. It fails for want of memory alone.
 pub(crate) fn settled(
     alloc: Global,
@@ -155,7 +158,7 @@ fn load_with(
     alloc: Global,
     host: Option<&HostName>,
     extra: &[UnitName],
-    names: Vec<(UnitName, NameLoad)>,
+    names: Vec<Named>,
     kept: Shared<KeptRows>,
     fresh: u64,
 ) -> Result<Loaded, AllocError>
@@ -190,10 +193,7 @@ pub(crate) fn copy_of_load(loaded: &Loaded) -> Result<Loaded, AllocError>
 }
 
 // Copies of names, with what stands for them, which is shared.
-fn copies_of(
-    alloc: Global,
-    names: &[(UnitName, NameLoad)],
-) -> Result<Vec<(UnitName, NameLoad)>, AllocError>
+fn copies_of(alloc: Global, names: &[Named]) -> Result<Vec<Named>, AllocError>
     ensures copies { IfOk result (λ copies. copies.items ≡ names.now) }
 {
     let mut copies = Vec::with_capacity(alloc, names.len())?;
@@ -216,7 +216,7 @@ fn copy_of(host: Option<&HostName>) -> Result<Option<HostName>, AllocError>
 // Names with what they stand for, and beside them what they name, and their dependencies by numbers.
 #[derive(Drop)]
 struct Parts {
-    names: Vec<(UnitName, NameLoad)>,
+    names: Vec<Named>,
     named: Vec<NamedLists>,
     deps: Vec<Shared<Items<Dependency>>>,
 }

@@ -147,7 +147,10 @@ impl Loaded {
     {
         let Patches { kept, units } = patches;
         let Loaded {
-            host, extra, names, ..
+            host,
+            extra,
+            names,
+            ..
         } = self;
         let fresh = units.len() as u64;
         let names = with_units(names, units);

@@ -54,7 +54,11 @@ pub fn refresh(loaded: &Loaded, store: &Store, touched: &[Place]) -> Result<Load
 
 /// The same of a load that is given away, which is changed in its place where its names and what each of them names stay. It
 /// then costs what was read, and a look at each name.
-pub fn refresh_in_place(loaded: Loaded, store: &Store, touched: &[Place]) -> Result<Refreshed, LoadFault>
+pub fn refresh_in_place(
+    loaded: Loaded,
+    store: &Store,
+    touched: &[Place],
+) -> Result<Refreshed, LoadFault>
     requires before { IsBefore loaded store.now touched.now }
     ensures load { IfOk result (IsRefreshed (view_of store.now loaded.host) loaded) }
     ensures over { IfErr result (λ fault. OnTooMany fault (IsTooLarge (view_of store.now loaded.host) loaded.extra)) }

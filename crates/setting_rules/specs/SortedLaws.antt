@@ -20,8 +20,10 @@ use Rattle.setting_rules.specs.OrderLaws.{IsAmong-from_any, any-from_IsAmong, an
 rising_in_order : (names : List Name) → IsStrictlySortedBy name_cmp names → in_byte_order names ≡ names
 rising_in_order names rising =
     one_rising_list name_cmp nat_list_cmp_total (in_byte_order names) names (names_rise names) rising
-    (λ z. (λ h. IsAmong-from_any z names (sym (any-in_byte_order z names) ∙ any-from_IsAmong z (in_byte_order names) h),
-    λ h. IsAmong-from_any z (in_byte_order names) (any-in_byte_order z names ∙ any-from_IsAmong z names h)))
+    (λ z. (
+      λ h. IsAmong-from_any z names (sym (any-in_byte_order z names) ∙ any-from_IsAmong z (in_byte_order names) h),
+      λ h. IsAmong-from_any z (in_byte_order names) (any-in_byte_order z names ∙ any-from_IsAmong z names h),
+    ))
 
 few_rise : (names : List Name) → length names < 2 → IsStrictlySortedBy name_cmp names
 unfolding IsStrictlySortedBy

@@ -8,8 +8,8 @@ use Rattle.parallel_load.proofs.loaded.with_units.Goals as goal
 pub put_unit-requires : goal.put_unit-requires
 put_unit-requires c =
     let below : c.in-Some.number < length c.args.names.items =
-        next_holds (λ u. u.0 < length c.args.names.items) c.args.units.items c.into_iter-number-iterator.result c.loop-number.number-iterator c.next.new.self c.loop-number.yielded
-        (c.in-Some.number, c.in-Some.unit) c.into_iter-number-iterator.ensures.into_iter_gives.0 c.loop-number.yielded_by c.in-Some.ensures.steps c.requires.within in
+    next_holds (λ u. u.0 < length c.args.names.items) c.args.units.items c.into_iter-number-iterator.result c.loop-number.number-iterator c.next.new.self c.loop-number.yielded
+    (c.in-Some.number, c.in-Some.unit) c.into_iter-number-iterator.ensures.into_iter_gives.0 c.loop-number.yielded_by c.in-Some.ensures.steps c.requires.within in
     let count = ap length c.loop-number.invariant ∙ with_length c.args.names.items c.loop-number.yielded in
     record { within = omega (arith, below, count) }
 

@@ -29,7 +29,7 @@ units_again-requires c =
 pub returns : goal.returns
 returns c =
     let P : Option (Vec (ℕ × NameLoad) Global) → Type 0 = λ o. IfSome o (λ units. AreLoadsAgain (view_of c.args.store.now (option_copied c.host-host.result)) c.args.parts.now c.get.result.now.mains
-        c.names.result.now c.get.result.now.named.items (with_loads c.names.result.now units.items)) in
+    c.names.result.now c.get.result.now.named.items (with_loads c.names.result.now units.items)) in
     let Q : Option (Vec (ℕ × NameLoad) Global) → Type 0 = λ o. IfSome o (λ units. All (λ u. u.0 < length c.names.result.now) units.items) in
     let R : List (Name × NameLoad) → Type 0 = λ names. All (λ u. u.0 < length names) c.in-Some.units.items in
     record {
