@@ -180,9 +180,8 @@ impl<N: NodeName> Node<N> {
         }
     }
 
-    /// Ends the node, whatever seats it gave: the way out where a seat is lost, so that `close` can't be answered. A
-    /// take
-    /// that is pending is lost. It may wait.
+    /// Ends the node, whatever seats it gave: the way out where a seat is lost, so that `close` can't be answered. A take that
+    /// is pending is lost. It may wait.
     pub fn end<R: Wait>(self, rt: &R) {
         let Node { keeper } = self;
         drop(keeper.into_inner().close(rt));

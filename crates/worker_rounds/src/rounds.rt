@@ -7,7 +7,7 @@ ghost use Rattle.worker_rounds.specs.{Refusals.{OnTooMany}, declared.faults.Roun
 use crate::crews::is_crew;
 use crate::faults::RoundFault;
 use crate::gates::Gate;
-use crate::workers::{Crew, load_by_workers};
+use crate::workers::{Means, load_by_workers};
 use name_closure::{Loads, Round, close_by_rounds};
 use plain_values::Key;
 use std::alloc::{AllocError, Global};
@@ -56,14 +56,14 @@ where
     if !is_crew(workers) {
         return Err(RoundFault::Workers);
     }
-    let crew = Crew { rt, workers, gate };
+    let means = Means { rt, workers, gate };
     let load_round = |fresh: Vec<K>| -> Result<Round<K, L::Loaded>, AllocError>
-        requires some { 0 < crew.workers }
+        requires some { 0 < means.workers }
         requires rising { IsStrictlySortedBy K.cmp fresh.items }
         requires nodes { All (L.is_node loader.now) fresh.items }
         ensures round { IfOk result (λ round. IsRound (L.is_node loader.entry.now) (L.is_loaded loader.entry.now)
             (L.named loader.entry.now) fresh.items round.pairs.items round.names.items) }
-    { load_by_workers(&crew, alloc, loader, fresh) };
+    { load_by_workers(&means, alloc, loader, fresh) };
     let found = close_by_rounds(alloc, loader, sources, limit, load_round)?;
     Ok(found)
 }

@@ -11,9 +11,9 @@ use std::alloc::{AllocError, Global};
 use std::thread;
 use std::thread::Threads;
 
-// Who loads a round: so many workers, in threads of this runtime, and the gate that each of them asks.
+// By what a round is loaded: so many workers, in threads of this runtime, and the gate that each of them asks.
 #[derive(Drop)]
-pub(crate) struct Crew<'a, R, G> {
+pub(crate) struct Means<'a, R, G> {
     pub rt: &'a R,
     pub workers: usize,
     pub gate: &'a G,
@@ -71,41 +71,41 @@ pub(crate) fn load_by_workers<
     L: Loads<K> + Sync,
     G: Gate + Sync,
 >(
-    crew: &Crew<R, G>,
+    means: &Means<R, G>,
     alloc: Global,
     loader: &L,
     fresh: Vec<K>,
 ) -> Result<Round<K, L::Loaded>, AllocError>
 where
     L::Loaded: Send + Sync,
-    requires some { 0 < crew.now.workers }
+    requires some { 0 < means.now.workers }
     requires rising { IsStrictlySortedBy K.cmp fresh.items }
     requires nodes { All (L.is_node loader.now) fresh.items }
     ensures round { IfOk result (λ round. IsRound (L.is_node loader.now) (L.is_loaded loader.now) (L.named loader.now)
         fresh.items round.pairs.items round.names.items) }
 {
-    let pairs = pairs_by_workers(crew, alloc, loader, fresh)?;
-    let names = name_by_workers(crew.rt, alloc, loader, crew.workers, &pairs)?;
+    let pairs = pairs_by_workers(means, alloc, loader, fresh)?;
+    let names = name_by_workers(means.rt, alloc, loader, means.workers, &pairs)?;
     Ok(Round { pairs, names })
 }
 
 // Each of the new nodes of a round with what is loaded for it, each share by a worker of its own.
 fn pairs_by_workers<R: Threads + Sync, K: Key + Send, L: Loads<K> + Sync, G: Gate + Sync>(
-    crew: &Crew<R, G>,
+    means: &Means<R, G>,
     alloc: Global,
     loader: &L,
     fresh: Vec<K>,
 ) -> Result<Vec<(K, L::Loaded)>, AllocError>
 where
     L::Loaded: Send,
-    requires some { 0 < crew.now.workers }
+    requires some { 0 < means.now.workers }
     requires nodes { All (L.is_node loader.now) fresh.items }
     ensures pairs { IfOk result (λ pairs. AreLoads (L.is_loaded loader.now) fresh.items pairs.items) }
 {
-    let gate = crew.gate;
+    let gate = means.gate;
     let load = |share: Share<K>| -> Result<Vec<(K, L::Loaded)>, AllocError>
         requires { All (L.is_node loader.now) share.nodes.items }
         ensures { IfOk result (λ pairs. AreLoads (L.is_loaded loader.entry.now) share.nodes.items pairs.items) }
     { load_share(alloc, loader, gate, share) };
-    work_by_shares(crew.rt, alloc, fresh, crew.workers, &load)
+    work_by_shares(means.rt, alloc, fresh, means.workers, &load)
 }
