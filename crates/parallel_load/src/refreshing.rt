@@ -53,7 +53,7 @@ pub fn refresh(loaded: &Loaded, store: &Store, touched: &[Place]) -> Result<Load
 }
 
 /// The same of a load that is given away, which is changed in its place where its names and what each of them names stay. It
-/// then costs what was read, and a look at each name.
+/// then costs what was read, and a look at each name. Where it is refused, the load is gone.
 pub fn refresh_in_place(
     loaded: Loaded,
     store: &Store,
