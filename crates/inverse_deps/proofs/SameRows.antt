@@ -11,17 +11,14 @@ use Rattle.unit_name.specs.Names.{Name, name_cmp}
 use Rattle.unit_name.specs.NameLaws.{name_eq-Decides}
 use Rattle.setting_rules.specs.contracts.kinds.DepKind as kinds
 use Rattle.setting_rules.specs.declared.kinds.DepKind.{DepKind}
-use Rattle.setting_rules.specs.Kinds.{inverse}
 use Rattle.parallel_load.specs.contracts.loaded.DependencyPartialEq.TheImpl as dep_eq
 use Rattle.parallel_load.specs.declared.loaded.Dependency.{Dependency}
 use Rattle.parallel_load.specs.declared.loaded.NameLoad.{NameLoad}
 use Rattle.parallel_load.specs.Loads.{LoadMap}
 use Rattle.parallel_load.specs.Numbers.{AreDependencyRows}
 use Rattle.parallel_load.specs.SameLaws.{first_true, same_by, second_true}
-use Rattle.inverse_deps.specs.EdgeLaws.{edges_go_over}
-use Rattle.inverse_deps.specs.Edges.{DependsOn, HaveSameEdges, IsEdge}
-use Rattle.inverse_deps.specs.Numbers.{count_of, name_at}
-use Rattle.inverse_deps.specs.NumberLaws.{key_at_place, keys_length, unit_number}
+use Rattle.inverse_deps.specs.Edges.{HaveSameEdges}
+use Rattle.inverse_deps.specs.NumberLaws.{key_at_place, keys_length}
 use Rattle.inverse_deps.specs.RowLaws.{rows_make_the_edges}
 
 -- ---- lists that a test finds the same

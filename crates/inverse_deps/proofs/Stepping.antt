@@ -1,11 +1,10 @@
 -- Rows of dependencies and of edges.
-use Rattle.std.proofs.Common.{◌≡◌, ◌<◌, ◌⊎◌, ◌↔◌, ℕ, zero, suc, List, [], ◌∷◌, length, get_or, IsTrue, Some, refl, ap, sym, subst, ◌∙◌, arith}
+use Rattle.std.proofs.Common.{◌≡◌, ◌<◌, ◌⊎◌, ◌↔◌, ℕ, List, [], length, get_or, IsTrue, sym, subst, ◌∙◌, arith}
 use Rattle.std.specs.declared.vec.Vec.{Vec}
 use Rattle.std.specs.declared.alloc.Global.{Global}
 use Rattle.std.specs.Cmp.Lexicographic.{nat_list_cmp_total}
 use Rattle.std.specs.FinMap.Entries.{is_sorted}
-use Rattle.std.proofs.lemmas.Option.{none-some}
-use Rattle.list_laws.specs.Members.{IsAmong, none_there}
+use Rattle.list_laws.specs.Members.{IsAmong}
 use Rattle.name_closure.specs.ListedLaws.{Listed, Named}
 use Rattle.index_rows.specs.Numbering.{AreNames, AreNamedSteps}
 use Rattle.index_rows.specs.Rows.{row, AreRowsOf}
@@ -13,17 +12,13 @@ use Rattle.index_rows.specs.RowLaws.{row-below}
 use Rattle.unit_name.specs.Names.{Name, name_cmp}
 use Rattle.setting_rules.specs.declared.kinds.DepKind.{DepKind}
 use Rattle.setting_rules.specs.Kinds.{inverse}
-use Rattle.unit_loads.specs.declared.units.Unit.{Unit as LoadedUnit}
-use Rattle.unit_loads.specs.NamedUnits.{IsListed}
 use Rattle.parallel_load.specs.declared.loaded.Dependency.{Dependency}
-use Rattle.parallel_load.specs.declared.loaded.NameLoad.{NameLoad}
-use Rattle.parallel_load.specs.declared.loaded.NameLoad.TheVariants.{Unit as OfUnit, Alias as OfAlias}
-use Rattle.parallel_load.specs.Loads.{LoadMap, lists_in, unit_in, unit_part}
-use Rattle.parallel_load.specs.Numbers.{AreDependenciesOf, AreDependencyRows}
-use Rattle.inverse_deps.specs.Edges.{IsUnitIn, DependsOn, IsEdge}
+use Rattle.parallel_load.specs.Loads.{LoadMap}
+use Rattle.parallel_load.specs.Numbers.{AreDependencyRows}
+use Rattle.inverse_deps.specs.Edges.{DependsOn, IsEdge}
 use Rattle.inverse_deps.specs.Numbers.{count_of, name_at}
 use Rattle.inverse_deps.specs.NamingLaws.{names_along, names_either, turned_named}
-use Rattle.inverse_deps.specs.NumberLaws.{load_numbering, unit_at, unit_number}
+use Rattle.inverse_deps.specs.NumberLaws.{load_numbering, unit_number}
 use Rattle.inverse_deps.specs.RowLaws.{rows_named, same_at}
 use Rattle.inverse_deps.specs.Tables.{AreNumbersBy, HasKind}
 

@@ -1,6 +1,6 @@
 -- Loads with the same names and the same dependencies by numbers have the same edges.
 -- Source: this project's own.
-use Rattle.std.proofs.Common.{◌≡◌, ◌<◌, ◌⊎◌, ℕ, zero, suc, List, [], ◌∷◌, length, get_or, inl, inr, IsTrue, Some, refl, ap, sym, subst, ◌∙◌, arith}
+use Rattle.std.proofs.Common.{◌≡◌, ◌<◌, ℕ, zero, suc, List, [], ◌∷◌, length, get_or, inl, inr, IsTrue, Some, refl, ap, sym, subst, ◌∙◌, arith}
 use Rattle.std.specs.FinMap.Entries.{is_sorted}
 use Rattle.std.proofs.lemmas.Option.{none-some}
 use Rattle.list_laws.specs.Members.{none_there}

@@ -1,13 +1,13 @@
 -- Which names are asked for counts only for those at which nothing is visible: lists that make the same sources have the same load.
 -- Source: this project's own.
 use Rattle.std.proofs.Common.{List, refl, inl, inr}
-use Rattle.std.specs.Prelude.{◌↔◌, ◌⊎◌}
+use Rattle.std.specs.Prelude.{◌↔◌}
 use Rattle.list_laws.specs.Members.{IsAmong}
 use Rattle.name_closure.specs.SourceLaws.{same_closure, same_reached}
 use Rattle.path_maps.specs.Views.{View}
 use Rattle.unit_name.specs.Names.{Name, name_cmp}
 use Rattle.parallel_load.specs.Loads.{IsLoad, LoadMap}
-use Rattle.parallel_load.specs.Universe.{AreUniverse, IsSource, IsTooLarge, IsVisibleName, LeadsTo}
+use Rattle.parallel_load.specs.Universe.{AreUniverse, IsSource, IsTooLarge, LeadsTo}
 
 -- each of the names is visible, or is one of the others
 abbrev pub AreSources : View → List Name → List Name → Type 0

@@ -1,5 +1,4 @@
-use Rattle.std.proofs.Common.{◌≡◌, ap, subst, sym, ◌∙◌, arith}
-use Rattle.load_places.specs.Places.{PlaceParts}
+use Rattle.std.proofs.Common.{ap, sym, ◌∙◌, arith}
 use Rattle.edit_sums.specs.declared.entries.Edit.{Edit}
 use Rattle.edit_sums.specs.Sums.{visible_at, with_edit}
 use Rattle.replica_store.specs.Replicas.{Replicated, next_version}

@@ -1,4 +1,4 @@
-use Rattle.std.proofs.Common.{◌≡◌, List, ap, subst, ◌∙◌}
+use Rattle.std.proofs.Common.{List, ap, subst, ◌∙◌}
 use Rattle.load_places.specs.Levels.{Looker}
 use Rattle.path_maps.specs.Views.{View, view_of}
 use Rattle.unit_name.specs.Names.{Name}

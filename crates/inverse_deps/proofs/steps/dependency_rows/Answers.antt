@@ -1,7 +1,6 @@
-use Rattle.std.proofs.Common.{◌≡◌, ◌<◌, ℕ, List, length, get_or, ap, subst, ◌∙◌, arith}
+use Rattle.std.proofs.Common.{ℕ, List, get_or, arith}
 use Rattle.std.specs.declared.vec.Vec.{Vec}
 use Rattle.std.specs.declared.alloc.Global.{Global}
-use Rattle.setting_rules.specs.declared.kinds.DepKind.{DepKind}
 use Rattle.setting_rules.specs.declared.kinds.DepKind.TheVariants.{Before}
 use Rattle.inverse_deps.specs.MakingLaws.{made_none, made_more}
 use Rattle.inverse_deps.specs.Tables.{AreNamingRows}

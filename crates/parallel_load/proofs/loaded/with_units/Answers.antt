@@ -1,4 +1,4 @@
-use Rattle.std.proofs.Common.{◌<◌, ap, sym, length, ◌∙◌, List, ℕ, arith}
+use Rattle.std.proofs.Common.{◌<◌, ap, sym, length, ◌∙◌, List, arith}
 use Rattle.unit_name.specs.Names.{Name}
 use Rattle.parallel_load.specs.declared.loaded.NameLoad.{NameLoad}
 use Rattle.parallel_load.specs.Patched.{put_load}

@@ -7,7 +7,7 @@ use Rattle.parallel_load.specs.declared.loaded.NameLoad.{NameLoad}
 use Rattle.parallel_load.specs.LoadRows.{IsOwnUnit, IsReadAgain}
 use Rattle.parallel_load.specs.UniverseLaws.{all_among}
 use Rattle.parallel_load.proofs.Again.{item_among}
-use Rattle.parallel_load.proofs.UnitsPut.{IsLookedAt, all_looked_at, any_at, missed_next, none_looked_at, read_next}
+use Rattle.parallel_load.proofs.UnitsPut.{IsLookedAt, any_at, missed_next, none_looked_at, read_next}
 use Rattle.parallel_load.proofs.patching.units_again.Goals as goal
 use Rattle.parallel_load.proofs.patching.units_again.Goals.{then-branch+in_ok-unit+in-Some+in_ok-push, else-branch}
 
