@@ -1,7 +1,6 @@
 //! Where a content stands.
 ghost use Rattle.std.specs.Prelude.{◌≡◌, ◌<◌, ◌⊎◌, ◌||◌, ◌++◌, not, length, Err, IsErr, IsTrue, IfOk, OnOk, OnErr};
 ghost use Rattle.load_path.specs.Paths.{directory_of, has_folder, is_component, path_of, text_of, IsPath};
-ghost use Rattle.load_path.specs.declared.paths.PathFault.TheVariants.{Memory};
 
 use crate::texts::{Parts, directory};
 use plain_values::{Bytes, Key, TryClone};
@@ -27,14 +26,6 @@ pub enum PathFault {
     /// Memory was refused.
     #[error("out of memory")]
     Memory,
-}
-
-impl From<AllocError> for PathFault {
-    ghost from_gives = { λ _ fault. fault ≡ Memory };
-
-    fn from(_refused: AllocError) -> PathFault {
-        PathFault::Memory
-    }
 }
 
 /// A path of the unit load path (systemd.unit(5), "Unit File Load Path"): a directory and one or
@@ -69,6 +60,13 @@ impl Path {
         ensures faults { IsErr (path_of text.now) → result ≡ path_of text.now }
     {
         let parts = Parts::of(text)?;
+        Path::of(alloc, &parts).map_err(|_| PathFault::Memory)
+    }
+
+    /// The path of these parts, in bytes of its own.
+    fn of(alloc: Global, parts: &Parts) -> Result<Path, AllocError>
+        ensures path { IfOk result (λ path. path ≡ parts.now) }
+    {
         Ok(Path {
             rank: parts.rank,
             folder: Bytes::from_slice(alloc, parts.folder)?,
