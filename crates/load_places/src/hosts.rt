@@ -1,6 +1,6 @@
 //! Names of hosts.
 ghost use Rattle.std.specs.{Prelude.{◌≡◌, ◌⊎◌, Err, IsErr, IfOk, IsTrue}, List.{list_all}};
-ghost use Rattle.load_places.specs.{Hosts.{host_of, is_host, is_host_byte}, declared.hosts.HostFault.TheVariants.{Memory}};
+ghost use Rattle.load_places.specs.Hosts.{host_of, is_host, is_host_byte};
 
 use plain_values::{Bytes, Key, TryClone};
 use std::alloc::{AllocError, Global};
@@ -19,14 +19,6 @@ pub enum HostFault {
     /// Memory was refused.
     #[error("out of memory")]
     Memory,
-}
-
-impl From<AllocError> for HostFault {
-    ghost from_gives = { λ _ fault. fault ≡ Memory };
-
-    fn from(_refused: AllocError) -> HostFault {
-        HostFault::Memory
-    }
 }
 
 /// The name of a host, ordered by its bytes.
@@ -57,9 +49,10 @@ impl HostName {
         if !is_host_name(name) {
             return Err(HostFault::HostName);
         }
-        Ok(HostName {
-            bytes: Bytes::from_slice(alloc, name)?,
-        })
+        match Bytes::from_slice(alloc, name) {
+            Ok(bytes) => Ok(HostName { bytes }),
+            Err(_) => Err(HostFault::Memory),
+        }
     }
 
     /// The bytes of the name. It takes no memory.
