@@ -1,17 +1,16 @@
 -- Each place and its text give each other.
-use Rattle.std.specs.Prelude.{◌≡◌, ℕ, zero, suc, ◌+◌, ◌<◌, ◌==◌, Bool, true, false, cond, ◌&&◌, ◌||◌, nat_lt, nat_le, List, [], ◌∷◌, ◌++◌, length, take, drop, position, Option, Some, None, Result, Ok, Err, IsTrue, refl}
+use Rattle.std.specs.Prelude.{◌≡◌, ℕ, zero, suc, ◌+◌, ◌<◌, ◌==◌, true, false, nat_lt, List, [], ◌∷◌, ◌++◌, length, take, drop, position, Option, Some, None, Result, Ok, Err, refl}
 use Rattle.std.specs.List.{list_all, position_from}
 use Rattle.std.proofs.Common.{sym, ap, subst, ◌∙◌, ⊎_elim, arith, append_assoc, add-one}
-use Rattle.std.proofs.Math.Seq.{take-append_seam, drop-append_seam, drop-append-add}
+use Rattle.std.proofs.Math.Seq.{take-append_seam, drop-append-add}
 use Rattle.std.proofs.lemmas.Bool.{cases_Bool, cond-true, cond-false, and_parts}
 use Rattle.std.proofs.lemmas.Bool.Decides.{nat_tests}
 use Rattle.std.proofs.lemmas.Iterator.Adapters.{position_from-zero}
-use Rattle.load_path.specs.Paths.{PathParts, IsPath, directory_of, has_folder, path_of, text_of}
+use Rattle.load_path.specs.Paths.{PathParts, IsPath, path_of, text_of}
 use Rattle.load_path.specs.TextLaws.{are_their_texts}
 use Rattle.load_path.specs.declared.paths.PathFault.{PathFault}
 use Rattle.load_places.specs.Hosts.{host_of, is_host, is_host_byte}
 use Rattle.load_places.specs.Places.{PlaceParts}
-use Rattle.load_places.specs.declared.hosts.HostFault.{HostFault}
 use Rattle.load_places.specs.declared.places.Scope.{Scope}
 use Rattle.load_places.specs.declared.places.Scope.TheVariants.{Fleet, Host}
 use Rattle.load_places.specs.Texts.{AreTheirTexts, IsScope, host_end, in_scope_of, is_colon, of_host, place_cut, place_of, place_text}
