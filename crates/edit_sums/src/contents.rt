@@ -1,6 +1,6 @@
 //! What a place holds.
 ghost use Rattle.std.specs.{Prelude.{◌≡◌, ◌≤◌, ◌⊎◌, length, Err, IsErr, IfOk}, List.{list_all}};
-ghost use Rattle.edit_sums.specs.{Limits.{is_target, is_graphic}, declared.contents.ContentFault.TheVariants.{Memory}};
+ghost use Rattle.edit_sums.specs.Limits.{is_target, is_graphic};
 
 use plain_values::{Key, SharedBytes, TryClone, same};
 use std::alloc::AllocError;
@@ -26,14 +26,6 @@ pub enum ContentFault {
     /// Memory was refused.
     #[error("out of memory")]
     Memory,
-}
-
-impl From<AllocError> for ContentFault {
-    ghost from_gives = { λ _ fault. fault ≡ Memory };
-
-    fn from(_refused: AllocError) -> ContentFault {
-        ContentFault::Memory
-    }
 }
 
 /// The bytes of a file, at most 65,536.
@@ -157,9 +149,10 @@ impl Content {
         if bytes.len() > FILE_LIMIT {
             return Err(ContentFault::FileTooLarge);
         }
-        Ok(Content::File(FileBytes {
-            inner: SharedBytes::from_vec(bytes)?,
-        }))
+        match SharedBytes::from_vec(bytes) {
+            Ok(inner) => Ok(Content::File(FileBytes { inner })),
+            Err(_) => Err(ContentFault::Memory),
+        }
     }
 
     /// A symbolic link to this target, which isn't copied, or `BadLink`; `Memory` only where links may have it.
@@ -170,9 +163,10 @@ impl Content {
         if !is_lawful_target(&target) {
             return Err(ContentFault::BadLink);
         }
-        Ok(Content::Link(LinkTarget {
-            target: SharedBytes::from_vec(target)?,
-        }))
+        match SharedBytes::from_vec(target) {
+            Ok(target) => Ok(Content::Link(LinkTarget { target })),
+            Err(_) => Err(ContentFault::Memory),
+        }
     }
 
     /// A removal.
