@@ -2,7 +2,6 @@
 ghost use Rattle.std.specs.Prelude.{◌≡◌, ◌≤◌, ◌+◌, ◌⊎◌, ℕ, List, Option, true, length, vec_len, is_err, IfOk, OnOk, OnErr, IsErrOf};
 ghost use Rattle.std.specs.{Io.{ReadsAtMost}, Io.KnownBytes.{Consumes, IsAtEnd, ReadConsumes}};
 ghost use Rattle.script_pipes.specs.{Failures.{FailedSince, count_with}, KnownBytes.{AreAll, ConsumesFront, IsOver}};
-ghost use Rattle.script_pipes.specs.declared.reading.ReadFault.TheVariants.{Memory};
 
 use std::alloc::{AllocError, Global};
 use std::io;
@@ -48,14 +47,6 @@ pub enum ReadFault {
     Memory,
 }
 
-impl From<AllocError> for ReadFault {
-    ghost from_gives = { λ _ fault. fault ≡ Memory };
-
-    fn from(_error: AllocError) -> ReadFault {
-        ReadFault::Memory
-    }
-}
-
 /// All bytes that a source has left.
 ///
 /// At most `MAX_SCRIPT_BYTES` bytes in at most `MAX_READS` reads. A read that was interrupted is tried again. After
@@ -74,14 +65,16 @@ pub fn read_all<S: Source>(alloc: Global, source: &mut S) -> Result<Vec<u8>, Rea
     ensures reads { S.reads source.new ≤ S.reads source.old + MAX_READS }
     ensures failures { S.failures source.old ≤ S.failures source.new }
 {
-    let mut chunk = make_chunk(alloc)?;
+    let mut chunk = make_chunk(alloc).map_err(|_| ReadFault::Memory)?;
     let chunk = chunk.as_mut_slice();
     let mut script = Vec::new(alloc);
     for _turn in 0..MAX_READS {
         match source.read(chunk) {
             Ok(0) => return Ok(script),
             Ok(n) if n > MAX_SCRIPT_BYTES - script.len() => return Err(ReadFault::Failed),
-            Ok(n) => script.extend_from_slice(&chunk[..n])?,
+            Ok(n) => script
+                .extend_from_slice(&chunk[..n])
+                .map_err(|_| ReadFault::Memory)?,
             Err(e) if e.kind() == ErrorKind::Interrupted => {}
             Err(_) => return Err(ReadFault::Failed),
         }
