@@ -17,6 +17,6 @@ mod steps;
 pub use closures::{closure, reached, reached_inside};
 pub use laws::closures_by_name;
 pub use marks::{first_marked, least_marked, lesser, marked_nodes, no_marks, unmarked, without};
-pub use rows::{joined, row, turned};
+pub use rows::{joined, put_in_order, row, turned};
 pub use shortest::distances;
 pub use steps::Steps;

@@ -60,8 +60,8 @@ pub fn turned(alloc: Global, rows: &[Vec<usize>]) -> Result<Vec<Vec<usize>>, All
     Ok(others)
 }
 
-// Puts nodes in order, each once. O(k log k) for k nodes, and linear where they are in order.
-pub(crate) fn put_in_order(nodes: &mut Vec<usize>)
+/// Puts nodes in order, each once. O(k log k) for k nodes, and linear where they are in order. It takes no memory.
+pub fn put_in_order(nodes: &mut Vec<usize>)
     ensures rising { IsStrictlySortedBy nat_cmp nodes.new.items }
     ensures members { (v : ℕ) → IsAmong v nodes.new.items ↔ IsAmong v nodes.old.items }
     ensures bound { length nodes.new.items ≤ length nodes.old.items }

@@ -1,9 +1,8 @@
 -- A load of rows of which some were read again, where each unit names what it named.
-use Rattle.std.proofs.Common.{◌≡◌, ◌<◌, ◌≤◌, ◌+◌, ℕ, zero, suc, List, [], ◌∷◌, ◌++◌, take, get_or, length, map, refl, ap, sym, ◌∙◌, subst, inl, inr, arith}
+use Rattle.std.proofs.Common.{◌≡◌, ◌<◌, ◌≤◌, ℕ, suc, List, [], ◌∷◌, get_or, length, map, refl, ap, sym, ◌∙◌, subst, inl, inr}
 use Rattle.std.specs.Prelude.{◌⊎◌}
 use Rattle.std.specs.List.{All, flat_map}
 use Rattle.std.specs.Map.{keys_of}
-use Rattle.std.proofs.lemmas.List.{take_more}
 use Rattle.std.proofs.lemmas.List.Elements.{All-nil, All-cons, All-head, All-tail}
 use Rattle.list_laws.specs.Members.{IsAmong}
 use Rattle.load_places.specs.Levels.{Looker}
@@ -29,7 +28,7 @@ use Rattle.parallel_load.specs.Alone.{IsLoadAlone}
 use Rattle.parallel_load.specs.Found.{IsFound}
 use Rattle.parallel_load.specs.KeptLoadLaws.{KeepsItsNames, same_names_keep_the_universe, words_keep_visible_names}
 use Rattle.parallel_load.specs.KeyLaws.{keys_length}
-use Rattle.parallel_load.specs.LoadRows.{AreLoadsAgain, AreRows, IsKept, IsLoadAgain, IsOwnUnit, IsSettledRow, row_alone}
+use Rattle.parallel_load.specs.LoadRows.{AreLoadsAgain, AreReadOrLeft, AreRows, IsKept, IsLoadAgain, IsOwnUnit, IsSettledRow, row_alone}
 use Rattle.parallel_load.specs.Loads.{AreNamedAlone, IsLoad, LoadMap, with_lists}
 use Rattle.parallel_load.specs.Numbering.{AreNumbered, IsMainNumber, main_name}
 use Rattle.parallel_load.specs.OwnWords.{AreOwnWords}
@@ -39,6 +38,7 @@ use Rattle.parallel_load.specs.Settled.{AreSettled, list_numbers, load_numbers, 
 use Rattle.parallel_load.specs.Touched.{HasParts, KeepsWords}
 use Rattle.parallel_load.specs.Universe.{AreUniverse, IsTooLarge}
 use Rattle.parallel_load.specs.UniverseLaws.{sorted_from}
+use Rattle.parallel_load.proofs.Keeping.{get_among}
 use Rattle.parallel_load.proofs.Numbering.{IsReady, is_ready, row_settled}
 use Rattle.parallel_load.proofs.Settling.{load_is, not_too_large, whole_found}
 use Rattle.parallel_load.proofs.Staying.{one_stays, same_leads, same_mains, same_words, words_stay}
@@ -82,12 +82,7 @@ main_alone n (OfUnit u) lists = refl
 main_alone n (OfAlias m) lists = refl
 
 pub item_among : {X : Type 0} (xs : List X) (i : ℕ) (x : X) → i < length xs → x ≡ get_or xs i x → IsAmong x xs
-item_among {X} xs i x l e = subst (λ (y : X). IsAmong y xs) (sym e) (among xs i l)
-  where
-    among : (ys : List X) (k : ℕ) → k < length ys → IsAmong (get_or ys k x) ys
-    among [] k h = absurd (omega arith)
-    among (y ∷ ys) zero h = inl refl
-    among (y ∷ ys) (suc k) h = inr (among ys k (omega arith))
+item_among xs i x l e = subst (λ y. IsAmong y xs) (sym e) (get_among xs i x l)
 
 -- ---- rows of which some were read again
 
@@ -173,54 +168,16 @@ lists_length (r ∷ rows) = ap suc (lists_length rows)
 pub one_each : (names : List (Name × NameLoad)) (named : List (List DependencyList)) (table : List (List Dependency)) (ms : List (Name × ℕ)) → IsKept names named table ms → length named ≡ length names
 one_each names named table ms k = ap length k.are_rows.named_are ∙ lists_length k.all ∙ sym (ap length k.are_rows.names_are)
 
-pub again_none : (t : View) (folders : List (List ℕ)) (ms : List (Name × ℕ)) (named : List (List DependencyList)) (news : List (Name × NameLoad)) → news ≡ [] → AreLoadsAgain t folders ms [] named news
-again_none t folders ms named news e = let P : List (Name × NameLoad) → Type 0 = λ ws. AreLoadsAgain t folders ms [] named ws in subst P (sym e) tt
-
--- one name more
-pub again_more : (t : View) (folders : List (List ℕ)) (ms : List (Name × ℕ)) (olds : List (Name × NameLoad)) (named : List (List DependencyList)) (news : List (Name × NameLoad))
-    (old : Name × NameLoad) (lists : List DependencyList) (new : Name × NameLoad) → length olds < length named → lists ≡ get_or named (length olds) lists → new.0 ≡ old.0
-    → IsLoadAgain t folders ms old lists new.1 → AreLoadsAgain t folders ms olds named news → AreLoadsAgain t folders ms (olds ++ old ∷ []) named (news ++ new ∷ [])
-again_more t folders ms [] [] [] old lists new l e n r h = absurd (omega (arith, l))
-again_more t folders ms [] (x ∷ named) [] old lists new l e n r h =
-    let P : List DependencyList → Type 0 = λ ls. IsLoadAgain t folders ms old ls new.1 in
-    (n, subst P e r, tt)
-again_more t folders ms [] named (w ∷ news) old lists new l e n r h = absurd h
-again_more t folders ms (o ∷ olds) named [] old lists new l e n r h = absurd h
-again_more t folders ms (o ∷ olds) [] (w ∷ news) old lists new l e n r h = absurd h
-again_more t folders ms (o ∷ olds) (x ∷ named) (w ∷ news) old lists new l e n r h =
-    (h.0, h.1, again_more t folders ms olds named news old lists new (omega (arith, l)) e n r h.2)
-
-pub again_next : (t : View) (folders : List (List ℕ)) (ms : List (Name × ℕ)) (names : List (Name × NameLoad)) (named : List (List DependencyList)) (i : ℕ) (news : List (Name × NameLoad))
-    (old : Name × NameLoad) (lists : List DependencyList) (new : Name × NameLoad) → i < length names → length named ≡ length names → old ≡ get_or names i old → lists ≡ get_or named i lists
-    → new.0 ≡ old.0 → IsLoadAgain t folders ms old lists new.1 → AreLoadsAgain t folders ms (take i names) named news → AreLoadsAgain t folders ms (take (i + 1) names) named (news ++ new ∷ [])
-again_next t folders ms names named i news old lists new l each o e n r h =
-    let P : List (Name × NameLoad) → Type 0 = λ olds. AreLoadsAgain t folders ms olds named (news ++ new ∷ []) in
-    let count : length (take i names) ≡ i = taken names i l in
-    subst P (sym (take_more names i old l ∙ ap (λ (y : Name × NameLoad). take i names ++ y ∷ []) (sym o)))
-    (again_more t folders ms (take i names) named news old lists new (omega (arith, count, l, each)) (e ∙ ap (λ (k : ℕ). get_or named k lists) (sym count)) n r h)
-  where
-    taken : (xs : List (Name × NameLoad)) (k : ℕ) → k < length xs → length (take k xs) ≡ k
-    taken xs zero h = refl
-    taken [] (suc k) h = absurd (omega arith)
-    taken (x ∷ xs) (suc k) h = ap suc (taken xs k (omega arith))
-
--- they are that for an equal host
-again_as : (store : EntryMap) (h k : Looker) (folders : List (List ℕ)) (ms ns : List (Name × ℕ)) (olds names : List (Name × NameLoad)) (lists named : List (List DependencyList))
-    (news : List (Name × NameLoad)) → h ≡ k → ms ≡ ns → olds ≡ names → lists ≡ named → AreLoadsAgain (view_of store h) folders ms olds lists news → AreLoadsAgain (view_of store k) folders ns names named news
-again_as store h k folders ms ns olds names lists named news e f g d a =
-    let P : Looker → Type 0 = λ x. AreLoadsAgain (view_of store x) folders ns names named news in
-    let Q : List (Name × ℕ) → Type 0 = λ x. AreLoadsAgain (view_of store h) folders x names named news in
-    let R : List (Name × NameLoad) → Type 0 = λ x. AreLoadsAgain (view_of store h) folders ms x named news in
-    let S : List (List DependencyList) → Type 0 = λ x. AreLoadsAgain (view_of store h) folders ms olds x news in
+-- so units that are read again are that for an equal host
+pub read_for : (store : EntryMap) (h k : Looker) (hit : List ℕ) (ms ns : List (Name × ℕ)) (olds names : List (Name × NameLoad)) (lists named : List (List DependencyList))
+    (units : List (ℕ × NameLoad)) → h ≡ k → ms ≡ ns → olds ≡ names → lists ≡ named → AreReadOrLeft (view_of store h) ms hit olds lists (with_loads olds units)
+    → AreReadOrLeft (view_of store k) ns hit names named (with_loads names units)
+read_for store h k hit ms ns olds names lists named units e f g d a =
+    let P : Looker → Type 0 = λ x. AreReadOrLeft (view_of store x) ns hit names named (with_loads names units) in
+    let Q : List (Name × ℕ) → Type 0 = λ x. AreReadOrLeft (view_of store h) x hit names named (with_loads names units) in
+    let R : List (Name × NameLoad) → Type 0 = λ x. AreReadOrLeft (view_of store h) ms hit x named (with_loads x units) in
+    let S : List (List DependencyList) → Type 0 = λ x. AreReadOrLeft (view_of store h) ms hit olds x (with_loads olds units) in
     subst P e (subst Q f (subst R g (subst S d a)))
-
--- the same of names with some units in place of others
-pub again_for : (store : EntryMap) (h k : Looker) (folders : List (List ℕ)) (ms ns : List (Name × ℕ)) (olds names : List (Name × NameLoad)) (lists named : List (List DependencyList))
-    (units : List (ℕ × NameLoad)) → h ≡ k → ms ≡ ns → olds ≡ names → lists ≡ named → AreLoadsAgain (view_of store h) folders ms olds lists (with_loads olds units)
-    → AreLoadsAgain (view_of store k) folders ns names named (with_loads names units)
-again_for store h k folders ms ns olds names lists named units e f g d a =
-    let P : List (Name × NameLoad) → Type 0 = λ x. AreLoadsAgain (view_of store k) folders ns names named (with_loads x units) in
-    subst P g (again_as store h k folders ms ns olds names lists named (with_loads olds units) e f g d a)
 
 -- rows with what their names stand for now
 abbrev rows_with : List Settled → List (Name × NameLoad) → List Settled

@@ -1,9 +1,8 @@
--- What is apart from all names of a unit isn't in the unit's footprint.
-use Rattle.std.proofs.Common.{◌≡◌, ◌<◌, ◌≤◌, ℕ, zero, suc, true, false, Option, Some, None, List, [], ◌∷◌, ◌++◌, codes, length, get_or, map, refl, ap, sym, ◌∙◌, subst, inl, inr, arith, append_assoc, length-append}
+-- What is in a unit's footprint begins as one of its names does.
+use Rattle.std.proofs.Common.{◌≡◌, ℕ, true, false, Option, Some, None, List, [], ◌∷◌, ◌++◌, codes, get_or, drop, map, refl, ap, sym, ◌∙◌, subst, inl, inr, append_assoc}
 use Rattle.std.specs.Prelude.{◌⊎◌}
 use Rattle.std.specs.List.{All, flat_map, list_any}
-use Rattle.std.proofs.lemmas.Bool.{cases_lt, true≢false}
-use Rattle.std.proofs.lemmas.List.Elements.{All-weaker}
+use Rattle.std.proofs.lemmas.Bool.{or_left, or_parts, or_right, true≢false}
 use Rattle.std.proofs.lemmas.Option.{none-some, same_Some}
 use Rattle.list_laws.specs.Members.{IsAmong, IsAmong-append_cases, contains_from_among}
 use Rattle.unit_name.specs.declared.kinds.Kind.{Kind}
@@ -22,74 +21,81 @@ use Rattle.dropins.specs.declared.link_names.Folder.TheVariants.{Wants, Requires
 use Rattle.unit_loads.specs.Elsewhere.{unit_folders}
 use Rattle.unit_loads.specs.Footprints.{footprint}
 use Rattle.unit_loads.specs.MemberLaws.{among_flat_map, among_map}
-use Rattle.parallel_load.specs.Apart.{IsApart, IsFar, IsOfNoType, is_mark}
+use Rattle.parallel_load.specs.Fronts.{BeginsWith, EndsInDash, HasNoStop, IsFrontOf, IsOfNoType, is_stop}
 use Rattle.parallel_load.specs.UniverseLaws.{all_among}
 
--- both begin alike, up to a mark
-record BothBegin (part n : List ℕ) : Type 0 where
+-- The part is a front with a stop behind it, and the name begins so: with the stop too, or the front ends in a dash.
+pub record BothBegin (part n : List ℕ) : Type 0 where
   front : List ℕ
-  mark : ℕ
+  stop : ℕ
   rest : List ℕ
   others : List ℕ
-  marked : is_mark mark ≡ true
-  part_is : part ≡ front ++ mark ∷ rest
-  name_is : n ≡ front ++ mark ∷ others
+  stopped : is_stop stop ≡ true
+  part_is : part ≡ front ++ stop ∷ rest
+  name_is : n ≡ front ++ others
+  then : ((more : List ℕ) × (others ≡ stop ∷ more)) ⊎ EndsInDash front
 
--- ---- what begins alike isn't apart
+-- ---- what begins alike begins with the part's front
 
-common : (front : List ℕ) (m : ℕ) (q r : List ℕ) (k : ℕ) → k ≤ length front → get_or (front ++ m ∷ q) k 0 ≡ get_or (front ++ m ∷ r) k 0
-common [] m q r zero l = refl
-common [] m q r (suc k) l = absurd (omega arith)
-common (b ∷ front) m q r zero l = refl
-common (b ∷ front) m q r (suc k) l = common front m q r k (omega arith)
-
-mark_there : (front : List ℕ) (m : ℕ) (r : List ℕ) → get_or (front ++ m ∷ r) (length front) 0 ≡ m
-mark_there [] m r = refl
-mark_there (b ∷ front) m r = mark_there front m r
-
-longer : (front : List ℕ) (m : ℕ) (q : List ℕ) (k : ℕ) → k ≤ length front → k < length (front ++ m ∷ q)
-longer front m q k l = omega (arith, length-append front (m ∷ q), l)
-
-never : (part n : List ℕ) → IsApart part n → BothBegin part n → ⊥
-never part n a b = by (cases_lt (length b.front) a.place)
+-- where one list is cut at a stop, and first at another place, that is the same or lies before
+cut_first : (x y : List ℕ) (a b : ℕ) (r q : List ℕ) → HasNoStop x → is_stop b ≡ true → x ++ a ∷ r ≡ y ++ b ∷ q → ((x ≡ y) × (a ≡ b)) ⊎ ((more : List ℕ) × (y ≡ x ++ a ∷ more))
+cut_first [] [] a b r q plain stopped e = inl (refl, ap (λ (l : List ℕ). get_or l 0 a) e)
+cut_first [] (c ∷ ys) a b r q plain stopped e = inr (ys, ap (λ (z : ℕ). z ∷ ys) (sym (ap (λ (l : List ℕ). get_or l 0 a) e)))
+cut_first (c ∷ xs) [] a b r q plain stopped e =
+    let same : c ≡ b = ap (λ (l : List ℕ). get_or l 0 c) e in
+    absurd (true≢false (sym stopped ∙ ap is_stop (sym same) ∙ (or_parts (is_stop c) (list_any is_stop xs) plain).0))
+cut_first (c ∷ xs) (d ∷ ys) a b r q plain stopped e =
+    by (cut_first xs ys a b r q (or_parts (is_stop c) (list_any is_stop xs) plain).1 stopped (ap (drop 1) e))
   where
-    by : (length b.front < a.place) ⊎ (a.place ≤ length b.front) → ⊥
-    by (inl l) =
-        let there : get_or n (length b.front) 0 ≡ b.mark = ap (λ (xs : List ℕ). get_or xs (length b.front) 0) b.name_is ∙ mark_there b.front b.mark b.others in
-        true≢false (sym b.marked ∙ ap is_mark (sym there) ∙ a.unmarked (length b.front) l)
-    by (inr l) =
-        let P : List ℕ → Type 0 = λ xs. a.place < length xs in
-        a.other (subst P (sym b.part_is) (longer b.front b.mark b.rest a.place l))
-        (ap (λ (xs : List ℕ). get_or xs a.place 0) b.part_is ∙ common b.front b.mark b.rest b.others a.place l ∙ sym (ap (λ (xs : List ℕ). get_or xs a.place 0) b.name_is))
+    same : c ≡ d
+    same = ap (λ (l : List ℕ). get_or l 0 c) e
+
+    by : ((xs ≡ ys) × (a ≡ b)) ⊎ ((more : List ℕ) × (ys ≡ xs ++ a ∷ more)) → ((c ∷ xs ≡ d ∷ ys) × (a ≡ b)) ⊎ ((more : List ℕ) × (d ∷ ys ≡ c ∷ xs ++ a ∷ more))
+    by (inl h) = inl (ap (λ (l : List ℕ). c ∷ l) h.0 ∙ ap (λ (z : ℕ). z ∷ ys) same, h.1)
+    by (inr h) = inr (h.0, ap (λ (l : List ℕ). d ∷ l) h.1 ∙ ap (λ (z : ℕ). z ∷ xs ++ a ∷ h.0) (sym same))
+
+pub front_begins : (part front n : List ℕ) → IsFrontOf part front → BothBegin part n → BeginsWith front n
+front_begins part front n f b = by (cut_first f.before b.front f.stop b.stop f.rest b.rest f.plain b.stopped (sym f.is ∙ b.part_is)) f.front_is b.then
+  where
+    -- the name begins with the front and its stop, or with the front alone
+    with_stop : (z : List ℕ) → n ≡ f.before ++ f.stop ∷ z → ((front ≡ f.before) × EndsInDash f.before) ⊎ ((front ≡ f.before ++ f.stop ∷ []) × ¬ EndsInDash f.before) → BeginsWith front n
+    with_stop z e (inl h) = record { rest = f.stop ∷ z; is = e ∙ ap (λ (l : List ℕ). l ++ f.stop ∷ z) (sym h.0) }
+    with_stop z e (inr h) = record { rest = z; is = e ∙ sym (append_assoc f.before (f.stop ∷ []) z) ∙ ap (λ (l : List ℕ). l ++ z) (sym h.0) }
+
+    by : ((f.before ≡ b.front) × (f.stop ≡ b.stop)) ⊎ ((more : List ℕ) × (b.front ≡ f.before ++ f.stop ∷ more))
+        → ((front ≡ f.before) × EndsInDash f.before) ⊎ ((front ≡ f.before ++ f.stop ∷ []) × ¬ EndsInDash f.before) → ((more : List ℕ) × (b.others ≡ b.stop ∷ more)) ⊎ EndsInDash b.front
+        → BeginsWith front n
+    by (inr h) is then =
+        with_stop (h.0 ++ b.others) (b.name_is ∙ ap (λ (l : List ℕ). l ++ b.others) h.1 ∙ append_assoc f.before (f.stop ∷ h.0) b.others) is
+    by (inl h) is (inl m) =
+        with_stop m.0 (b.name_is ∙ ap (λ (l : List ℕ). l ++ b.others) (sym h.0) ∙ ap (λ (l : List ℕ). f.before ++ l) m.1 ∙ ap (λ (z : ℕ). f.before ++ z ∷ m.0) (sym h.1)) is
+    by (inl h) (inl k) (inr d) = record { rest = b.others; is = b.name_is ∙ ap (λ (l : List ℕ). l ++ b.others) (sym h.0 ∙ sym k.0) }
+    by (inl h) (inr k) (inr d) = absurd (k.1 (subst EndsInDash (sym h.0) d))
 
 -- ---- what stands behind a prefix
 
 record IsBehind (p x : List ℕ) : Type 0 where
-  mark : ℕ
+  stop : ℕ
   rest : List ℕ
-  marked : is_mark mark ≡ true
-  is : x ≡ p ++ mark ∷ rest
+  stopped : is_stop stop ≡ true
+  is : x ≡ p ++ stop ∷ rest
 
 behind : (s : Shape) (p i k : List ℕ) → IsBehind p (name_with s p i k)
-behind Plain p i k = record { mark = 46; rest = k; marked = refl; is = refl }
-behind Template p i k = record { mark = 64; rest = 46 ∷ k; marked = refl; is = refl }
-behind Instance p i k = record { mark = 64; rest = i ++ 46 ∷ k; marked = refl; is = append_assoc p (64 ∷ i) (46 ∷ k) }
+behind Plain p i k = record { stop = 46; rest = k; stopped = refl; is = refl }
+behind Template p i k = record { stop = 64; rest = 46 ∷ k; stopped = refl; is = refl }
+behind Instance p i k = record { stop = 64; rest = i ++ 46 ∷ k; stopped = refl; is = append_assoc p (64 ∷ i) (46 ∷ k) }
 
 own_behind : (n : Name) → IsName n → IsBehind (prefix n) n
 own_behind n h =
     let b = behind (shape n) (prefix n) (instance n) (suffix n) in
-    record { mark = b.mark; rest = b.rest; marked = b.marked; is = sym (names_are_their_parts n h) ∙ b.is }
-
--- what begins with a cut begins with what stands before its last dash, and with that
-behind_cut : (p c : List ℕ) (f : IsDashedFront p c) (x z : List ℕ) → x ≡ c ++ z → x ≡ f.start ++ 45 ∷ z
-behind_cut p c f x z e = e ∙ ap (λ (w : List ℕ). w ++ z) f.ends_in_dash ∙ append_assoc f.start (45 ∷ []) z
+    record { stop = b.stop; rest = b.rest; stopped = b.stopped; is = sym (names_are_their_parts n h) ∙ b.is }
 
 -- ---- the folders of a name
 
 own_begins : (n : Name) → IsName n → BothBegin n n
 own_begins n h =
     let b = own_behind n h in
-    record { front = prefix n; mark = b.mark; rest = b.rest; others = b.rest; marked = b.marked; part_is = b.is; name_is = b.is }
+    record { front = prefix n; stop = b.stop; rest = b.rest; others = b.stop ∷ b.rest; stopped = b.stopped; part_is = b.is; name_is = b.is; then = inl (b.rest, refl) }
 
 template_begins : (n : Name) (g : Name) → IsName n → template_of n ≡ Some g → BothBegin g n
 template_begins n g h e = by (shape n) refl e
@@ -97,12 +103,13 @@ template_begins n g h e = by (shape n) refl e
     made : shape n ≡ Instance → g ≡ template_name (prefix n) (suffix n) → BothBegin g n
     made s t = record {
       front = prefix n;
-      mark = 64;
+      stop = 64;
       rest = 46 ∷ suffix n;
-      others = instance n ++ 46 ∷ suffix n;
-      marked = refl;
+      others = 64 ∷ instance n ++ 46 ∷ suffix n;
+      stopped = refl;
       part_is = t;
       name_is = sym (names_are_their_parts n h) ∙ ap (λ (sh : Shape). name_with sh (prefix n) (instance n) (suffix n)) s ∙ append_assoc (prefix n) (64 ∷ instance n) (46 ∷ suffix n);
+      then = inl (instance n ++ 46 ∷ suffix n, refl);
     }
 
     by : (s : Shape) → shape n ≡ s → template_at s n ≡ Some g → BothBegin g n
@@ -112,27 +119,24 @@ template_begins n g h e = by (shape n) refl e
 
 -- a name with a cut of its prefix, and that name's template
 module _ (n : Name) (h : IsName n) (c : List ℕ) (f : IsDashedFront (prefix n) c) where
-  name_begins : (z : List ℕ) × (n ≡ f.start ++ 45 ∷ z)
-  name_begins =
+  begins_with_cut : (g : Name) (stop : ℕ) (rest : List ℕ) → is_stop stop ≡ true → g ≡ c ++ stop ∷ rest → BothBegin g n
+  begins_with_cut g stop rest stopped e =
       let b = own_behind n h in
-      let z : List ℕ = f.next ∷ f.rest ++ b.mark ∷ b.rest in
-      (z, behind_cut (prefix n) c f n z (b.is ∙ ap (λ (w : List ℕ). w ++ b.mark ∷ b.rest) f.proper ∙ append_assoc c (f.next ∷ f.rest) (b.mark ∷ b.rest)))
-
-  begins_with_cut : (g : Name) (z : List ℕ) → g ≡ c ++ z → BothBegin g n
-  begins_with_cut g z e = record {
-    front = f.start;
-    mark = 45;
-    rest = z;
-    others = name_begins.0;
-    marked = refl;
-    part_is = behind_cut (prefix n) c f g z e;
-    name_is = name_begins.1;
-  }
+      record {
+        front = c;
+        stop = stop;
+        rest = rest;
+        others = f.next ∷ f.rest ++ b.stop ∷ b.rest;
+        stopped = stopped;
+        part_is = e;
+        name_is = b.is ∙ ap (λ (w : List ℕ). w ++ b.stop ∷ b.rest) f.proper ∙ append_assoc c (f.next ∷ f.rest) (b.stop ∷ b.rest);
+        then = inr (record { start = f.start; is = f.ends_in_dash });
+      }
 
   cut_begins : BothBegin (with_prefix n c) n
   cut_begins =
       let b = behind (shape n) c (instance n) (suffix n) in
-      begins_with_cut (with_prefix n c) (b.mark ∷ b.rest) b.is
+      begins_with_cut (with_prefix n c) b.stop b.rest b.stopped b.is
 
   cut_template_begins : (g : Name) → template_of (with_prefix n c) ≡ Some g → BothBegin g n
   cut_template_begins g e =
@@ -144,10 +148,10 @@ module _ (n : Name) (h : IsName n) (c : List ℕ) (f : IsDashedFront (prefix n) 
       by same Plain t = absurd (none-some _ t)
       by same Template t = absurd (none-some _ t)
       by same Instance t =
-          begins_with_cut g (64 ∷ 46 ∷ suffix (with_prefix n c))
+          begins_with_cut g 64 (46 ∷ suffix (with_prefix n c)) refl
           (sym (same_Some _ _ t) ∙ ap (λ (p : List ℕ). template_name p (suffix (with_prefix n c))) same)
 
-listed_is : (g : Name) (o : Option Name) → IsAmong g (listed o) → o ≡ Some g
+pub listed_is : (g : Name) (o : Option Name) → IsAmong g (listed o) → o ≡ Some g
 listed_is g None h = absurd h
 listed_is g (Some x) (inl e) = ap Some e
 listed_is g (Some x) (inr h) = absurd h
@@ -173,12 +177,13 @@ folder_begins n h g a = by (IsAmong-append_cases g (with_template n) (flat_map (
 ended : (g n end : List ℕ) → BothBegin g n → BothBegin (g ++ end) n
 ended g n end b = record {
   front = b.front;
-  mark = b.mark;
+  stop = b.stop;
   rest = b.rest ++ end;
   others = b.others;
-  marked = b.marked;
-  part_is = ap (λ (w : List ℕ). w ++ end) b.part_is ∙ append_assoc b.front (b.mark ∷ b.rest) end;
+  stopped = b.stopped;
+  part_is = ap (λ (w : List ℕ). w ++ end) b.part_is ∙ append_assoc b.front (b.stop ∷ b.rest) end;
   name_is = b.name_is;
+  then = b.then;
 }
 
 -- ---- types
@@ -201,20 +206,27 @@ type_has_no_dot n h = let m = made_of_name n h in ap (list_any is_dot) (suffix_i
 
 -- ---- the footprint
 
-module _ (part : List ℕ) (names : List Name) (typeless : IsOfNoType part) (far : All (IsFar part) names) where
-  lawful : All IsName names
-  lawful = All-weaker (IsFar part) IsName (λ n f. f.lawful) names far
+-- one of these names begins as the part does
+pub record OneBegins (part : List ℕ) (names : List Name) : Type 0 where
+  name : Name
+  there : IsAmong name names
+  alike : BothBegin part name
 
-  -- it is no folder of these names with an ending
-  no_dir : (end : List ℕ) → IsAmong part (dirs_with end (folders names)) → ⊥
-  no_dir end a =
+module _ (part : List ℕ) (names : List Name) (typeless : IsOfNoType part) (lawful : All IsName names) where
+  -- a folder of these names with an ending
+  dir_begins : (end : List ℕ) → IsAmong part (dirs_with end (folders names)) → OneBegins part names
+  dir_begins end a =
       let r = among_map (λ (n : Name). n ++ end) (folders names) part a in
       let q = among_flat_map folders_of names r.source (among_firsts r.source (flat_map folders_of names) r.there) in
-      let f = all_among (IsFar part) names q.source far q.there in
-      never part q.source f.apart
-      (subst (λ (x : List ℕ). BothBegin x q.source) r.makes (ended r.source q.source end (folder_begins q.source f.lawful r.source q.makes)))
+      record {
+        name = q.source;
+        there = q.there;
+        alike =
+            subst (λ (x : List ℕ). BothBegin x q.source) r.makes
+            (ended r.source q.source end (folder_begins q.source (all_among IsName names q.source lawful q.there) r.source q.makes));
+      }
 
-  -- nor a type's
+  -- it is no type's
   no_type : IsAmong part (type_dirs (folders names)) → ⊥
   no_type a =
       let r = among_map (λ (n : Name). n ++ codes ".d") (types_of (folders names)) part a in
@@ -222,25 +234,43 @@ module _ (part : List ℕ) (names : List Name) (typeless : IsOfNoType part) (far
       let name = all_among IsName (folders names) q.source (folders_are_names names lawful) q.there in
       true≢false (sym (typeless r.source (sym r.makes)) ∙ ap (list_any is_dot) (sym q.makes) ∙ type_has_no_dot q.source name)
 
-  no_folder : IsAmong part (unit_folders names) → ⊥
-  no_folder a = by (IsAmong-append_cases part (name_dirs (folders names)) _ a)
+  unit_folder_begins : IsAmong part (unit_folders names) → OneBegins part names
+  unit_folder_begins a = by (IsAmong-append_cases part (name_dirs (folders names)) _ a)
     where
-      last : IsAmong part (dirs_with (ending Wants) (folders names)) ⊎ IsAmong part (dirs_with (ending Requires) (folders names)) → ⊥
-      last (inl k) = no_dir (ending Wants) k
-      last (inr k) = no_dir (ending Requires) k
+      last : IsAmong part (dirs_with (ending Wants) (folders names)) ⊎ IsAmong part (dirs_with (ending Requires) (folders names)) → OneBegins part names
+      last (inl k) = dir_begins (ending Wants) k
+      last (inr k) = dir_begins (ending Requires) k
 
-      more : IsAmong part (type_dirs (folders names)) ⊎ IsAmong part (dirs_with (ending Wants) (folders names) ++ dirs_with (ending Requires) (folders names)) → ⊥
-      more (inl k) = no_type k
+      more : IsAmong part (type_dirs (folders names)) ⊎ IsAmong part (dirs_with (ending Wants) (folders names) ++ dirs_with (ending Requires) (folders names)) → OneBegins part names
+      more (inl k) = absurd (no_type k)
       more (inr k) = last (IsAmong-append_cases part (dirs_with (ending Wants) (folders names)) (dirs_with (ending Requires) (folders names)) k)
 
       by : IsAmong part (name_dirs (folders names))
-          ⊎ IsAmong part (type_dirs (folders names) ++ (dirs_with (ending Wants) (folders names) ++ dirs_with (ending Requires) (folders names))) → ⊥
-      by (inl k) = no_dir (codes ".d") k
+          ⊎ IsAmong part (type_dirs (folders names) ++ (dirs_with (ending Wants) (folders names) ++ dirs_with (ending Requires) (folders names))) → OneBegins part names
+      by (inl k) = dir_begins (codes ".d") k
       by (inr k) = more (IsAmong-append_cases part (type_dirs (folders names)) (dirs_with (ending Wants) (folders names) ++ dirs_with (ending Requires) (folders names)) k)
 
-  pub far_missed : (name : Name) → IsFar part name → ¬ IsAmong part (footprint name names)
-  far_missed name f a = by (IsAmong-append_cases part (with_template name) (unit_folders names) a)
+  -- what is in the footprint begins as the name does, or as another of the unit's
+  pub footprint_begins : (name : Name) → IsName name → IsAmong part (footprint name names) → OneBegins part (name ∷ names)
+  footprint_begins name own a = by (IsAmong-append_cases part (with_template name) (unit_folders names) a)
     where
-      by : IsAmong part (with_template name) ⊎ IsAmong part (unit_folders names) → ⊥
-      by (inl k) = never part name f.apart (with_template_begins name f.lawful part k)
-      by (inr k) = no_folder k
+      by : IsAmong part (with_template name) ⊎ IsAmong part (unit_folders names) → OneBegins part (name ∷ names)
+      by (inl k) = record { name = name; there = inl refl; alike = with_template_begins name own part k }
+      by (inr k) = let o = unit_folder_begins k in record { name = o.name; there = inr o.there; alike = o.alike }
+
+-- so one of the unit's names begins with the part's front
+pub names_begin : (part front : List ℕ) (name : Name) (names : List Name) → IsFrontOf part front → IsOfNoType part → IsName name → All IsName names → IsAmong part (footprint name names)
+    → (m : Name) × (IsAmong m (name ∷ names) × BeginsWith front m)
+names_begin part front name names f typeless own lawful a =
+    let o = footprint_begins part names typeless lawful name own a in
+    (o.name, (o.there, front_begins part front o.name f o.alike))
+
+-- and a part without a stop is in none
+pub stopless : (part : List ℕ) (name : Name) (names : List Name) → HasNoStop part → IsOfNoType part → IsName name → All IsName names → ¬ IsAmong part (footprint name names)
+stopless part name names none typeless own lawful a =
+    let o = footprint_begins part names typeless lawful name own a in
+    true≢false (sym (has_stop o.alike.front o.alike.stop o.alike.rest o.alike.stopped) ∙ ap (list_any is_stop) (sym o.alike.part_is) ∙ none)
+  where
+    has_stop : (x : List ℕ) (b : ℕ) (q : List ℕ) → is_stop b ≡ true → list_any is_stop (x ++ b ∷ q) ≡ true
+    has_stop [] b q e = or_left (is_stop b) (list_any is_stop q) e
+    has_stop (c ∷ x) b q e = or_right (is_stop c) (list_any is_stop (x ++ b ∷ q)) (has_stop x b q e)

@@ -1,5 +1,5 @@
 -- Facts that hold of each element of a list, and lists that are compared.
-use Rattle.std.proofs.Common.{◌≡◌, ◌<◌, ◌+◌, ◌||◌, ℕ, Bool, true, false, List, [], ◌∷◌, ◌++◌, length, get_or, take, refl, ap, sym, ◌∙◌, subst, inl, inr}
+use Rattle.std.proofs.Common.{◌≡◌, ◌<◌, ◌+◌, ◌||◌, ℕ, zero, suc, Bool, true, false, List, [], ◌∷◌, ◌++◌, length, get_or, take, refl, ap, sym, ◌∙◌, subst, inl, inr, arith}
 use denote.Enum.Bare.{same_true}
 use Rattle.std.specs.Prelude.{◌↔◌, IsPermutation, IsSorted}
 use Rattle.std.specs.List.{All, dedup, list_any}
@@ -24,6 +24,24 @@ use Rattle.parallel_load.specs.SameLaws.{first_true, same_by, second_true}
 pub all_more : {X : Type 0} (P : X → Type 0) (xs : List X) (i : ℕ) (d x : X) → i < length xs → x ≡ get_or xs i d → All P (take i xs) → P x → All P (take (i + 1) xs)
 all_more P xs i d x l e h p =
     subst (All P) (sym (take_more xs i d l ∙ ap (λ y. take i xs ++ y ∷ []) (sym e))) (All-append P (take i xs) (x ∷ []) h (All-cons P x [] p (All-nil P)))
+
+-- what stands at a place, whatever stands for none
+pub any_at : {X : Type 0} (xs : List X) (i : ℕ) (d e : X) → i < length xs → get_or xs i d ≡ get_or xs i e
+any_at [] i d e l = absurd (omega arith)
+any_at (x ∷ xs) zero d e l = refl
+any_at (x ∷ xs) (suc i) d e l = any_at xs i d e (omega arith)
+
+-- what stands at a place is among all
+pub get_among : {X : Type 0} (xs : List X) (i : ℕ) (d : X) → i < length xs → IsAmong (get_or xs i d) xs
+get_among [] i d l = absurd (omega arith)
+get_among (x ∷ xs) zero d l = inl refl
+get_among (x ∷ xs) (suc i) d l = inr (get_among xs i d (omega arith))
+
+-- and what is among all stands at a place
+pub place_among : {X : Type 0} (x d : X) (xs : List X) → IsAmong x xs → (i : ℕ) × ((i < length xs) × (get_or xs i d ≡ x))
+place_among x d [] a = absurd a
+place_among x d (y ∷ xs) (inl e) = (0, (omega arith, e))
+place_among x d (y ∷ xs) (inr a) = let r = place_among x d xs a in let l = r.1.0 in (suc r.0, (omega arith, r.1.1))
 
 -- ---- lists that are compared
 

@@ -1,12 +1,17 @@
 mod Again
 mod Begins
 mod Closing
+mod Cutting
 mod Gathering
 mod Keeping
 mod Numbering
 mod Pieces
 mod Rows
+mod SecondNames
+mod Seeking
 mod Settling
+mod SideBySide
 mod Staying
 mod Steps
+mod TypeParts
 mod UnitsPut

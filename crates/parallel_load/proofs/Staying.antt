@@ -5,7 +5,11 @@ use Rattle.std.specs.FinMap.{is_sorted, nat_cmp-IsAntisymmetric, slice_cmp-IsAnt
 use Rattle.std.specs.List.{All}
 use Rattle.std.specs.Map.{keys_of}
 use Rattle.std.specs.Option.{option_copied}
+use Rattle.std.specs.List.Sorted.{IsStrictlySortedBy}
+use Rattle.std.specs.Ordering.{nat_cmp}
+use Rattle.std.proofs.lemmas.Bool.{cases_lt}
 use Rattle.std.proofs.lemmas.List.{map-append, take_all, take_more}
+use Rattle.std.proofs.lemmas.Map.Keys.{below_from_sorted}
 use Rattle.std.proofs.lemmas.List.Elements.{All-append, All-nil, All-cons, All-head, All-tail, All-weaker}
 use Rattle.list_laws.specs.Members.{IsAmong, IsAmong-append_left, IsAmong-append_right}
 use Rattle.load_places.specs.Levels.{Looker, level_for}
@@ -26,8 +30,7 @@ use Rattle.unit_loads.specs.Footprints.StartsIn.{alone, within}
 use Rattle.parallel_load.specs.declared.loaded.NameLoad.{NameLoad}
 use Rattle.parallel_load.specs.declared.loaded.NameLoad.TheVariants.{Unit as OfUnit, Alias as OfAlias}
 use Rattle.parallel_load.specs.Alone.{IsAliasOf, IsLoadAlone}
-use Rattle.parallel_load.specs.Apart.{IsMissedBy}
-use Rattle.parallel_load.specs.Footprints.{IsNone}
+use Rattle.parallel_load.specs.Hits.{AreHit}
 use Rattle.parallel_load.specs.KeyLaws.{sorted_by_keys}
 use Rattle.parallel_load.specs.Loads.{AreNamedAlone, IsNamedAlone, LoadMap, with_lists}
 use Rattle.parallel_load.specs.OwnWordLaws.{words_again, words_are}
@@ -39,7 +42,7 @@ use Rattle.parallel_load.specs.Sources.{AreSourcesBy}
 use Rattle.parallel_load.specs.TouchedLaws.{touched_words_decide}
 use Rattle.parallel_load.specs.Universe.{IsSource}
 use Rattle.parallel_load.specs.UniverseLaws.{all_among}
-use Rattle.parallel_load.proofs.Keeping.{all_more}
+use Rattle.parallel_load.proofs.Keeping.{all_more, any_at, place_among}
 
 -- what is named alone by the name that has a number
 named_at : (s : View) (names : List (Name × NameLoad)) (named : List (List DependencyList)) (i : ℕ) (p : Name × NameLoad) → AreNamedAlone s names named → i < length names
@@ -49,6 +52,12 @@ named_at s [] (x ∷ named) i p h l = absurd h
 named_at s (q ∷ names) [] i p h l = absurd h
 named_at s (q ∷ names) (x ∷ named) zero p h l = h.0
 named_at s (q ∷ names) (x ∷ named) (suc i) p h l = named_at s names named i p h.1 (omega arith)
+
+-- what has none of the numbers that are hit is missed
+pub missed_unless : (folders : List (List ℕ)) (names : List (Name × NameLoad)) (hit : List ℕ) (i : ℕ) (p : Name × NameLoad) (one : NameLoad) → AreHit folders names hit → i < length names
+    → ¬ IsAmong i hit → (get_or names i p).1 ≡ one → IsMissed folders (get_or names i p).0 one
+missed_unless folders names hit i p (OfUnit u) all l none e = λ f a k. none (all f a i l p (record { unit = u; load_is = e; there = k }))
+missed_unless folders names hit i p (OfAlias m) all l none e = tt
 
 module _ (load : LoadMap) (now : EntryMap) (touched : List PlaceParts) (b : IsBefore load now touched) (keep : All (KeepsWords load.host load.words (view_of now load.host)) touched) where
   abbrev s : View
@@ -98,22 +107,26 @@ module _ (load : LoadMap) (now : EntryMap) (touched : List PlaceParts) (b : IsBe
     one_stays n (OfUnit u) lists missed is = unit_stays n (record u { deps = lists }) missed is
     one_stays n (OfAlias m) lists missed is = alias_stays n m is
 
-    still_loaded : (n : Name) (one : NameLoad) → IsStill folders load.names load.named n one → IsLoadAlone t n one
-    still_loaded n one h =
-        let there = named_at s load.names load.named h.number (n, h.load) b.load_is.named h.below in
-        let P : Name × NameLoad → Type 0 = λ q. IsNamedAlone s q.0 q.1 (get_or load.named h.number []) in
-        let here = subst P h.at there in
-        subst (IsLoadAlone t n) (sym h.is) (one_stays n h.load (get_or load.named h.number []) h.missed here.alone)
+    -- what has none of the numbers that are hit is held on
+    module _ (hit : List ℕ) (all : AreHit folders load.names hit) where
+      still_loaded : (n : Name) (one : NameLoad) → IsStill hit load.names load.named n one → IsLoadAlone t n one
+      still_loaded n one h =
+          let there = named_at s load.names load.named h.number (n, h.load) b.load_is.named h.below in
+          let P : Name × NameLoad → Type 0 = λ q. IsNamedAlone s q.0 q.1 (get_or load.named h.number []) in
+          let Q : Name × NameLoad → Type 0 = λ q. IsMissed folders q.0 q.1 in
+          let here = subst P h.at there in
+          let missed = subst Q h.at (missed_unless folders load.names hit h.number (n, h.load) (get_or load.names h.number (n, h.load)).1 all h.below h.left refl) in
+          subst (IsLoadAlone t n) (sym h.is) (one_stays n h.load (get_or load.named h.number []) missed here.alone)
 
-    pub held_loaded : (still : List (Name × Option NameLoad)) → All (λ (p : Name × Option NameLoad). IfSome p.1 (IsStill folders load.names load.named p.0)) still → All (IsHeldOn t) still
-    held_loaded [] h = All-nil (IsHeldOn t)
-    held_loaded (p ∷ still) h =
-        let P : Name × Option NameLoad → Type 0 = λ q. IfSome q.1 (IsStill folders load.names load.named q.0) in
-        All-cons (IsHeldOn t) p still (first p.0 p.1 (All-head P p still h)) (held_loaded still (All-tail P p still h))
-      where
-        first : (n : Name) (o : Option NameLoad) → IfSome o (IsStill folders load.names load.named n) → IfSome o (IsLoadAlone t n)
-        first n None k = tt
-        first n (Some one) k = still_loaded n one k
+      pub held_loaded : (still : List (Name × Option NameLoad)) → All (λ (p : Name × Option NameLoad). IfSome p.1 (IsStill hit load.names load.named p.0)) still → All (IsHeldOn t) still
+      held_loaded [] h = All-nil (IsHeldOn t)
+      held_loaded (p ∷ still) h =
+          let P : Name × Option NameLoad → Type 0 = λ q. IfSome q.1 (IsStill hit load.names load.named q.0) in
+          All-cons (IsHeldOn t) p still (first p.0 p.1 (All-head P p still h)) (held_loaded still (All-tail P p still h))
+        where
+          first : (n : Name) (o : Option NameLoad) → IfSome o (IsStill hit load.names load.named n) → IfSome o (IsLoadAlone t n)
+          first n None k = tt
+          first n (Some one) k = still_loaded n one k
 
 -- names with what stays are in order
 pub held_sorted : (names : List (Name × NameLoad)) (still : List (Name × Option NameLoad)) → keys_of still ≡ keys_of names → IsTrue (is_sorted name_cmp names) → IsTrue (is_sorted name_cmp still)
@@ -128,19 +141,6 @@ held_is s n held at x (Some one) found e loaded v =
     (find_at name_cmp n held at x found ∙ ap (λ (p : Name × Option NameLoad). Some p.1) (sym e)) in
     let P : Option NameLoad → Type 0 = λ o. IfSome o (IsLoadAlone s n) in
     subst P (sym v) (all_among (IsHeldOn s) held (n, x.1) loaded there)
-
--- a footprint that has none of these folders
-pub missed_by : (folders : List (List ℕ)) (n : Name) (u : LoadedUnit) (load : NameLoad) (parts : List (List ℕ)) → load ≡ OfUnit u → parts ≡ footprint n u.names → All (IsNone parts) folders
-    → IsMissed folders n load
-missed_by folders n u load parts e f h =
-    let P : List (List ℕ) → Type 0 = λ ps. All (IsNone ps) folders in
-    subst (IsMissed folders n) (sym e) (λ folder a. all_among (IsNone (footprint n u.names)) folders folder (subst P f h) a)
-
--- or that none can be in, as first bytes tell
-pub missed_far : (folders : List (List ℕ)) (n : Name) (u : LoadedUnit) (load : NameLoad) (names : List Name) → load ≡ OfUnit u → names ≡ u.names → All (IsMissedBy n names) folders → IsMissed folders n load
-missed_far folders n u load names e f h =
-    let P : List Name → Type 0 = λ ns. All (IsMissedBy n ns) folders in
-    subst (IsMissed folders n) (sym e) (λ folder a. all_among (IsMissedBy n u.names) folders folder (subst P f h) a)
 
 -- the parts of one more place
 pub parts_more : (host : Looker) (old new : List (List ℕ)) (touched : List PlaceParts) (i : ℕ) (d x : PlaceParts) → i < length touched → x ≡ get_or touched i d
@@ -158,33 +158,49 @@ pub parts_same : (host : Looker) (parts : List (List ℕ)) (touched : List Place
 parts_same host parts touched i d x l e f h =
     all_more (HasParts host parts) touched i d x l e h (λ s. absurd (let wrong : false ≡ true = sym f ∙ s in cc (wrong)))
 
-same_default : {X : Type 0} (xs : List X) (i : ℕ) (d e : X) → i < length xs → get_or xs i d ≡ get_or xs i e
-same_default [] i d e l = absurd (omega arith)
-same_default (x ∷ xs) zero d e l = refl
-same_default (x ∷ xs) (suc i) d e l = same_default xs i d e (omega arith)
+-- numbers that rise don't fall
+pub numbers_rise : (xs : List ℕ) → IsStrictlySortedBy nat_cmp xs → (i j : ℕ) → i ≤ j → j < length xs → get_or xs i 0 ≤ get_or xs j 0
+numbers_rise xs h i j l m = by (cases_lt i j)
+  where
+    by : (i < j) ⊎ (j ≤ i) → get_or xs i 0 ≤ get_or xs j 0
+    by (inl k) = let b = below_from_sorted xs i j 0 h k m in omega (arith, b)
+    by (inr k) =
+        let e : j ≡ i = omega (arith, k, l) in
+        subst (λ (n : ℕ). get_or xs n 0 ≤ get_or xs j 0) e (omega arith)
+
+-- a number with lesser ones before a place and greater ones from there on is none of them
+pub none_where : (xs : List ℕ) (x at : ℕ) → ((k : ℕ) → k < at → get_or xs k 0 < x) → ((k : ℕ) → at ≤ k → k < length xs → x < get_or xs k 0) → ¬ IsAmong x xs
+none_where xs x at below above a = by (place_among x 0 xs a)
+  where
+    by : (i : ℕ) × ((i < length xs) × (get_or xs i 0 ≡ x)) → ⊥
+    by (i, (l, e)) = which (cases_lt i at)
+      where
+        which : (i < at) ⊎ (at ≤ i) → ⊥
+        which (inl k) = let b = below i k in omega (arith, b, e)
+        which (inr k) = let b = above i k l in omega (arith, b, e)
 
 -- what stays of the name that has a number
-pub still_one : (folders : List (List ℕ)) (names : List (Name × NameLoad)) (named : List (List DependencyList)) (i : ℕ) (x : Name × NameLoad) (lists : List DependencyList) (k : Option NameLoad)
-    → i < length names → length named ≡ length names → x ≡ get_or names i x → lists ≡ get_or named i lists → IfSome k (λ one. one ≡ with_lists x.1 lists) → IfSome k (λ _. IsMissed folders x.0 x.1)
-    → IfSome k (IsStill folders names named x.0)
-still_one folders names named i x lists None l each e f same missed = tt
-still_one folders names named i x lists (Some one) l each e f same missed = record {
+pub still_one : (hit : List ℕ) (names : List (Name × NameLoad)) (named : List (List DependencyList)) (i : ℕ) (x : Name × NameLoad) (lists : List DependencyList) (k : Option NameLoad)
+    → i < length names → length named ≡ length names → x ≡ get_or names i x → lists ≡ get_or named i lists → IfSome k (λ one. one ≡ with_lists x.1 lists) → IfSome k (λ _. ¬ IsAmong i hit)
+    → IfSome k (IsStill hit names named x.0)
+still_one hit names named i x lists None l each e f same left = tt
+still_one hit names named i x lists (Some one) l each e f same left = record {
   number = i;
   below = l;
   load = x.1;
   at = sym e;
-  is = same ∙ ap (with_lists x.1) (f ∙ same_default named i lists [] (omega (arith, l, each)));
-  missed = missed;
+  is = same ∙ ap (with_lists x.1) (f ∙ any_at named i lists [] (omega (arith, l, each)));
+  left = left;
 }
 
 -- so a name more
-pub still_more : (folders : List (List ℕ)) (names : List (Name × NameLoad)) (named : List (List DependencyList)) (i : ℕ) (x : Name × NameLoad) (n : Name) (k : Option NameLoad) (now new : List (Name × Option NameLoad))
-    → i < length names → x ≡ get_or names i x → n ≡ x.0 → IfSome k (IsStill folders names named x.0) → new ≡ now ++ (n, k) ∷ []
-    → (keys_of now ≡ keys_of (take i names)) × All (λ (p : Name × Option NameLoad). IfSome p.1 (IsStill folders names named p.0)) now
-    → (keys_of new ≡ keys_of (take (i + 1) names)) × All (λ (p : Name × Option NameLoad). IfSome p.1 (IsStill folders names named p.0)) new
-still_more folders names named i x n k now new l e key one is h =
-    let P : Name × Option NameLoad → Type 0 = λ p. IfSome p.1 (IsStill folders names named p.0) in
-    let Q : Name → Type 0 = λ m. IfSome k (IsStill folders names named m) in
+pub still_more : (hit : List ℕ) (names : List (Name × NameLoad)) (named : List (List DependencyList)) (i : ℕ) (x : Name × NameLoad) (n : Name) (k : Option NameLoad) (now new : List (Name × Option NameLoad))
+    → i < length names → x ≡ get_or names i x → n ≡ x.0 → IfSome k (IsStill hit names named x.0) → new ≡ now ++ (n, k) ∷ []
+    → (keys_of now ≡ keys_of (take i names)) × All (λ (p : Name × Option NameLoad). IfSome p.1 (IsStill hit names named p.0)) now
+    → (keys_of new ≡ keys_of (take (i + 1) names)) × All (λ (p : Name × Option NameLoad). IfSome p.1 (IsStill hit names named p.0)) new
+still_more hit names named i x n k now new l e key one is h =
+    let P : Name × Option NameLoad → Type 0 = λ p. IfSome p.1 (IsStill hit names named p.0) in
+    let Q : Name → Type 0 = λ m. IfSome k (IsStill hit names named m) in
     let key_of : Name × Option NameLoad → Name = λ p. p.0 in
     let name_of : Name × NameLoad → Name = λ p. p.0 in
     let taken : take (i + 1) names ≡ take i names ++ x ∷ [] = take_more names i x l ∙ ap (λ (y : Name × NameLoad). take i names ++ y ∷ []) (sym e) in (
@@ -194,19 +210,19 @@ still_more folders names named i x n k now new l e key one is h =
     )
 
 -- before the first name
-pub still_none : (folders : List (List ℕ)) (names : List (Name × NameLoad)) (named : List (List DependencyList)) (now : List (Name × Option NameLoad)) → now ≡ []
-    → (keys_of now ≡ keys_of (take 0 names)) × All (λ (p : Name × Option NameLoad). IfSome p.1 (IsStill folders names named p.0)) now
-still_none folders names named now e =
-    let P : Name × Option NameLoad → Type 0 = λ p. IfSome p.1 (IsStill folders names named p.0) in
+pub still_none : (hit : List ℕ) (names : List (Name × NameLoad)) (named : List (List DependencyList)) (now : List (Name × Option NameLoad)) → now ≡ []
+    → (keys_of now ≡ keys_of (take 0 names)) × All (λ (p : Name × Option NameLoad). IfSome p.1 (IsStill hit names named p.0)) now
+still_none hit names named now e =
+    let P : Name × Option NameLoad → Type 0 = λ p. IfSome p.1 (IsStill hit names named p.0) in
     (ap (λ (ps : List (Name × Option NameLoad)). keys_of ps) e, subst (All P) (sym e) (All-nil P))
 
 -- behind the last
-pub still_all : (folders : List (List ℕ)) (names names' : List (Name × NameLoad)) (named named' : List (List DependencyList)) (i : ℕ) (now : List (Name × Option NameLoad))
+pub still_all : (hit : List ℕ) (names names' : List (Name × NameLoad)) (named named' : List (List DependencyList)) (i : ℕ) (now : List (Name × Option NameLoad))
     → names ≡ names' → named ≡ named' → length names ≤ i
-    → (keys_of now ≡ keys_of (take i names)) × All (λ (p : Name × Option NameLoad). IfSome p.1 (IsStill folders names named p.0)) now → AreStill folders names' named' now
-still_all folders names names' named named' i now e f l h =
-    let P : List (Name × NameLoad) → Type 0 = λ ns. AreStill folders ns named' now in
-    let Q : List (List DependencyList) → Type 0 = λ ls. AreStill folders names ls now in
+    → (keys_of now ≡ keys_of (take i names)) × All (λ (p : Name × Option NameLoad). IfSome p.1 (IsStill hit names named p.0)) now → AreStill hit names' named' now
+still_all hit names names' named named' i now e f l h =
+    let P : List (Name × NameLoad) → Type 0 = λ ns. AreStill hit ns named' now in
+    let Q : List (List DependencyList) → Type 0 = λ ls. AreStill hit names ls now in
     subst P e (subst Q f (record { keys_are = h.0 ∙ ap (λ (ps : List (Name × NameLoad)). keys_of ps) (take_all i names l); each = h.1 }))
 
 -- the sources of what is asked for, where the words that are kept are those of the view

@@ -1,12 +1,14 @@
 -- Names with some units put in place of others.
-use Rattle.std.proofs.Common.{◌≡◌, ◌<◌, ◌≤◌, ◌+◌, ℕ, zero, suc, Bool, true, false, not, Some, List, [], ◌∷◌, ◌++◌, take, drop, set, get_or, length, refl, ap, sym, ◌∙◌, subst, inl, inr, arith, append_assoc, append-nil}
+use Rattle.std.proofs.Common.{◌≡◌, ◌≢◌, ◌<◌, ℕ, zero, suc, Bool, true, false, not, Some, List, [], ◌∷◌, ◌++◌, set, get_or, length, refl, ap, sym, ◌∙◌, subst, inl, inr, arith}
+use Rattle.std.specs.Prelude.{◌⊎◌}
 use Rattle.std.specs.Iterator.{Yields}
 use Rattle.std.specs.List.{All}
 use Rattle.std.specs.Map.{keys_of}
 use Rattle.std.specs.Vec.Iter.{into_iter_items, into_iter_steps}
 use Rattle.std.specs.declared.vec.IntoIter.{IntoIter}
-use Rattle.std.proofs.lemmas.List.{drop_all, drop_more, take_all}
-use Rattle.std.proofs.lemmas.List.Elements.{All-nil, All-cons, All-head, All-tail, All-append}
+use Rattle.std.proofs.lemmas.Bool.{cases_eq}
+use Rattle.std.proofs.lemmas.List.Elements.{All-head, All-tail}
+use Rattle.list_laws.specs.Members.{IsAmong, IsAmong-append_cases}
 use Rattle.load_places.specs.Places.{PlaceParts}
 use Rattle.edit_sums.specs.Sums.{EntryMap}
 use Rattle.path_maps.specs.Views.{View, view_of}
@@ -14,12 +16,17 @@ use Rattle.unit_name.specs.Names.{Name}
 use Rattle.setting_rules.specs.declared.dependency_lists.DependencyList.{DependencyList}
 use Rattle.parallel_load.specs.declared.loaded.NameLoad.{NameLoad}
 use Rattle.parallel_load.specs.declared.loaded.Patches.{Patches}
-use Rattle.parallel_load.specs.LoadRows.{AreLoadsAgain, IsKept, IsReadAgain}
+use Rattle.parallel_load.specs.Hits.{AreHit}
+use Rattle.parallel_load.specs.LoadRows.{AreLoadsAgain, AreReadOrLeft, IsKept, IsLoadAgain, IsReadAgain, IsReadOrLeft}
 use Rattle.parallel_load.specs.Loads.{LoadMap}
 use Rattle.parallel_load.specs.Patched.{AreUnitsOf, patched_load, put_load, with_loads}
-use Rattle.parallel_load.specs.Refreshes.{IsBefore, IsMissed}
+use Rattle.parallel_load.specs.Refreshes.{IsBefore}
+use Rattle.parallel_load.specs.SecondNames.{AreSecondNames}
 use Rattle.parallel_load.specs.Touched.{HasParts, KeepsWords}
-use Rattle.parallel_load.proofs.Again.{again_next, again_none, few_is, kept_again, load_again}
+use Rattle.parallel_load.proofs.Again.{few_is, kept_again, load_again, one_each, owns}
+use Rattle.parallel_load.proofs.Keeping.{any_at}
+use Rattle.parallel_load.proofs.SecondNames.{second_again}
+use Rattle.parallel_load.proofs.Staying.{missed_unless}
 
 -- ---- what is put
 
@@ -51,88 +58,103 @@ pub with_more : (names : List (Name × NameLoad)) (units : List (ℕ × NameLoad
 with_more names [] u = refl
 with_more names (v ∷ units) u = with_more (put_load names v.0 v.1) units u
 
--- ---- names of which the first so many were looked at
+-- what stands at a number that is put, and at others
+put_there : (names : List (Name × NameLoad)) (n : ℕ) (load : NameLoad) (d : Name × NameLoad) → n < length names → get_or (put_load names n load) n d ≡ ((get_or names n d).0, load)
+put_there [] n load d l = absurd (omega arith)
+put_there (p ∷ names) zero load d l = refl
+put_there (p ∷ names) (suc n) load d l = put_there names n load d (omega arith)
 
-put_behind : (front : List (Name × NameLoad)) (x : Name × NameLoad) (rest : List (Name × NameLoad)) (load : NameLoad)
-    → put_load (front ++ x ∷ rest) (length front) load ≡ front ++ (x.0, load) ∷ rest
-put_behind [] x rest load = refl
-put_behind (p ∷ front) x rest load = ap (λ (ps : List (Name × NameLoad)). p ∷ ps) (put_behind front x rest load)
+put_elsewhere : (names : List (Name × NameLoad)) (n i : ℕ) (load : NameLoad) (d : Name × NameLoad) → n ≢ i → get_or (put_load names n load) i d ≡ get_or names i d
+put_elsewhere [] n i load d other = refl
+put_elsewhere (p ∷ names) zero zero load d other = absurd (other refl)
+put_elsewhere (p ∷ names) zero (suc i) load d other = refl
+put_elsewhere (p ∷ names) (suc n) zero load d other = refl
+put_elsewhere (p ∷ names) (suc n) (suc i) load d other = put_elsewhere names n i load d (λ e. other (ap suc e))
 
-module _ (t : View) (folders : List (List ℕ)) (ms : List (Name × ℕ)) where
-  again_length : (olds : List (Name × NameLoad)) (named : List (List DependencyList)) (news : List (Name × NameLoad)) → AreLoadsAgain t folders ms olds named news → length news ≡ length olds
-  again_length [] named [] h = refl
-  again_length [] named (w ∷ news) h = absurd h
-  again_length (o ∷ olds) named [] h = absurd h
-  again_length (o ∷ olds) [] (w ∷ news) h = absurd h
-  again_length (o ∷ olds) (l ∷ named) (w ∷ news) h = ap suc (again_length olds named news h.2)
+-- ---- units that are read again, one behind the other
 
-  module _ (names : List (Name × NameLoad)) (named : List (List DependencyList)) where
-    -- the first names are so again, and behind them the names are as they were
-    pub record IsLookedAt (i : ℕ) (units : List (ℕ × NameLoad)) : Type 0 where
-      pub front : List (Name × NameLoad)
-      pub is : with_loads names units ≡ front ++ drop i names
-      pub again : AreLoadsAgain t folders ms (take i names) named front
-      pub within : All (λ u. u.0 < length names) units
+module _ (t : View) (ms : List (Name × ℕ)) (names : List (Name × NameLoad)) (named : List (List DependencyList)) where
+  pub none_read : (units : List (ℕ × NameLoad)) → units ≡ [] → AreReadOrLeft t ms [] names named (with_loads names units)
+  none_read units e =
+      let P : List (ℕ × NameLoad) → Type 0 = λ us. AreReadOrLeft t ms [] names named (with_loads names us) in
+      subst P (sym e) (λ i p l. (refl, inl (refl, λ a. a)))
 
-    pub none_looked_at : (units : List (ℕ × NameLoad)) → units ≡ [] → IsLookedAt 0 units
-    none_looked_at units e =
-        let none : IsLookedAt 0 [] = record { front = []; is = refl; again = again_none t folders ms named [] refl; within = All-nil (λ (u : ℕ × NameLoad). u.0 < length names) } in
-        subst (IsLookedAt 0) (sym e) none
+  pub read_next : (read : List ℕ) (units : List (ℕ × NameLoad)) (u : ℕ × NameLoad) (x : Name × NameLoad) (lists : List DependencyList) → AreReadOrLeft t ms read names named (with_loads names units)
+      → u.0 < length names → length named ≡ length names → x ≡ get_or names u.0 x → lists ≡ get_or named u.0 lists → IsReadAgain t ms x lists u.1
+      → AreReadOrLeft t ms (read ++ u.0 ∷ []) names named (with_loads names (units ++ u ∷ []))
+  read_next read units u x lists h l each x_is lists_are again i p m =
+      let P : List (Name × NameLoad) → Type 0 = λ ns. IsReadOrLeft t ms (read ++ u.0 ∷ []) i (get_or names i p) (get_or named i []) (get_or ns i p) in
+      subst P (sym (with_more names units u)) (by (cases_eq u.0 i))
+    where
+      news : List (Name × NameLoad)
+      news = with_loads names units
 
-    module _ (i : ℕ) (units : List (ℕ × NameLoad)) (h : IsLookedAt i units) (x : Name × NameLoad) (lists : List DependencyList) (l : i < length names) (each : length named ≡ length names)
-        (x_is : x ≡ get_or names i x) (lists_are : lists ≡ get_or named i lists) where
-      front_length : length h.front ≡ i
-      front_length = again_length (take i names) named h.front h.again ∙ taken names i l
+      R : Name × NameLoad → Type 0
+      R q = IsReadOrLeft t ms (read ++ u.0 ∷ []) i (get_or names i p) (get_or named i []) q
+
+      -- the one that is read now
+      here : u.0 ≡ i → R (get_or (put_load news u.0 u.1) i p)
+      here e =
+          let old : x ≡ get_or names i p = x_is ∙ any_at names u.0 x p l ∙ ap (λ (k : ℕ). get_or names k p) e in
+          let own : lists ≡ get_or named i [] = lists_are ∙ any_at named u.0 lists [] (omega (arith, l, each)) ∙ ap (λ (k : ℕ). get_or named k []) e in
+          let put : get_or (put_load news u.0 u.1) i p ≡ ((get_or news i p).0, u.1) =
+          ap (λ (k : ℕ). get_or (put_load news k u.1) i p) e ∙ put_there news i u.1 p (omega (arith, with_length names units, m)) in
+          subst R (sym put) ((h i p m).0, inr (subst (λ (q : Name × NameLoad). IsReadAgain t ms q (get_or named i []) u.1) old (subst (λ (ls : List DependencyList). IsReadAgain t ms x ls u.1) own again)))
+
+      left : u.0 ≢ i → IsReadOrLeft t ms read i (get_or names i p) (get_or named i []) (get_or news i p) → R (get_or news i p)
+      left other (same, inl k) = (same, inl (k.0, λ a. apart (IsAmong-append_cases i read (u.0 ∷ []) a)))
         where
-          taken : (xs : List (Name × NameLoad)) (k : ℕ) → k < length xs → length (take k xs) ≡ k
-          taken xs zero m = refl
-          taken [] (suc k) m = absurd (omega arith)
-          taken (y ∷ xs) (suc k) m = ap suc (taken xs k (omega arith))
+          apart : IsAmong i read ⊎ IsAmong i (u.0 ∷ []) → ⊥
+          apart (inl a) = k.1 a
+          apart (inr (inl e)) = other e
+          apart (inr (inr a)) = a
+      left other (same, inr r) = (same, inr r)
 
-      here : with_loads names units ≡ h.front ++ x ∷ drop (i + 1) names
-      here = h.is ∙ ap (λ (ps : List (Name × NameLoad)). h.front ++ ps) (drop_more names i x l ∙ ap (λ (y : Name × NameLoad). y ∷ drop (i + 1) names) (sym x_is))
+      by : (u.0 ≡ i) ⊎ (u.0 ≢ i) → R (get_or (put_load news u.0 u.1) i p)
+      by (inl e) = here e
+      by (inr other) = subst R (sym (put_elsewhere news u.0 i u.1 p other)) (left other (h i p m))
 
-      pub missed_next : IsMissed folders x.0 x.1 → IsLookedAt (i + 1) units
-      missed_next missed = record {
-        front = h.front ++ x ∷ [];
-        is = here ∙ sym (append_assoc h.front (x ∷ []) (drop (i + 1) names));
-        again = again_next t folders ms names named i h.front x lists x l each x_is lists_are refl (inl (refl, missed)) h.again;
-        within = h.within;
-      }
+-- so where all that are hit were read, each stays or is read again
+pub loads_again : (t : View) (folders : List (List ℕ)) (ms : List (Name × ℕ)) (hit : List ℕ) (names : List (Name × NameLoad)) (named : List (List DependencyList)) (news : List (Name × NameLoad))
+    → length named ≡ length names → length news ≡ length names → AreHit folders names hit → AreReadOrLeft t ms hit names named news → AreLoadsAgain t folders ms names named news
+loads_again t folders ms hit names named news each count all read = by names named news each count (λ i p l. one i p l (read i p l))
+  where
+    one : (i : ℕ) (p : Name × NameLoad) → i < length names → IsReadOrLeft t ms hit i (get_or names i p) (get_or named i []) (get_or news i p)
+        → ((get_or news i p).0 ≡ (get_or names i p).0) × IsLoadAgain t folders ms (get_or names i p) (get_or named i []) (get_or news i p).1
+    one i p l (same, inl k) = (same, inl (k.0, missed_unless folders names hit i p (get_or names i p).1 all l k.1 refl))
+    one i p l (same, inr r) = (same, inr r)
 
-      pub read_next : (u : ℕ × NameLoad) → u.0 ≡ i → IsReadAgain t ms x lists u.1 → IsLookedAt (i + 1) (units ++ u ∷ [])
-      read_next u e read = record {
-        front = h.front ++ (x.0, u.1) ∷ [];
-        is =
-            with_more names units u
-            ∙ ap (λ (ps : List (Name × NameLoad)). put_load ps u.0 u.1) here
-            ∙ ap (λ (k : ℕ). put_load (h.front ++ x ∷ drop (i + 1) names) k u.1) (e ∙ sym front_length)
-            ∙ put_behind h.front x (drop (i + 1) names) u.1
-            ∙ sym (append_assoc h.front ((x.0, u.1) ∷ []) (drop (i + 1) names));
-        again = again_next t folders ms names named i h.front x lists (x.0, u.1) l each x_is lists_are refl (inr read) h.again;
-        within =
-            let P : ℕ × NameLoad → Type 0 = λ v. v.0 < length names in
-            let below : P u = subst (λ (k : ℕ). k < length names) (sym e) l in
-            All-append P units (u ∷ []) h.within (All-cons P u [] below (All-nil P));
-      }
-
-    pub all_looked_at : (i : ℕ) (units : List (ℕ × NameLoad)) → length names ≤ i → IsLookedAt i units → AreLoadsAgain t folders ms names named (with_loads names units)
-    all_looked_at i units past h =
-        let P : List (Name × NameLoad) → Type 0 = λ olds. AreLoadsAgain t folders ms olds named h.front in
-        let front : with_loads names units ≡ h.front = h.is ∙ ap (λ (ps : List (Name × NameLoad)). h.front ++ ps) (drop_all i names past) ∙ append-nil h.front in
-        subst (AreLoadsAgain t folders ms names named) (sym front) (subst P (take_all i names past) h.again)
+    by : (olds : List (Name × NameLoad)) (lists : List (List DependencyList)) (ws : List (Name × NameLoad)) → length lists ≡ length olds → length ws ≡ length olds
+        → ((i : ℕ) (p : Name × NameLoad) → i < length olds → ((get_or ws i p).0 ≡ (get_or olds i p).0) × IsLoadAgain t folders ms (get_or olds i p) (get_or lists i []) (get_or ws i p).1)
+        → AreLoadsAgain t folders ms olds lists ws
+    by [] lists [] e f h = tt
+    by [] lists (w ∷ ws) e f h = absurd (omega arith)
+    by (o ∷ olds) lists [] e f h = absurd (omega arith)
+    by (o ∷ olds) [] (w ∷ ws) e f h = absurd (omega arith)
+    by (o ∷ olds) (ls ∷ lists) (w ∷ ws) e f h = let k = h 0 o (omega arith) in (k.0, k.1, by olds lists ws (omega arith) (omega arith) (λ i p l. h (suc i) p (omega arith)))
 
 -- ---- the load with them
 
 pub units_of : (load : LoadMap) (now : EntryMap) (touched : List PlaceParts) → IsBefore load now touched → All (KeepsWords load.host load.words (view_of now load.host)) touched
     → (folders : List (List ℕ)) → All (HasParts load.host folders) touched → (p : Patches) → p.kept.named.items ≡ load.named → p.kept.words ≡ load.words
     → IsKept load.names load.named p.kept.deps.items p.kept.mains → All (λ u. u.0 < length load.names) p.units.items
-    → AreLoadsAgain (view_of now load.host) folders p.kept.mains load.names load.named (with_loads load.names p.units.items) → AreUnitsOf (view_of now load.host) load p
-units_of load now touched b keep folders has p named words kept within again =
+    → (hit : List ℕ) → AreHit folders load.names hit → AreReadOrLeft (view_of now load.host) p.kept.mains hit load.names load.named (with_loads load.names p.units.items) → AreSecondNames load.names p.kept.second
+    → AreUnitsOf (view_of now load.host) load p
+units_of load now touched b keep folders has p named words kept within hit all read second =
     let news : List (Name × NameLoad) = with_loads load.names p.units.items in
+    let again : AreLoadsAgain (view_of now load.host) folders p.kept.mains load.names load.named news =
+    loads_again (view_of now load.host) folders p.kept.mains hit load.names load.named news (one_each load.names load.named p.kept.deps.items p.kept.mains kept) (with_length load.names p.units.items) all read in
     let stays : IsKept news load.named p.kept.deps.items p.kept.mains = kept_again load now touched b keep folders has p.kept.deps.items p.kept.mains kept news again in
     record {
-      fit = record { named_are = named; words_are = words; within = within; kept = stays };
+      fit = record {
+        named_are = named;
+        words_are = words;
+        within = within;
+        kept = stays;
+        second =
+            second_again (view_of now load.host) p.kept.mains hit load.names load.named news p.kept.second
+            (owns load now touched b keep folders has p.kept.deps.items p.kept.mains kept) (with_length load.names p.units.items) read second;
+      };
       is_load = load_again load now touched b keep folders has p.kept.deps.items p.kept.mains kept news again (patched_load load p.units.items) refl refl refl refl refl;
       not_over = few_is load now touched b keep folders has p.kept.deps.items p.kept.mains kept news again;
       same = record {
@@ -162,12 +184,6 @@ pub next_holds : {X A : Type 0} (P : X → Type 0) (all : List X) (s t u : IntoI
 next_holds P all s t u xs x start y step h =
     let items : all ≡ xs ++ x ∷ into_iter_items u = sym start ∙ taken_front s xs t y ∙ ap (λ l. xs ++ l) step.0 in
     All-head P x (into_iter_items u) (holds_behind P xs (x ∷ into_iter_items u) (subst (All P) items h))
-
--- what stands at a place, whatever stands for none
-pub any_at : {X : Type 0} (xs : List X) (i : ℕ) (d e : X) → i < length xs → get_or xs i d ≡ get_or xs i e
-any_at [] i d e l = absurd (omega arith)
-any_at (x ∷ xs) zero d e l = refl
-any_at (x ∷ xs) (suc i) d e l = any_at xs i d e (omega arith)
 
 pub not_false : (b : Bool) → not b ≡ false → b ≡ true
 not_false true h = refl

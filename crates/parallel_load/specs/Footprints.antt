@@ -10,7 +10,3 @@ use Rattle.parallel_load.specs.Loads.{LoadMap, unit_in}
 -- these are just the first components that are in the footprint of the unit of this main name
 abbrev pub IsFootprintIn : LoadMap → Name → List (List ℕ) → Type 0
 IsFootprintIn load name parts = (unit : LoadedUnit) → unit_in load name ≡ Some unit → (part : List ℕ) → IsAmong part parts ↔ IsAmong part (footprint name unit.names)
-
--- it is none of these
-abbrev pub IsNone : List (List ℕ) → List ℕ → Type 0
-IsNone parts part = ¬ IsAmong part parts

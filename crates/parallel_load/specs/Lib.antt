@@ -1,9 +1,10 @@
 pub mod Alone
 pub mod AloneLaws
-pub mod Apart
 pub mod AskedLaws
 pub mod Footprints
 pub mod Found
+pub mod Fronts
+pub mod Hits
 pub mod Indexes
 pub mod KeptLoadLaws
 pub mod KeyLaws
@@ -21,6 +22,7 @@ pub mod Patched
 pub mod Refreshes
 pub mod Refusals
 pub mod SameLaws
+pub mod SecondNames
 pub mod Settled
 pub mod Sources
 pub mod Touched

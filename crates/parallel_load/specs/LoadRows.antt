@@ -1,8 +1,9 @@
 -- What a load keeps of each name: words for private clauses.
 -- Source: this project's own.
-use Rattle.std.specs.Prelude.{◌≡◌, ◌⊎◌, ◌≤◌, ℕ, IsTrue, List, [], ◌∷◌, length}
+use Rattle.std.specs.Prelude.{◌≡◌, ◌⊎◌, ◌<◌, ◌≤◌, ℕ, IsTrue, List, [], ◌∷◌, length}
 use Rattle.std.specs.FinMap.{is_sorted}
-use Rattle.std.specs.List.{All}
+use Rattle.std.specs.List.{All, slice_index_or}
+use Rattle.list_laws.specs.Members.{IsAmong}
 use Rattle.path_maps.specs.Views.{View}
 use Rattle.unit_name.specs.Names.{Name, name_cmp}
 use Rattle.setting_rules.specs.declared.dependency_lists.DependencyList.{DependencyList}
@@ -63,7 +64,16 @@ pub record IsReadAgain (t : View) (mains : List (Name × ℕ)) (old : Name × Na
 abbrev pub IsLoadAgain : View → List (List ℕ) → List (Name × ℕ) → Name × NameLoad → List DependencyList → NameLoad → Type 0
 IsLoadAgain t folders mains old lists new = ((new ≡ old.1) × IsMissed folders old.0 old.1) ⊎ IsReadAgain t mains old lists new
 
--- the same of all names, each with its lists
+-- a unit that has one of these numbers is read again, and what stands for each other name is left
+abbrev pub IsReadOrLeft : View → List (Name × ℕ) → List ℕ → ℕ → Name × NameLoad → List DependencyList → Name × NameLoad → Type 0
+IsReadOrLeft t mains hit i old lists new = (new.0 ≡ old.0) × (((new.1 ≡ old.1) × ¬ IsAmong i hit) ⊎ IsReadAgain t mains old lists new.1)
+
+-- the same of all names, by their numbers
+abbrev pub AreReadOrLeft : View → List (Name × ℕ) → List ℕ → List (Name × NameLoad) → List (List DependencyList) → List (Name × NameLoad) → Type 0
+AreReadOrLeft t mains hit names named news =
+    (i : ℕ) (p : Name × NameLoad) → i < length names → IsReadOrLeft t mains hit i (slice_index_or names i p) (slice_index_or named i []) (slice_index_or news i p)
+
+-- what stands for all names stays or is read again, each with its lists
 abbrev pub AreLoadsAgain : View → List (List ℕ) → List (Name × ℕ) → List (Name × NameLoad) → List (List DependencyList) → List (Name × NameLoad) → Type 0
 AreLoadsAgain t folders mains [] named [] = Unit {0}
 AreLoadsAgain t folders mains [] named (new ∷ news) = ⊥

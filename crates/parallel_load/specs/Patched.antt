@@ -14,6 +14,7 @@ use Rattle.parallel_load.specs.declared.refreshing.Refreshed.TheVariants.{InPlac
 use Rattle.parallel_load.specs.LoadRows.{IsKept}
 use Rattle.parallel_load.specs.Loads.{IsLoad, LoadMap}
 use Rattle.parallel_load.specs.Numbers.{AreDependencyRows}
+use Rattle.parallel_load.specs.SecondNames.{AreSecondNames}
 use Rattle.parallel_load.specs.Universe.{IsTooLarge}
 
 -- ---- names
@@ -50,6 +51,7 @@ pub record FitIn (load : LoadMap) (patches : Patches) : Type 0 where
   pub words_are : patches.kept.words ≡ load.words
   pub within : All (λ u. u.0 < length load.names) patches.units.items
   pub kept : IsKept (with_loads load.names patches.units.items) load.named patches.kept.deps.items patches.kept.mains
+  pub second : AreSecondNames (with_loads load.names patches.units.items) patches.kept.second
 
 -- with these units in place of those by their numbers the load is that of what is looked at
 pub record AreUnitsOf (s : View) (load : LoadMap) (patches : Patches) : Type 0 where

@@ -29,19 +29,19 @@ abbrev pub IsMissed : List (List ℕ) → Name → NameLoad → Type 0
 IsMissed folders name (OfUnit unit) = (folder : List ℕ) → IsAmong folder folders → ¬ IsAmong folder (footprint name unit.names)
 IsMissed folders name (OfAlias of) = Unit {0}
 
--- it is what stands for a name of a load before main names are put in, and missed
-pub record IsStill (folders : List (List ℕ)) (names : List (Name × NameLoad)) (named : List (List DependencyList)) (name : Name) (one : NameLoad) : Type 0 where
+-- it is what stands for a name of a load before main names are put in, and has none of these numbers
+pub record IsStill (hit : List ℕ) (names : List (Name × NameLoad)) (named : List (List DependencyList)) (name : Name) (one : NameLoad) : Type 0 where
   pub number : ℕ
   pub below : number < length names
   pub load : NameLoad
   pub at : slice_index_or names number (name, load) ≡ (name, load)
   pub is : one ≡ with_lists load (slice_index_or named number [])
-  pub missed : IsMissed folders name load
+  pub left : ¬ IsAmong number hit
 
 -- all names of a load, each with what stays of it
-pub record AreStill (folders : List (List ℕ)) (names : List (Name × NameLoad)) (named : List (List DependencyList)) (still : List (Name × Option NameLoad)) : Type 0 where
+pub record AreStill (hit : List ℕ) (names : List (Name × NameLoad)) (named : List (List DependencyList)) (still : List (Name × Option NameLoad)) : Type 0 where
   pub keys_are : keys_of still ≡ keys_of names
-  pub each : All (λ p. IfSome p.1 (IsStill folders names named p.0)) still
+  pub each : All (λ p. IfSome p.1 (IsStill hit names named p.0)) still
 
 -- what is held for a name is what is loaded for it
 abbrev pub IsHeldOn : View → Name × Option NameLoad → Type 0

@@ -2,13 +2,14 @@
 ghost use Rattle.std.specs.{Prelude.{◌≡◌, ◌<◌, ◌≤◌, length, map, IfOk, IsTrue}, BTreeMap.{keys}, FinMap.{is_sorted}};
 ghost use Rattle.std.specs.{Option.{option_copied}, List.Sorted.{IsStrictlySortedBy}};
 ghost use Rattle.unit_name.specs.Names.{name_cmp};
-ghost use Rattle.parallel_load.specs.{LoadRows.{IsKept}, Numbering.{AreNumbered}};
+ghost use Rattle.parallel_load.specs.{LoadRows.{IsKept}, Numbering.{AreNumbered}, SecondNames.{AreSecondNames}};
 ghost use Rattle.parallel_load.specs.Settled.{IsSettledLoad, IsWhole, name_lists, name_loads, name_numbers, settled_name};
 
 use crate::kept::{Kept, NamedLists};
 use crate::loaded::{Dependency, KeptRows, Loaded, NameLoad};
 use crate::loader::add_names;
 use crate::mains::{Mains, Settled};
+use crate::second_names::SecondNames;
 use crate::words::KeptWords;
 use plain_values::{Items, Shared, TryClone};
 use replica_store::HostName;
@@ -143,10 +144,12 @@ fn load_of(
     ensures words { IfOk result (λ load. load.words ≡ words) }
 {
     let Parts { names, named, deps } = parts_of(alloc, settled)?;
+    let second = SecondNames::of(alloc, &names)?;
     let kept = KeptRows {
         named,
         deps,
         mains,
+        second,
         words,
     };
     let kept = Shared::new(alloc, kept)?;
@@ -163,6 +166,7 @@ fn load_with(
     fresh: u64,
 ) -> Result<Loaded, AllocError>
     requires kept { IsKept names.items kept.named.items kept.deps.items kept.mains }
+    requires second { AreSecondNames names.items kept.second }
     ensures host { IfOk result (λ load. load.host ≡ option_copied host.entry) }
     ensures extra { IfOk result (λ load. load.extra ≡ extra.now) }
     ensures names { IfOk result (λ load. load.names ≡ names.items) }

@@ -1,10 +1,9 @@
 //! The first components of the paths at which what stands for a unit is decided.
-ghost use Rattle.std.specs.{Prelude.{◌≡◌, false, IfOk, IfSome, IsSome}, List.{All}, List.Sorted.{IsStrictlySortedBy}};
+ghost use Rattle.std.specs.{Prelude.{◌≡◌, IfOk, IsSome}, List.Sorted.{IsStrictlySortedBy}};
 ghost use Rattle.unit_name.specs.Names.{name_cmp};
 ghost use Rattle.unit_loads.specs.Footprints.{footprint};
-ghost use Rattle.parallel_load.specs.{Footprints.{IsFootprintIn, IsNone}, Loads.{unit_in}};
+ghost use Rattle.parallel_load.specs.{Footprints.{IsFootprintIn}, Loads.{unit_in}};
 
-use crate::apart::TouchedPart;
 use crate::loaded::Loaded;
 use dropins::{folders, name_dirs, type_dirs};
 use plain_values::Bytes;
@@ -48,16 +47,4 @@ pub(crate) fn parts_of(
     parts.append(&mut name_dirs(alloc, &names, b".wants")?)?;
     parts.append(&mut name_dirs(alloc, &names, b".requires")?)?;
     Ok(parts)
-}
-
-/// Whether one of these parts is one of a footprint.
-pub(crate) fn meets(footprint: &[Bytes], parts: &[TouchedPart]) -> bool
-    ensures none { result ≡ false → All (IsNone footprint.now) parts.now }
-{
-    for part in parts {
-        if footprint.contains(part.bytes()) {
-            return true;
-        }
-    }
-    false
 }

@@ -1,10 +1,9 @@
 //! Loads of names that take what stays from another load.
-ghost use Rattle.std.specs.{Prelude.{◌≡◌, false, IfOk, IfSome, IsTrue}, FinMap.{is_sorted}, List.{All}};
+ghost use Rattle.std.specs.{Prelude.{◌≡◌, IfOk, IfSome, IsTrue}, Ordering.{nat_cmp}, FinMap.{is_sorted}, List.{All}, List.Sorted.{IsStrictlySortedBy}};
+ghost use Rattle.list_laws.specs.Members.{IsAmong};
 ghost use Rattle.unit_name.specs.Names.{name_cmp};
-ghost use Rattle.parallel_load.specs.{Alone.{IsLoadAlone}, Loads.{with_lists}, Refreshes.{AreStill, IsHeldOn, IsMissed}};
+ghost use Rattle.parallel_load.specs.{Alone.{IsLoadAlone}, Loads.{with_lists}, Refreshes.{AreStill, IsHeldOn}};
 
-use crate::apart::{TouchedPart, are_missed};
-use crate::footprints::{meets, parts_of};
 use crate::kept::{Kept, NamedLists};
 use crate::loaded::{Loaded, NameLoad};
 use crate::loader::{UnitLoader, kept_names};
@@ -15,62 +14,40 @@ use std::alloc::{AllocError, Global};
 use std::marker::Model;
 use unit_name::UnitName;
 
-/// The names of a load, each with what stands for it before main names are put in, unless one of these parts, with
-/// which paths begin that changed, is in its footprint. It fails for want of memory alone.
+/// The names of a load, each with what stands for it before main names are put in, unless it has one of these numbers, which rise.
+/// It fails for want of memory alone.
 pub(crate) fn still_of(
     alloc: Global,
     loaded: &Loaded,
-    parts: &[TouchedPart],
+    hit: &[usize],
 ) -> Result<Vec<(UnitName, Option<Kept>)>, AllocError>
-    ensures still { IfOk result (λ still. AreStill parts.now loaded.now.names loaded.now.named still.items) }
+    requires rising { IsStrictlySortedBy nat_cmp hit.now }
+    ensures still { IfOk result (λ still. AreStill hit.now loaded.now.names loaded.now.named still.items) }
 {
     let names = loaded.names();
     let named = loaded.named();
     let mut still = Vec::with_capacity(alloc, names.len())?;
     for (number, (name, load)) in names.iter().enumerate() {
-        let kept = kept_still(alloc, name, load, &named[number], parts)?;
+        let kept = kept_unless(hit, number, load, &named[number])?;
         still.push((name.try_clone()?, kept))?;
     }
     Ok(still)
 }
 
-// What stands for a name, unless one of these parts is in its footprint.
-fn kept_still(
-    alloc: Global,
-    name: &UnitName,
+// What stands for the name with a number, unless that is one of these.
+fn kept_unless(
+    hit: &[usize],
+    number: usize,
     load: &NameLoad,
     lists: &NamedLists,
-    parts: &[TouchedPart],
 ) -> Result<Option<Kept>, AllocError>
+    requires rising { IsStrictlySortedBy nat_cmp hit.now }
     ensures same { IfOk result (λ kept. IfSome kept (λ one. one ≡ with_lists load.now lists.now)) }
-    ensures missed { IfOk result (λ kept. IfSome kept (λ _. IsMissed parts.now name.now load.now)) }
+    ensures left { IfOk result (λ kept. IfSome kept (λ _. ¬ IsAmong number hit.now)) }
 {
-    if is_hit(alloc, name, load, parts)? {
-        return Ok(None);
-    }
-    Ok(Some(Kept::again(load, lists)?))
-}
-
-/// Whether one of these parts is in the footprint of what stands for a name: an alias has none. No footprint is made where
-/// first bytes tell that it isn't.
-pub(crate) fn is_hit(
-    alloc: Global,
-    name: &UnitName,
-    load: &NameLoad,
-    parts: &[TouchedPart],
-) -> Result<bool, AllocError>
-    ensures missed { IfOk result (λ hit. hit ≡ false → IsMissed parts.now name.now load.now) }
-{
-    match load {
-        NameLoad::Unit(unit) => {
-            let names = unit.get().names.as_slice();
-            if are_missed(parts, name, names) {
-                return Ok(false);
-            }
-            let footprint = parts_of(alloc, name, names)?;
-            Ok(meets(&footprint, parts))
-        }
-        NameLoad::Alias(_) => Ok(false),
+    match hit.binary_search(&number) {
+        Ok(_) => Ok(None),
+        Err(_) => Ok(Some(Kept::again(load, lists)?)),
     }
 }
 

@@ -8,12 +8,13 @@
 //! it is an alias.
 #![tactic(auto)]
 
-mod apart;
 mod asked;
 mod faults;
 mod finishing;
 mod footprints;
+mod fronts;
 mod held;
+mod hits;
 mod kept;
 mod laws;
 mod loaded;
@@ -22,6 +23,7 @@ mod loads;
 mod mains;
 mod patching;
 mod refreshing;
+mod second_names;
 mod sources;
 mod touched;
 mod words;

@@ -1,11 +1,12 @@
 //! A load: what all names stand for.
 ghost use Rattle.std.specs.{Prelude.{◌≡◌, ◌<◌, IfOk, IsTrue, length, map}, FinMap.{is_sorted}, List.{All}, Option.{option_copied}};
 ghost use Rattle.unit_name.specs.Names.{name_cmp};
-ghost use Rattle.parallel_load.specs.{AskedLaws.{asked_for}, Loads.{load_at, main_in, unit_in, units_in}, Numbers.{AreDependencyRows}};
-ghost use Rattle.parallel_load.specs.{LoadRows.{IsKept}, Patched.{FitIn, patched_load, put_load, with_loads}};
+ghost use Rattle.parallel_load.specs.{AskedLaws.{asked_for}, Fronts.{DontFall}, Loads.{load_at, main_in, unit_in, units_in}, Numbers.{AreDependencyRows}};
+ghost use Rattle.parallel_load.specs.{LoadRows.{IsKept}, SecondNames.{AreSecondNames}, Patched.{FitIn, patched_load, put_load, with_loads}};
 
 use crate::kept::NamedLists;
 use crate::mains::Mains;
+use crate::second_names::SecondNames;
 use crate::words::KeptWords;
 use plain_values::{Items, Shared, TryClone};
 use replica_store::HostName;
@@ -64,6 +65,8 @@ pub(crate) struct KeptRows {
     pub deps: Vec<Shared<Items<Dependency>>>,
     /// The number of each name's main name.
     pub mains: Mains,
+    /// The other names of its units.
+    pub second: SecondNames,
     /// What the places of one component say of aliases.
     pub words: Shared<KeptWords>,
 }
@@ -76,7 +79,7 @@ pub(crate) struct Patches {
 }
 
 impl Model for Loaded {
-    ghost use Rattle.parallel_load.specs.{Loads.{LoadMap, coded_load}, LoadRows.{IsKept}};
+    ghost use Rattle.parallel_load.specs.{Loads.{LoadMap, coded_load}, LoadRows.{IsKept}, SecondNames.{AreSecondNames}};
 
     ghost Value = { LoadMap };
 
@@ -84,7 +87,7 @@ impl Model for Loaded {
 
     ghost view = { λ l. record { host = l.host; extra = l.extra; names = l.names.items; named = l.kept.named.items; words = l.kept.words } };
 
-    ghost invariant = { λ l. IsKept l.names.items l.kept.named.items l.kept.deps.items l.kept.mains };
+    ghost invariant = { λ l. IsKept l.names.items l.kept.named.items l.kept.deps.items l.kept.mains × AreSecondNames l.names.items l.kept.second };
 }
 
 impl Loaded {
@@ -97,6 +100,7 @@ impl Loaded {
         fresh: u64,
     ) -> Loaded
         requires kept { IsKept names.items kept.named.items kept.deps.items kept.mains }
+        requires second { AreSecondNames names.items kept.second }
         ensures load { result ≡ record { host = host; extra = extra; names = names.items; named = kept.named.items; words = kept.words } }
     {
         Loaded {
@@ -181,6 +185,14 @@ impl Loaded {
         self.kept.get().named.as_slice()
     }
 
+    /// The other names of its units, each with the number of its unit. It takes no memory.
+    pub(crate) fn second_names(&self) -> &[(UnitName, usize)]
+        ensures second { AreSecondNames self.now.names result.now }
+        ensures rising { DontFall result.now }
+    {
+        self.kept.get().second.as_slice()
+    }
+
     /// What the places of one component said of aliases where it was loaded. It takes no memory.
     pub(crate) fn words(&self) -> &Shared<KeptWords>
         ensures words { result.now ≡ self.now.words }
@@ -192,6 +204,7 @@ impl Loaded {
     pub(crate) fn kept(&self) -> Result<Shared<KeptRows>, AllocError>
         ensures kept { IfOk result (λ kept. IsKept self.now.names self.now.named kept.deps.items kept.mains) }
         ensures named { IfOk result (λ kept. kept.named.items ≡ self.now.named) }
+        ensures second { IfOk result (λ kept. AreSecondNames self.now.names kept.second) }
         ensures words { IfOk result (λ kept. kept.words ≡ self.now.words) }
     {
         self.kept.try_clone()

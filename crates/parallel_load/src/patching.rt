@@ -3,16 +3,15 @@ ghost use Rattle.std.specs.{Prelude.{◌≡◌, ◌<◌, IfOk, length}, List.{Al
 ghost use Rattle.path_maps.specs.Views.{view_of};
 ghost use Rattle.fragment_choice.specs.{Resolutions.{main}, UnitNames.{AreNames}};
 ghost use Rattle.unit_loads.specs.Units.{IsUnit};
-ghost use Rattle.parallel_load.specs.{LoadRows.{AreLoadsAgain, IsOwnUnit, IsReadAgain}, Patched.{AreUnitsOf, with_loads}};
+ghost use Rattle.parallel_load.specs.{LoadRows.{AreReadOrLeft, IsOwnUnit, IsReadAgain}, Patched.{AreUnitsOf, with_loads}};
 ghost use Rattle.parallel_load.specs.{Refreshes.{IsBefore}, Touched.{HasParts, KeepsWords}};
 
-use crate::apart::TouchedPart;
-use crate::held::is_hit;
+use crate::hits::numbers_hit;
 use crate::kept::{Kept, NamedLists};
 use crate::loaded::{KeptRows, Loaded, NameLoad, Patches};
 use crate::mains::Mains;
 use fragment_choice::resolve;
-use plain_values::TryClone;
+use plain_values::{Bytes, TryClone};
 use replica_store::{HostName, Place, Store};
 use std::alloc::{AllocError, Global};
 use unit_loads::{Unit, load_named};
@@ -24,7 +23,7 @@ pub(crate) fn patches(
     loaded: &Loaded,
     store: &Store,
     touched: &[Place],
-    parts: &[TouchedPart],
+    parts: &[Bytes],
 ) -> Result<Option<Patches>, AllocError>
     requires before { IsBefore loaded.now store.now touched.now }
     requires words { All (KeepsWords loaded.now.host loaded.now.words (view_of store.now loaded.now.host)) touched.now }
@@ -34,38 +33,38 @@ pub(crate) fn patches(
     let alloc = loaded.allocator();
     let host = loaded.host();
     let kept = loaded.kept()?;
-    let Some(units) = units_again(alloc, store, host, loaded.names(), kept.get(), parts)? else {
+    let hit = numbers_hit(loaded, parts)?;
+    let Some(units) = units_again(alloc, store, host, loaded.names(), kept.get(), &hit)? else {
         return Ok(None);
     };
     Ok(Some(Patches { kept, units }))
 }
 
-// Each unit whose footprint has one of these parts, read again, by the number of its name. None where one of them names otherwise
-// than it did.
+// The units with these numbers, read again, each with its number. None where one of them names otherwise than it did.
 fn units_again(
     alloc: Global,
     store: &Store,
     host: Option<&HostName>,
     names: &[(UnitName, NameLoad)],
     kept: &KeptRows,
-    parts: &[TouchedPart],
+    hit: &[usize],
 ) -> Result<Option<Vec<(usize, NameLoad)>>, AllocError>
+    requires hit { All (λ i. i < length names.now) hit.now }
     requires each { length kept.now.named.items ≡ length names.now }
     requires own { All (IsOwnUnit (view_of store.now (option_copied host))) names.now }
     ensures within { IfOk result (λ again. IfSome again (λ units. All (λ u. u.0 < length names.now) units.items)) }
-    ensures again { IfOk result (λ again. IfSome again (λ units. AreLoadsAgain (view_of store.now (option_copied host.entry))
-        parts.now kept.now.mains names.now kept.now.named.items (with_loads names.now units.items))) }
+    ensures again { IfOk result (λ again. IfSome again (λ units. AreReadOrLeft (view_of store.now (option_copied host.entry))
+        kept.now.mains hit.now names.now kept.now.named.items (with_loads names.now units.items))) }
 {
     let named = kept.named.as_slice();
-    let mut units = Vec::new(alloc);
-    for (number, one) in names.iter().enumerate() {
-        if is_hit(alloc, &one.0, &one.1, parts)? {
-            let lists = &named[number];
-            let Some(unit) = unit_again(alloc, store, host, &kept.mains, one, lists)? else {
-                return Ok(None);
-            };
-            units.push((number, unit))?;
-        }
+    let mut units = Vec::with_capacity(alloc, hit.len())?;
+    for number in hit {
+        let one = &names[*number];
+        let lists = &named[*number];
+        let Some(unit) = unit_again(alloc, store, host, &kept.mains, one, lists)? else {
+            return Ok(None);
+        };
+        units.push((*number, unit))?;
     }
     Ok(Some(units))
 }

@@ -5,10 +5,10 @@ ghost use Rattle.unit_name.specs.Names.{name_cmp};
 ghost use Rattle.parallel_load.specs.{Found.{IsFound}, Loads.{IsLoad}, Patched.{AreUnitsOf, IsRefreshed}, Refreshes.{IsBefore}, Refusals.{OnTooMany, OnWorkers}};
 ghost use Rattle.parallel_load.specs.{Touched.{HasParts, KeepsWords}, Universe.{IsTooLarge}};
 
-use crate::apart::TouchedPart;
 use crate::faults::LoadFault;
 use crate::finishing::{copy_of_load, settled};
 use crate::held::{HeldLoader, still_of};
+use crate::hits::numbers_hit;
 use crate::kept::Kept;
 use crate::loaded::{Loaded, Patches};
 use crate::loader::UnitLoader;
@@ -18,7 +18,7 @@ use crate::sources::sources;
 use crate::touched::{keeps_words, parts_touched};
 use fragment_choice::AliasIndex;
 use name_closure::close_loaded;
-use plain_values::TryClone;
+use plain_values::{Bytes, TryClone};
 use replica_store::{Place, Store};
 use std::alloc::AllocError;
 use std::collections::BTreeMap;
@@ -115,7 +115,7 @@ fn found_again(
     loaded: &Loaded,
     store: &Store,
     touched: &[Place],
-    parts: &[TouchedPart],
+    parts: &[Bytes],
 ) -> Result<BTreeMap<UnitName, Kept>, LoadFault>
     requires before { IsBefore loaded.now store.now touched.now }
     requires words { All (KeepsWords loaded.now.host loaded.now.words (view_of store.now loaded.now.host)) touched.now }
@@ -130,7 +130,8 @@ fn found_again(
     let host = loaded.host();
     let words = loaded.words();
     let sources = sources(alloc, words.get(), loaded.extra())?;
-    let held = still_of(alloc, loaded, parts)?;
+    let hit = numbers_hit(loaded, parts)?;
+    let held = still_of(alloc, loaded, &hit)?;
     let index = AliasIndex::of(alloc, store, host)?;
     let loader = HeldLoader::of(UnitLoader::new(index), held);
     Ok(close_loaded(alloc, &loader, &sources, MOST_NAMES)?)

@@ -4,7 +4,6 @@ ghost use Rattle.load_places.specs.Levels.{level_for};
 ghost use Rattle.path_maps.specs.Views.{view_of};
 ghost use Rattle.parallel_load.specs.Touched.{AddsParts, HasParts, KeepsWords};
 
-use crate::apart::TouchedPart;
 use crate::loaded::Loaded;
 use crate::words::{AliasWords, KeptWords};
 use plain_values::Bytes;
@@ -57,7 +56,7 @@ pub(crate) fn parts_touched(
     alloc: Global,
     host: Option<&HostName>,
     touched: &[Place],
-) -> Result<Vec<TouchedPart>, AllocError>
+) -> Result<Vec<Bytes>, AllocError>
     ensures parts { IfOk result (λ parts. All (HasParts (option_copied host.entry) parts.items) touched.now) }
 {
     let mut parts = Vec::new(alloc);
@@ -70,12 +69,12 @@ pub(crate) fn parts_touched(
 }
 
 // Adds the first component of a path, and the empty one where that is its name.
-fn add_parts(alloc: Global, parts: &mut Vec<TouchedPart>, path: &Path) -> Result<(), AllocError>
+fn add_parts(alloc: Global, parts: &mut Vec<Bytes>, path: &Path) -> Result<(), AllocError>
     ensures added { OnOk result (AddsParts path.now parts.old.items parts.new.items) }
 {
-    parts.push(TouchedPart::of(alloc, path.folder())?)?;
+    parts.push(Bytes::from_slice(alloc, path.folder())?)?;
     if path.folder().is_empty() {
-        parts.push(TouchedPart::of(alloc, path.name())?)?;
+        parts.push(Bytes::from_slice(alloc, path.name())?)?;
     }
     Ok(())
 }

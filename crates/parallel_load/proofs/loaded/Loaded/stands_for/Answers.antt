@@ -17,6 +17,6 @@ returns-in-Ok c = record {
 pub returns-in-Err : goal.returns-in-Err
 returns-in-Err c = record {
   load =
-      sym (find_gap name_cmp c.args.name.now nat_list_cmp_total _ _ c.self.invariant.sorted (rw c.deref.ensures.value at c.in-Err.ensures.absent))
+      sym (find_gap name_cmp c.args.name.now nat_list_cmp_total _ _ c.self.invariant.0.sorted (rw c.deref.ensures.value at c.in-Err.ensures.absent))
       ∙ ap (λ (l : LoadMap). load_at l c.args.name.now) c.self.view_is;
 }
