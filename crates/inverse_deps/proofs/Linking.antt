@@ -1,10 +1,10 @@
--- The edges of one unit, made of its own dependencies and of those on it turned round.
-use Rattle.std.proofs.Common.{◌≡◌, ◌<◌, ◌+◌, ◌⊎◌, ◌↔◌, ℕ, List, [], ◌∷◌, ◌++◌, length, get_or, map, inl, inr, IsTrue, refl, ap, sym, subst, ◌∙◌, arith}
+-- The edges of each unit, made of its own dependencies and of those on it turned round.
+use Rattle.std.proofs.Common.{◌≡◌, ◌<◌, ◌+◌, ◌⊎◌, ◌↔◌, ℕ, List, [], ◌∷◌, ◌++◌, length, get_or, set, map, inl, inr, IsTrue, refl, ap, sym, subst, ◌∙◌, arith}
 use Rattle.std.specs.List.{All}
 use Rattle.std.specs.Cmp.Lexicographic.{nat_list_cmp_total}
 use Rattle.std.specs.FinMap.Entries.{is_sorted}
 use Rattle.std.proofs.lemmas.Bool.{cases_eq, cases_lt}
-use Rattle.std.proofs.lemmas.List.{get_or_past}
+use Rattle.std.proofs.lemmas.List.{get_or_past, get_or-set_other, get_or-set_same, length-set}
 use Rattle.std.proofs.lemmas.List.Elements.{All-contains, All-nil, Contains-get_or}
 use Rattle.list_laws.specs.Members.{IsAmong, IsAmong-append_left, IsAmong-append_right, among_from_contains, contains_from_among}
 use Rattle.index_rows.specs.ListLaws.{IsAmong-push, IsAmong-push_cases}
@@ -16,11 +16,13 @@ use Rattle.setting_rules.specs.Dependencies.{in_byte_order}
 use Rattle.setting_rules.specs.Kinds.{inverse}
 use Rattle.setting_rules.specs.OrderLaws.{names_rise, names_stay}
 use Rattle.parallel_load.specs.declared.loaded.Dependency.{Dependency}
+use Rattle.parallel_load.specs.declared.loaded.NameLoad.{NameLoad}
+use Rattle.parallel_load.specs.declared.loaded.NameLoad.TheVariants.{Alias as OfAlias}
 use Rattle.parallel_load.specs.Loads.{LoadMap}
 use Rattle.parallel_load.specs.Numbers.{AreDependencyRows}
 use Rattle.inverse_deps.specs.EdgeLaws.{edges_join_units, inverse_inverse}
 use Rattle.inverse_deps.specs.Edges.{AreEdgesFrom, DependsOn, IsEdge, IsUnitIn}
-use Rattle.inverse_deps.specs.Links.{AreLinked, AreLinksOf, IsLinked, IsTurned}
+use Rattle.inverse_deps.specs.Links.{AreLinked, AreLinks, AreLinksOf, AreTurnedIn, IsLinked, IsTurned}
 use Rattle.inverse_deps.specs.NamingLaws.{names_along, names_either, names_none, turned_named}
 use Rattle.inverse_deps.specs.NumberLaws.{load_numbering, unit_number}
 use Rattle.inverse_deps.specs.Numbers.{count_of, name_at}
@@ -155,6 +157,66 @@ module _ (rows : List (List Dependency)) (own : List Dependency) (i number : ℕ
   pub found_more : AreFound rows own (i + 1) number new
   found_more = record { just = λ one. (λ h. found_there one ((added one).0 h), λ h. (added one).1 (found_back one h)) }
 
+-- ---- all rows
+
+pub turned_in_none : (old rows : List (List Dependency)) (from : ℕ) → rows ≡ old → AreTurnedIn old [] from rows
+turned_in_none old rows from e = record {
+  units = ap length e;
+  just = λ number. (turned_none (get_or old number []) (get_or rows number []) from number (ap (λ (rs : List (List Dependency)). get_or rs number []) e)).just;
+}
+
+-- one more was put at the end of the row with its number
+module _ (old rows new : List (List Dependency)) (deps more : List Dependency) (x y : Dependency) (from : ℕ) (longer : more ≡ deps ++ x ∷ []) (before : AreTurnedIn old deps from rows)
+    (within : x.number < length rows) (is : new ≡ set rows x.number (get_or rows x.number [] ++ y ∷ [])) (kind_is : y.kind ≡ inverse x.kind) (number_is : y.number ≡ from) where
+  put : (number : ℕ) → x.number ≡ number → get_or new number [] ≡ get_or rows number [] ++ y ∷ []
+  put number on =
+      subst (λ k. get_or new k [] ≡ get_or rows k [] ++ y ∷ []) on
+      (ap (λ (rs : List (List Dependency)). get_or rs x.number []) is ∙ get_or-set_same rows x.number (get_or rows x.number [] ++ y ∷ []) [] within)
+
+  other : (number : ℕ) → ¬ (x.number ≡ number) → get_or new number [] ≡ get_or rows number []
+  other number off = ap (λ (rs : List (List Dependency)). get_or rs number []) is ∙ get_or-set_other rows x.number number (get_or rows x.number [] ++ y ∷ []) [] (λ e. off (sym e))
+
+  row : (number : ℕ) → AreTurned (get_or old number []) more from number (get_or new number [])
+  row number =
+      let was : AreTurned (get_or old number []) deps from number (get_or rows number []) = record { just = before.just number } in
+      elim (cases_eq x.number number) [
+        | inl on ↦ turned_more (get_or old number []) deps more x longer from number (get_or rows number []) was (get_or new number []) y on (put number on) kind_is number_is
+        | inr off ↦ turned_passed (get_or old number []) deps more x longer from number (get_or rows number []) was (get_or new number []) off (other number off)
+      ]
+
+  pub turned_in_more : AreTurnedIn old more from new
+  turned_in_more = record { units = ap length is ∙ length-set rows x.number (get_or rows x.number [] ++ y ∷ []) ∙ before.units; just = λ number. (row number).just }
+
+-- each row has its own dependencies, and what was found in so many rows
+pub record AreFoundIn (table : List (List Dependency)) (count : ℕ) (rows : List (List Dependency)) : Type 0 where
+  pub units : length rows ≡ length table
+  pub each : (number : ℕ) → AreFound table (get_or table number []) count number (get_or rows number [])
+
+pub found_in_none : (table rows : List (List Dependency)) → rows ≡ table → AreFoundIn table 0 rows
+found_in_none table rows e = record {
+  units = ap length e;
+  each = λ number. found_none table (get_or table number []) (get_or rows number []) number (ap (λ (rs : List (List Dependency)). get_or rs number []) e);
+}
+
+pub found_in_more : (table rows new : List (List Dependency)) (i : ℕ) (deps row : List Dependency) → AreFoundIn table i rows → i < length table → deps ≡ row → row ≡ get_or table i row
+    → AreTurnedIn rows deps i new → AreFoundIn table (i + 1) new
+found_in_more table rows new i deps row before within same here turned = record {
+  units = turned.units ∙ before.units;
+  each = λ number.
+      found_more table (get_or table number []) i number (get_or rows number []) (get_or new number []) deps row (before.each number) within same here (turned.just number);
+}
+
+-- what a row names has a row
+pub all_within : (load : LoadMap) (table : List (List Dependency)) → AreDependencyRows load.names table → (i : ℕ) → i < length table → (deps row : List Dependency) → deps ≡ row
+    → row ≡ get_or table i row → (count : ℕ) → count ≡ length table → All (λ (one : Dependency). one.number < count) deps
+all_within load table are i below deps row same here count count_is =
+    let each = are.one_each in
+    let p : Name × NameLoad = ([], OfAlias []) in
+    let row_is : deps ≡ get_or table i [] = same ∙ here ∙ same_at table i row [] below in
+    subst (λ n. All (λ (one : Dependency). one.number < n) deps) (sym (count_is ∙ each))
+    (subst (λ (ds : List Dependency). All (λ (one : Dependency). one.number < count_of load) ds) (sym row_is)
+    (all_among (λ (one : Dependency). one.number < count_of load) (get_or table i []) (λ one h. ((are.rows i p (omega (arith, below, each))).each one h).below)))
+
 -- ---- links
 
 -- no links of what is no unit
@@ -239,6 +301,13 @@ links_found load sorted rows are number below own links own_is found = record {
   where
     steps : (dep : DepKind) → AreNames (count_of load) (name_at load) (HasKind links dep) (IsEdge load dep (name_at load number))
     steps dep = linked_steps load sorted rows are number below own links own_is found dep
+
+-- all links of a load were found
+pub rows_found : (load : LoadMap) → IsTrue (is_sorted name_cmp load.names) → (table rows : List (List Dependency)) → AreDependencyRows load.names table → AreFoundIn table (length table) rows → AreLinks load rows
+rows_found load sorted table rows are found = record {
+  one_each = found.units ∙ are.one_each;
+  each = λ number below. links_found load sorted table are number below (get_or table number []) (get_or rows number []) refl (found.each number);
+}
 
 -- ---- lists
 

@@ -1,4 +1,4 @@
--- Loads with the same names and the same dependencies by numbers have the same edges.
+-- Loads that a test finds alike have the same names and the same dependencies by numbers.
 use Rattle.std.proofs.Common.{◌≡◌, ◌<◌, ◌+◌, ◌++◌, ◌⊎◌, eqb, ℕ, Bool, true, false, not, List, [], ◌∷◌, length, get_or, take, inl, inr, IsTrue, refl, ap, sym, subst, ◌∙◌, arith}
 use Rattle.std.specs.Map.{keys_of}
 use Rattle.std.specs.Cmp.Lexicographic.{pointwise}
@@ -16,10 +16,9 @@ use Rattle.parallel_load.specs.declared.loaded.Dependency.{Dependency}
 use Rattle.parallel_load.specs.declared.loaded.NameLoad.{NameLoad}
 use Rattle.parallel_load.specs.Loads.{LoadMap}
 use Rattle.parallel_load.specs.Numbers.{AreDependencyRows}
+use Rattle.parallel_load.specs.Patched.{HaveSameRows}
 use Rattle.parallel_load.specs.SameLaws.{first_true, same_by, second_true}
-use Rattle.inverse_deps.specs.Edges.{HaveSameEdges}
 use Rattle.inverse_deps.specs.NumberLaws.{key_at_place, keys_length}
-use Rattle.inverse_deps.specs.RowLaws.{rows_make_the_edges}
 
 -- ---- lists that a test finds the same
 
@@ -33,19 +32,19 @@ one_same x y h =
     by (inr ne) t = let f = ne_eqb x.number y.number ne in cc
 
 -- what a test of all rows has told
-pub linked_alike : (a b : LoadMap) (ns ms : List (Name × NameLoad)) (rows others : List (List Dependency)) → ns ≡ a.names → ms ≡ b.names → IsTrue (is_sorted name_cmp ns) → IsTrue (is_sorted name_cmp ms)
-    → keys_of ns ≡ keys_of ms → AreDependencyRows a.names rows → AreDependencyRows b.names others → pointwise (pointwise (dep_eq.eq-value).it) rows others ≡ true → HaveSameEdges a b
-linked_alike a b ns ms rows others e f in_order also_in_order names in_a in_b told =
+pub rows_alike : (a b : LoadMap) (ns ms : List (Name × NameLoad)) (rows others : List (List Dependency)) → ns ≡ a.names → ms ≡ b.names → IsTrue (is_sorted name_cmp ns) → IsTrue (is_sorted name_cmp ms)
+    → keys_of ns ≡ keys_of ms → AreDependencyRows a.names rows → AreDependencyRows b.names others → pointwise (pointwise (dep_eq.eq-value).it) rows others ≡ true → HaveSameRows a b
+rows_alike a b ns ms rows others e f in_order also_in_order names in_a in_b told =
     let S : List (Name × NameLoad) → Type 0 = λ es. IsTrue (is_sorted name_cmp es) in
     let same : rows ≡ others = same_by (pointwise (dep_eq.eq-value).it) (same_by (dep_eq.eq-value).it one_same) rows others told in
-    rows_make_the_edges a b (record {
+    record {
       names_are = ap keys_of (sym e) ∙ names ∙ ap keys_of f;
       sorted = subst S e in_order;
       sorted_too = subst S f also_in_order;
       table = rows;
       rows = in_a;
       rows_too = subst (λ (rs : List (List Dependency)). AreDependencyRows b.names rs) (sym same) in_b;
-    })
+    }
 
 -- ---- names that are compared one by one
 

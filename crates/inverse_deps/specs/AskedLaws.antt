@@ -20,7 +20,7 @@ module _ (load : LoadMap) (extra : List Name) where
   depended : (dep : DepKind) (u v : Name) → DependsOn (asked_for extra load) dep u v → DependsOn load dep u v
   depended dep u v d = record { unit = d.unit; unit_is = d.unit_is; listed = d.listed; other = d.other }
 
-  same_edges : (dep : DepKind) (u v : Name) → IsEdge load dep u v ↔ IsEdge (asked_for extra load) dep u v
+  pub same_edges : (dep : DepKind) (u v : Name) → IsEdge load dep u v ↔ IsEdge (asked_for extra load) dep u v
   same_edges dep u v = (to, from)
     where
       to : IsEdge load dep u v → IsEdge (asked_for extra load) dep u v

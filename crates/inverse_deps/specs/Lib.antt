@@ -2,6 +2,7 @@ pub mod AskedLaws
 pub mod EdgeLaws
 pub mod EdgeRows
 pub mod Edges
+pub mod LinkLaws
 pub mod Links
 pub mod MakingLaws
 pub mod NamingLaws

@@ -1,6 +1,6 @@
 -- Loads with the same names and the same dependencies by numbers have the same edges.
 -- Source: this project's own.
-use Rattle.std.proofs.Common.{◌≡◌, ◌<◌, ℕ, zero, suc, List, [], ◌∷◌, length, get_or, inl, inr, IsTrue, Some, refl, ap, sym, subst, ◌∙◌, arith}
+use Rattle.std.proofs.Common.{◌≡◌, ◌<◌, ◌↔◌, ℕ, zero, suc, List, [], ◌∷◌, length, get_or, inl, inr, IsTrue, Some, refl, ap, sym, subst, ◌∙◌, arith}
 use Rattle.std.specs.FinMap.Entries.{is_sorted}
 use Rattle.std.proofs.lemmas.Option.{none-some}
 use Rattle.list_laws.specs.Members.{none_there}
@@ -111,5 +111,8 @@ turned_round a b same = record {
   rows_too = same.rows;
 }
 
+pub edges_alike : (a b : LoadMap) → HaveSameRows a b → (dep : DepKind) (u v : Name) → IsEdge a dep u v ↔ IsEdge b dep u v
+edges_alike a b same dep u v = (edge a b same dep u v, edge b a (turned_round a b same) dep u v)
+
 pub rows_make_the_edges : RowsMakeTheEdges
-rows_make_the_edges a b same = edges_go_over a b same.names_are (λ dep u v. (edge a b same dep u v, edge b a (turned_round a b same) dep u v))
+rows_make_the_edges a b same = edges_go_over a b same.names_are (edges_alike a b same)

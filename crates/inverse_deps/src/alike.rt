@@ -1,16 +1,17 @@
 //! Loads that have the same edges.
 ghost use Rattle.std.specs.{Prelude.{◌≡◌, ◌↔◌, IsTrue}, Map.{keys_of}};
-ghost use Rattle.inverse_deps.specs.Edges.{HaveSameEdges};
+ghost use Rattle.inverse_deps.specs.{Edges.{HaveSameEdges}, Links.{HaveSameLinks}};
 
 use parallel_load::{Loaded, NameLoad};
 use unit_name::UnitName;
 
 /// Whether two loads have the same names, with the same dependencies on them in the same order: then what are all edges of one
-/// are all edges of the other. It takes no memory. O(n) and the dependencies, for n names.
+/// are all edges of the other, and so are links. It takes no memory. O(n) and the dependencies, for n names.
 ///
 /// What else the units have, and which of them are masked or missing, isn't looked at.
 pub fn are_linked_alike(first: &Loaded, second: &Loaded) -> bool
     ensures edges { IsTrue result → HaveSameEdges first.now second.now }
+    ensures links { IsTrue result → HaveSameLinks first.now second.now }
 {
     have_same_names(first.names(), second.names())
         && *first.dependencies() == *second.dependencies()

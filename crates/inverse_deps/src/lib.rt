@@ -10,14 +10,16 @@ mod alike;
 mod building;
 mod kind_rows;
 mod laws;
-mod links;
+mod link_rows;
 mod lists;
 mod numbers;
 mod steps;
+mod unit_edges;
 
 pub use alike::are_linked_alike;
 pub use building::edges;
 pub use laws::edge_laws;
-pub use links::edges_of;
+pub use link_rows::Links;
 pub use lists::Edges;
 pub use numbers::{names_at, number_of};
+pub use unit_edges::edges_of;

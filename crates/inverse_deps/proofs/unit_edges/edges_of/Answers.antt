@@ -5,11 +5,9 @@ use Rattle.std.proofs.lemmas.List.Elements.{All-push}
 use Rattle.setting_rules.specs.declared.dependency_lists.DependencyList.{DependencyList}
 use Rattle.setting_rules.specs.declared.kinds.DepKind.{DepKind}
 use Rattle.setting_rules.specs.declared.kinds.DepKind.TheVariants.{Before}
-use Rattle.parallel_load.specs.declared.loaded.Dependency.{Dependency}
 use Rattle.inverse_deps.specs.Edges.{AreEdgesFrom}
-use Rattle.inverse_deps.specs.Links.{AreLinked}
 use Rattle.inverse_deps.proofs.Linking.{edges_linked}
-use Rattle.inverse_deps.proofs.links.edges_of.Goals as goal
+use Rattle.inverse_deps.proofs.unit_edges.edges_of.Goals as goal
 
 pub loop-kind-preserved : goal.loop-kind-preserved
 loop-kind-preserved c =
@@ -20,9 +18,8 @@ loop-kind-preserved c =
     let list : DependencyList = record { kind = dep; names = c.in_ok-names.names } in
     let kind_of : DependencyList → DepKind = λ l. l.kind in
     let P : DependencyList → Type 0 = λ l. AreEdgesFrom load l.kind c.args.name.now l.names in
-    let L : List Dependency → Type 0 = λ ls. AreLinked load ls dep c.in_ok-names.names in
     let more : take (i + 1) kinds ≡ take i kinds ++ dep ∷ [] = take_more kinds i Before c.loop-kind-test.true in
-    let here : P list = edges_linked load c.args.name.now c.in_ok-links.links.items dep c.in_ok-names.names c.in_ok-links.ensures.links (subst L c.deref.ensures.value c.in_ok-names.ensures.names) in
+    let here : P list = edges_linked load c.args.name.now c.links_of-own.result.now dep c.in_ok-names.names c.links_of-own.ensures.own c.in_ok-names.ensures.names in
     record {
       kinds_are =
           ap (map kind_of) c.in_ok-push.ensures.ok ∙ map-append kind_of c.loop-kind.lists (list ∷ [])

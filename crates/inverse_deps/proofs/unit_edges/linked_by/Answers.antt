@@ -2,7 +2,7 @@ use Rattle.std.proofs.Common.{◌<◌, ℕ, List, map, ap, subst, sym, ◌∙◌
 use Rattle.std.specs.List.{All}
 use Rattle.inverse_deps.specs.Numbers.{count_of, name_at}
 use Rattle.inverse_deps.proofs.Linking.{linked, numbers_within}
-use Rattle.inverse_deps.proofs.links.linked_by.Goals as goal
+use Rattle.inverse_deps.proofs.unit_edges.linked_by.Goals as goal
 
 pub names_at-requires : goal.names_at-requires
 names_at-requires c =

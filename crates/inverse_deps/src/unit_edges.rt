@@ -1,0 +1,59 @@
+//! The edges of one unit: what it names, and what names it by the inverse.
+ghost use Rattle.std.specs.{Prelude.{◌<◌, IfOk}, List.{All}};
+ghost use Rattle.inverse_deps.specs.{Edges.{AreEdgesOf}, Links.{AreLinked, AreLinks, AreLinksOf}, Numbers.{count_of}};
+
+use crate::link_rows::Links;
+use crate::numbers::{names_at, number_of};
+use crate::steps::numbers_by;
+use parallel_load::{Dependency, Loaded};
+use plain_values::Items;
+use setting_rules::{DepKind, DependencyList, in_byte_order};
+use std::alloc::{AllocError, Global};
+use unit_name::UnitName;
+
+/// The edges from a unit, by its main name: for each kind, in the order of the kinds, the units to which edges of it lead, in
+/// byte order. All lists are empty for a name that is of no unit. It fails for want of memory alone.
+///
+/// It costs a search for the name, a pass over the unit's own links for each kind, and the lists; other units cost nothing.
+pub fn edges_of(
+    alloc: Global,
+    loaded: &Loaded,
+    links: &Links,
+    name: &UnitName,
+) -> Result<Items<DependencyList>, AllocError>
+    requires links { AreLinks loaded.now links.now }
+    ensures lists { IfOk result (AreEdgesOf loaded.now name.now) }
+{
+    let own = links_of(loaded, links, name);
+    let mut lists = Items::new(alloc);
+    for kind in DepKind::all() {
+        let names = linked_by(alloc, loaded, own, *kind)?;
+        lists.push(DependencyList { kind: *kind, names })?;
+    }
+    Ok(lists)
+}
+
+// The links of a unit: none of a name that is of no unit.
+fn links_of<'a>(loaded: &Loaded, links: &'a Links, name: &UnitName) -> &'a [Dependency]
+    requires links { AreLinks loaded.now links.now }
+    ensures own { AreLinksOf loaded.now name.now result.now }
+{
+    match number_of(loaded, name) {
+        Some(number) => links.at(number),
+        None => &[],
+    }
+}
+
+// The names of the links of a kind.
+fn linked_by(
+    alloc: Global,
+    loaded: &Loaded,
+    links: &[Dependency],
+    kind: DepKind,
+) -> Result<Items<UnitName>, AllocError>
+    requires links { All (λ one. one.number < count_of loaded.now) links.now }
+    ensures names { IfOk result (AreLinked loaded.now links.now kind) }
+{
+    let numbers = numbers_by(alloc, links, kind)?;
+    Ok(in_byte_order(names_at(alloc, loaded, &numbers)?))
+}
