@@ -8,7 +8,7 @@ ghost use Rattle.fleet_answers.specs.Answers.{AreKnown, IsSnapshot, IsTold, host
 
 use crate::questions::{Answer, Question};
 use crate::tellings::{linked_unit, planned, pulled};
-use inverse_deps::{Edges, are_linked_alike, edges};
+use inverse_deps::{Edges, Links, are_linked_alike, edges};
 use parallel_load::{Gate, LoadFault, Loaded, Refreshed, load_fleet, load_here, refresh_in_place};
 use plain_values::{Items, Shared, TryClone};
 use replica_store::{HostName, Place, Store};
@@ -17,16 +17,17 @@ use std::marker::Model;
 use std::thread::Threads;
 use unit_name::UnitName;
 
-/// All units that must be loaded of a store, and their edges once a question asked for them. Contracts see the load.
+/// All units that must be loaded of a store, the links of each, and all edges once a question asked for them. Contracts see the load.
 #[derive(Debug, Drop)]
 pub struct Snapshot {
     loaded: Loaded,
+    links: Shared<Links>,
     edges: Option<Shared<Edges>>,
 }
 
 impl Model for Snapshot {
     ghost use Rattle.std.specs.Option.{IfSome};
-    ghost use Rattle.inverse_deps.specs.Edges.{AreEdges};
+    ghost use Rattle.inverse_deps.specs.{Edges.{AreEdges}, Links.{AreLinks}};
     ghost use Rattle.parallel_load.specs.Loads.{LoadMap, coded_load};
 
     ghost Value = { LoadMap };
@@ -35,14 +36,14 @@ impl Model for Snapshot {
 
     ghost view = { λ s. s.loaded };
 
-    ghost invariant = { λ s. IfSome s.edges (AreEdges s.loaded) };
+    ghost invariant = { λ s. AreLinks s.loaded s.links × IfSome s.edges (AreEdges s.loaded) };
 }
 
 impl Snapshot {
     /// The snapshot of a store for a host, or without one, with these names asked for beside all at which something is visible, by one thread.
     /// `TooManyUnits` exactly where more than 4,096 names must be loaded, aliases counted; or `Memory` for want of memory.
     ///
-    /// One load (systemd.unit(5)), and no edges yet.
+    /// One load (systemd.unit(5)) with the links of each unit, and no edges yet.
     pub fn of(
         alloc: Global,
         store: &Store,
@@ -54,7 +55,7 @@ impl Snapshot {
         ensures no_workers { IfErr result (λ fault. OnWorkers fault ⊥) }
     {
         let loaded = load_here(alloc, store, host, extra)?;
-        Ok(Snapshot::of_load(loaded))
+        Ok(Snapshot::of_load(loaded)?)
     }
 
     /// The same snapshot by 1 to 64 workers, whatever their number and whatever the gate answers. `Workers` exactly where
@@ -76,45 +77,67 @@ impl Snapshot {
             return Snapshot::of(alloc, store, host, extra);
         }
         let loaded = load_fleet(rt, alloc, store, host, extra, workers, gate)?;
-        Ok(Snapshot::of_load(loaded))
+        Ok(Snapshot::of_load(loaded)?)
     }
 
-    // A load, whose edges aren't made yet.
-    fn of_load(loaded: Loaded) -> Snapshot
-        ensures load { result ≡ loaded }
+    // A load and its links. Its edges aren't made yet.
+    fn of_load(loaded: Loaded) -> Result<Snapshot, AllocError>
+        ensures load { IfOk result (λ made. made ≡ loaded) }
     {
-        Snapshot {
+        let alloc = loaded.allocator();
+        let links = Shared::new(alloc, Links::of(alloc, &loaded)?)?;
+        Ok(Snapshot {
             loaded,
+            links,
             edges: None,
-        }
+        })
     }
 
     /// The snapshot of another store for the same host with the same names asked for, where these places are all at which the
-    /// two stores show otherwise: what `of` gives of it, refusals too, but that only what changed is read. Edges that were made
-    /// are kept where names and dependencies stayed.
+    /// two stores show otherwise: what `of` gives of it, refusals too, but that only what changed is read. Links, and edges that
+    /// were made, are kept where names and dependencies stayed.
     pub(crate) fn refreshed(self, store: &Store, touched: &[Place]) -> Result<Snapshot, LoadFault>
         requires before { IsBefore self store.now touched.now }
         ensures snapshot { IfOk result (IsSnapshot (view_of store.now self.host) self.extra) }
         ensures over { IfErr result (λ fault. OnTooMany fault (IsTooLarge (view_of store.now self.host) self.extra)) }
         ensures no_workers { IfErr result (λ fault. OnWorkers fault ⊥) }
     {
-        let Snapshot { loaded, edges } = self;
+        let Snapshot {
+            loaded,
+            links,
+            edges,
+        } = self;
         match refresh_in_place(loaded, store, touched)? {
-            Refreshed::InPlace(loaded) => Ok(Snapshot { loaded, edges }),
+            Refreshed::InPlace(loaded) => Ok(Snapshot {
+                loaded,
+                links,
+                edges,
+            }),
             Refreshed::Anew(before, loaded) => {
-                let edges = edges_for(edges, &before, &loaded);
-                Ok(Snapshot { loaded, edges })
+                if are_linked_alike(&before, &loaded) {
+                    return Ok(Snapshot {
+                        loaded,
+                        links,
+                        edges,
+                    });
+                }
+                Ok(Snapshot::of_load(loaded)?)
             }
         }
     }
 
-    /// The same, as if these names had been asked for in place of those that were: edges stay. It takes no memory.
+    /// The same, as if these names had been asked for in place of those that were: links and edges stay. It takes no memory.
     pub(crate) fn asked_for(self, extra: Items<UnitName>) -> Snapshot
         ensures load { result ≡ asked_for extra self }
     {
-        let Snapshot { loaded, edges } = self;
+        let Snapshot {
+            loaded,
+            links,
+            edges,
+        } = self;
         Snapshot {
             loaded: loaded.asked_for(extra),
+            links,
             edges,
         }
     }
@@ -149,7 +172,10 @@ impl Snapshot {
         ensures load { self.new ≡ self.old }
     {
         match question {
-            Question::Unit { name, .. } => Ok(Answer::Unit(linked_unit(self.loaded(), name)?)),
+            Question::Unit { name, .. } => {
+                let unit = linked_unit(self.loaded(), self.links.get(), name)?;
+                Ok(Answer::Unit(unit))
+            }
             Question::Pulled { name, .. } => {
                 let edges = self.edges()?;
                 Ok(Answer::Pulled(pulled(self.loaded(), edges.get(), name)?))
@@ -159,20 +185,5 @@ impl Snapshot {
                 planned(self.loaded(), edges.get(), request)
             }
         }
-    }
-}
-
-// The edges of a load that were made, where they are those of another load too.
-fn edges_for(
-    edges: Option<Shared<Edges>>,
-    before: &Loaded,
-    loaded: &Loaded,
-) -> Option<Shared<Edges>>
-    requires edges { IfSome edges (AreEdges before.now) }
-    ensures edges { IfSome result (AreEdges loaded.now) }
-{
-    match edges {
-        Some(made) if are_linked_alike(before, loaded) => Some(made),
-        _ => None,
     }
 }

@@ -1,13 +1,13 @@
 //! What a load tells of the units for which names stand.
 ghost use Rattle.std.specs.Prelude.{◌≡◌, IfOk, IfErr, IsSome, Some};
-ghost use Rattle.inverse_deps.specs.Edges.{AreEdges};
+ghost use Rattle.inverse_deps.specs.{Edges.{AreEdges}, Links.{AreLinks}};
 ghost use Rattle.parallel_load.specs.Loads.{main_in, unit_in};
 ghost use Rattle.unit_graph.specs.Graphs.{IsKnown};
 ghost use Rattle.start_plan.specs.{Outcomes.{IsPlanned, IsRefusalOf}, Requests.{IsOfGraph}};
 ghost use Rattle.fleet_answers.specs.Answers.{ArePulled, IsLinkedUnit, IsPlanTold};
 
 use crate::questions::{Answer, LinkedUnit};
-use inverse_deps::{Edges, edges_of};
+use inverse_deps::{Edges, Links, edges_of};
 use parallel_load::{Loaded, NameLoad, Unit};
 use plain_values::{Items, Shared, TryClone};
 use start_plan::{Plan, Refusal, Request, plan};
@@ -15,13 +15,18 @@ use std::alloc::AllocError;
 use unit_graph::Graph;
 use unit_name::UnitName;
 
-/// The unit for which a name stands, with its edges, and no others.
-pub(crate) fn linked_unit(loaded: &Loaded, name: &UnitName) -> Result<LinkedUnit, AllocError>
+/// The unit for which a name stands, with its edges, by the links of the load.
+pub(crate) fn linked_unit(
+    loaded: &Loaded,
+    links: &Links,
+    name: &UnitName,
+) -> Result<LinkedUnit, AllocError>
+    requires links { AreLinks loaded.now links.now }
     requires known { IsKnown loaded.now name.now }
     ensures unit { IfOk result (IsLinkedUnit loaded.now name.now) }
 {
     let main = main_of(loaded, name);
-    let edges = edges_of(loaded.allocator(), loaded, main)?;
+    let edges = edges_of(loaded.allocator(), loaded, links, main)?;
     let unit = shared_unit(loaded, main)?;
     Ok(LinkedUnit { unit, edges })
 }

@@ -7,11 +7,11 @@ use Rattle.fleet_answers.specs.declared.questions.Question.{Question}
 use Rattle.fleet_answers.proofs.Told.{known_one, of_graph}
 use Rattle.fleet_answers.proofs.snapshots.Snapshot.answer.Goals as goal
 
-pub linked_unit-requires : goal.linked_unit-requires
-linked_unit-requires c =
+pub linked_unit-requires-clause-known : goal.linked_unit-requires-clause-known
+linked_unit-requires-clause-known c =
     let P : Question → Type 0 = λ q. AreKnown c.args.self.now (names_asked q) in
     let Q : LoadMap → Type 0 = λ l. IsKnown l c.in-Unit.name in
-    record { known = subst Q (sym c.loaded.ensures.load) (known_one c.args.self.now c.in-Unit.name (subst P c.in-Unit.is c.requires.known)) }
+    subst Q (sym c.loaded.ensures.load) (known_one c.args.self.now c.in-Unit.name (subst P c.in-Unit.is c.requires.known))
 
 pub pulled-requires-clause-known : goal.pulled-requires-clause-known
 pulled-requires-clause-known c =

@@ -2,6 +2,8 @@ use Rattle.std.proofs.Common.{sym, subst}
 use Rattle.std.specs.Option.{IfSome}
 use Rattle.inverse_deps.specs.AskedLaws.{asking_makes_no_edges}
 use Rattle.inverse_deps.specs.Edges.{AreEdges}
+use Rattle.inverse_deps.specs.LinkLaws.{asking_makes_no_links}
+use Rattle.inverse_deps.specs.Links.{AreLinks}
 use Rattle.parallel_load.specs.AskedLaws.{asked_for}
 use Rattle.parallel_load.specs.Loads.{LoadMap}
 use Rattle.fleet_answers.proofs.Held.{if_some}
@@ -10,6 +12,8 @@ use Rattle.fleet_answers.proofs.snapshots.Snapshot.asked_for.Goals as goal
 pub invariant_of-result : goal.invariant_of-result
 invariant_of-result c =
     let old : LoadMap = c.self.inside.loaded in
-    subst (λ (l : LoadMap). IfSome c.self.inside.edges (AreEdges l)) (sym c.asked_for.ensures.load)
-    (if_some (AreEdges old) (AreEdges (asked_for c.args.extra old)) (λ edges h. (asking_makes_no_edges old c.args.extra edges).0 h) c.self.inside.edges
-    c.self.invariant)
+    let links = c.self.inside.links in
+    subst (λ (l : LoadMap). AreLinks l links × IfSome c.self.inside.edges (AreEdges l)) (sym c.asked_for.ensures.load) (
+      (asking_makes_no_links old c.args.extra links).0 c.self.invariant.0,
+      if_some (AreEdges old) (AreEdges (asked_for c.args.extra old)) (λ edges h. (asking_makes_no_edges old c.args.extra edges).0 h) c.self.inside.edges c.self.invariant.1,
+    )

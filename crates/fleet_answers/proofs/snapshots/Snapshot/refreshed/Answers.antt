@@ -1,5 +1,6 @@
 use Rattle.std.proofs.Common.{subst}
 use Rattle.inverse_deps.specs.Edges.{AreEdges}
+use Rattle.inverse_deps.specs.LinkLaws.{rows_make_the_links}
 use Rattle.inverse_deps.specs.RowLaws.{rows_make_the_edges}
 use Rattle.path_maps.specs.Views.{view_of}
 use Rattle.parallel_load.specs.declared.refreshing.Refreshed.{Refreshed}
@@ -11,6 +12,9 @@ use Rattle.fleet_answers.proofs.snapshots.Snapshot.refreshed.Goals as goal
 pub invariant_of-result : goal.invariant_of-result
 invariant_of-result c =
     let old : LoadMap = c.self.inside.loaded in
+    let new : LoadMap = c.in-InPlace.loaded in
     let P : Refreshed → Type 0 = IsRefreshed (view_of c.args.store.now old.host) old in
-    if_some (AreEdges old) (AreEdges c.in-InPlace.loaded) (λ edges h. (rows_make_the_edges old c.in-InPlace.loaded (subst P c.in-InPlace.is c.in_ok-loaded.ensures.load).1 edges).0 h)
-    c.self.inside.edges c.self.invariant
+    let same = (subst P c.in-InPlace.is c.in_ok-loaded.ensures.load).1 in (
+      (rows_make_the_links old new same c.self.inside.links).0 c.self.invariant.0,
+      if_some (AreEdges old) (AreEdges new) (λ edges h. (rows_make_the_edges old new same edges).0 h) c.self.inside.edges c.self.invariant.1,
+    )
