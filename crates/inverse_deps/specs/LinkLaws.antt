@@ -1,6 +1,6 @@
 -- Loads with the same names and the same edges between them have the same links.
 -- Source: this project's own.
-use Rattle.std.proofs.Common.{◌≡◌, ◌<◌, ◌↔◌, ℕ, List, [], length, get_or, refl, ap, sym, subst, ◌∙◌}
+use Rattle.std.proofs.Common.{◌≡◌, ◌<◌, ◌↔◌, ℕ, List, [], get_or, refl, sym, subst, ◌∙◌}
 use Rattle.std.specs.List.{All}
 use Rattle.std.specs.Map.{keys_of}
 use Rattle.index_rows.specs.Numbering.{AreNames}
@@ -13,7 +13,7 @@ use Rattle.parallel_load.specs.Patched.{HaveSameRows}
 use Rattle.inverse_deps.specs.AskedLaws.{same_edges}
 use Rattle.inverse_deps.specs.Edges.{IsEdge}
 use Rattle.inverse_deps.specs.Links.{AreLinks, AreLinksOf, HaveSameLinks}
-use Rattle.inverse_deps.specs.NumberLaws.{keys_length}
+use Rattle.inverse_deps.specs.NumberLaws.{counts_alike, named_alike}
 use Rattle.inverse_deps.specs.Numbers.{count_of, name_at}
 use Rattle.inverse_deps.specs.RowLaws.{edges_alike}
 use Rattle.inverse_deps.specs.Tables.{HasKind}
@@ -28,16 +28,16 @@ AskingMakesNoLinks = (load : LoadMap) (extra : List Name) → HaveSameLinks load
 
 module _ (a b : LoadMap) (names : keys_of a.names ≡ keys_of b.names) (same : (dep : DepKind) (u v : Name) → IsEdge a dep u v ↔ IsEdge b dep u v) where
   counts : count_of a ≡ count_of b
-  counts = sym (keys_length a.names) ∙ ap length names ∙ keys_length b.names
+  counts = counts_alike a b names
 
-  named_alike : (i : ℕ) → name_at a i ≡ name_at b i
-  named_alike i = ap (λ (ks : List Name). get_or ks i []) names
+  name_is : (i : ℕ) → name_at a i ≡ name_at b i
+  name_is = named_alike a b names
 
   names_over : (P : ℕ → Type 0) (Q Q' : Name → Type 0) → ((v : Name) → Q v ↔ Q' v) → AreNames (count_of a) (name_at a) P Q → AreNames (count_of b) (name_at b) P Q'
   names_over P Q Q' q n = record {
     within = λ i h. subst (λ c. i < c) counts (n.within i h);
-    named = λ i h. subst Q' (named_alike i) ((q (name_at a i)).0 (n.named i h));
-    numbered = λ v h. (let r = n.numbered v ((q v).1 h) in (r.0, (r.1.0, sym (named_alike r.0) ∙ r.1.1)));
+    named = λ i h. subst Q' (name_is i) ((q (name_at a i)).0 (n.named i h));
+    numbered = λ v h. (let r = n.numbered v ((q v).1 h) in (r.0, (r.1.0, sym (name_is r.0) ∙ r.1.1)));
   }
 
   unit_links : (u : Name) (links : List Dependency) → AreLinksOf a u links → AreLinksOf b u links
@@ -50,7 +50,7 @@ module _ (a b : LoadMap) (names : keys_of a.names ≡ keys_of b.names) (same : (
   links_over rows l = record {
     one_each = l.one_each ∙ counts;
     each = λ i below.
-        subst (λ u. AreLinksOf b u (get_or rows i [])) (named_alike i)
+        subst (λ u. AreLinksOf b u (get_or rows i [])) (name_is i)
         (unit_links (name_at a i) (get_or rows i []) (l.each i (subst (λ c. i < c) (sym counts) below)));
   }
 

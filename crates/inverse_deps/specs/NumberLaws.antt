@@ -1,5 +1,6 @@
 -- Numbers of names: they compare as the names do, each unit has one, and what is loaded for a name stands at its number.
-use Rattle.std.proofs.Common.{◌≡◌, ◌<◌, ℕ, [], get_or, IsTrue, Option, Some, None, refl, ap}
+use Rattle.std.proofs.Common.{◌≡◌, ◌<◌, ℕ, List, [], length, get_or, IsTrue, Option, Some, None, refl, ap, sym, ◌∙◌}
+use Rattle.std.specs.Map.{keys_of}
 use Rattle.std.specs.Option.{option_and_then}
 use Rattle.std.specs.Cmp.Lexicographic.{nat_list_cmp_total}
 use Rattle.std.specs.FinMap.Entries.{is_sorted}
@@ -8,7 +9,7 @@ use Rattle.index_rows.specs.Numbering.{IsNumbering}
 use Rattle.unit_name.specs.Names.{Name, name_cmp}
 use Rattle.unit_name.specs.NameLaws.{name_cmp-IsAntisymmetric}
 use Rattle.parallel_load.specs.declared.loaded.NameLoad.{NameLoad}
-use Rattle.parallel_load.specs.KeyLaws.{find_place, keys_rise, place_of_found}
+use Rattle.parallel_load.specs.KeyLaws.{find_place, keys_length, keys_rise, place_of_found}
 use Rattle.parallel_load.specs.Loads.{LoadMap, load_at, unit_in, unit_part}
 use Rattle.inverse_deps.specs.Edges.{IsUnitIn}
 use Rattle.inverse_deps.specs.Numbers.{count_of, name_at}
@@ -23,6 +24,14 @@ module _ (load : LoadMap) (sorted : IsTrue (is_sorted name_cmp load.names)) wher
   -- the unit of a name is what stands at its number, if that is a unit
   pub unit_at : (i : ℕ) (d : Name × NameLoad) → i < count_of load → unit_in load (name_at load i) ≡ unit_part (get_or load.names i d).1
   unit_at i d l = ap (λ o. option_and_then unit_part o) (find_place name_cmp nat_list_cmp_total load.names i [] d sorted l)
+
+-- loads with the same names have as many, with the same numbers
+module _ (a b : LoadMap) (names : keys_of a.names ≡ keys_of b.names) where
+  pub counts_alike : count_of a ≡ count_of b
+  counts_alike = sym (keys_length a.names) ∙ ap length names ∙ keys_length b.names
+
+  pub named_alike : (i : ℕ) → name_at a i ≡ name_at b i
+  named_alike i = ap (λ (ks : List Name). get_or ks i []) names
 
 -- each unit has a number
 pub unit_number : (load : LoadMap) (u : Name) → IsUnitIn load u → (i : ℕ) × ((i < count_of load) × (name_at load i ≡ u))

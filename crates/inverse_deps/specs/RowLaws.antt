@@ -19,7 +19,7 @@ use Rattle.parallel_load.specs.Patched.{HaveSameRows}
 use Rattle.inverse_deps.specs.EdgeLaws.{edges_go_over}
 use Rattle.inverse_deps.specs.Edges.{DependsOn, HaveSameEdges, IsEdge, IsUnitIn}
 use Rattle.inverse_deps.specs.Numbers.{count_of, name_at}
-use Rattle.inverse_deps.specs.NumberLaws.{keys_length, unit_at, unit_number}
+use Rattle.inverse_deps.specs.NumberLaws.{counts_alike, named_alike, unit_at, unit_number}
 use Rattle.inverse_deps.specs.Tables.{HasKind}
 
 -- loads with the same rows have the same edges
@@ -81,21 +81,19 @@ rows_named load sorted dep rows a number l = let p : Name × NameLoad = ([], OfA
 -- ---- edges
 
 module _ (a b : LoadMap) (same : HaveSameRows a b) where
-  named_alike : (i : ℕ) → name_at a i ≡ name_at b i
-  named_alike i = ap (λ (ks : List Name). get_or ks i []) same.names_are
-
-  counts : count_of a ≡ count_of b
-  counts = sym (keys_length a.names) ∙ ap length same.names_are ∙ keys_length b.names
+  name_is : (i : ℕ) → name_at a i ≡ name_at b i
+  name_is = named_alike a b same.names_are
 
   depends : (dep : DepKind) (u v : Name) → DependsOn a dep u v → DependsOn b dep u v
   depends dep u v d =
       let n = unit_number a u (d.unit, d.unit_is) in
       let r = (rows_named a same.sorted dep same.table same.rows n.0 n.1.0).numbered v (subst (λ (w : Name). DependsOn a dep w v) (sym n.1.1) d) in
       let lt = n.1.0 in
+      let counts = counts_alike a b same.names_are in
       let below : n.0 < count_of b = omega (arith, lt, counts) in
       let there = (rows_named b same.sorted_too dep same.table same.rows_too n.0 below).named r.0 r.1.0 in
-      subst (λ (w : Name). DependsOn b dep w v) (sym (named_alike n.0) ∙ n.1.1)
-      (subst (λ (w : Name). DependsOn b dep (name_at b n.0) w) (sym (named_alike r.0) ∙ r.1.1) there)
+      subst (λ (w : Name). DependsOn b dep w v) (sym (name_is n.0) ∙ n.1.1)
+      (subst (λ (w : Name). DependsOn b dep (name_at b n.0) w) (sym (name_is r.0) ∙ r.1.1) there)
 
   edge : (dep : DepKind) (u v : Name) → IsEdge a dep u v → IsEdge b dep u v
   edge dep u v (inl d) = inl (depends dep u v d)
