@@ -110,8 +110,12 @@ pub fn crowd<R: Threads + Wait + Sync, G: Gate + Sync>(
     if seats == 0 || seats > MOST_SEATS {
         return Err(CrowdFault::Seats);
     }
-    match Blank::new(rt, replica.try_clone()?, seats) {
-        Ok(blank) => { Ok(crowd_at::<Brand, R, G>(rt, alloc, blank, seats, edits, gate)?) }
-        Err(_) => Err(CrowdFault::Memory),
-    }
+    let Ok(replica) = replica.try_clone() else {
+        return Err(CrowdFault::Memory);
+    };
+    let Ok(blank) = Blank::new(rt, replica, seats) else {
+        return Err(CrowdFault::Memory);
+    };
+    let counted = crowd_at::<Brand, R, G>(rt, alloc, blank, seats, edits, gate);
+    counted.map_err(|_| CrowdFault::Memory)
 }

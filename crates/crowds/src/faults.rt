@@ -1,8 +1,4 @@
 //! Why a crowd has no numbers.
-ghost use Rattle.std.specs.Prelude.{◌≡◌};
-ghost use Rattle.crowds.specs.declared.faults.CrowdFault.TheVariants.{Memory};
-
-use std::alloc::AllocError;
 use thiserror::Error;
 
 /// Why a crowd has no numbers. The replica is as it was.
@@ -14,12 +10,4 @@ pub enum CrowdFault {
     /// Memory was refused, or the node refused a seat, an edit or its end.
     #[error("out of memory")]
     Memory,
-}
-
-impl From<AllocError> for CrowdFault {
-    ghost from_gives = { λ _ fault. fault ≡ Memory };
-
-    fn from(_refused: AllocError) -> CrowdFault {
-        CrowdFault::Memory
-    }
 }
