@@ -33,6 +33,23 @@ fn numbered_answer(
     plan_rows(alloc, &case)
 }
 
+// The same answer by names.
+fn named_answer(
+    alloc: Global,
+    graph: &Graph,
+    request: &Request,
+) -> Result<Result<Plan, Refusal>, AllocError>
+    requires names { IsOfGraph graph.now.load request.now }
+    requires whole { ¬ AsksTemplate request.now }
+    ensures plan { IfOk result (λ answer. IfOk answer (IsPlanned graph.now.load graph.now.edges request.now)) }
+    ensures refusal { IfOk result (λ answer. IfErr answer (IsRefusalOf graph.now.load graph.now.edges request.now)) }
+{
+    match numbered_answer(alloc, graph, request)? {
+        Ok(plan) => Ok(Ok(named_plan(alloc, graph.loaded(), &plan)?)),
+        Err(refusal) => Ok(Err(named_refusal(alloc, graph.loaded(), &refusal)?)),
+    }
+}
+
 /// Which units start, in which order, and which stop, or the first reason why not. The request is for the host of the
 /// graph, and each of its names is a template or stands for a unit of the graph.
 ///
@@ -48,8 +65,5 @@ pub fn plan(alloc: Global, graph: &Graph, request: &Request) -> Result<Plan, Ref
     if asks_template(request) {
         return Err(Refusal::Template);
     }
-    match numbered_answer(alloc, graph, request)? {
-        Ok(plan) => Ok(named_plan(alloc, graph.loaded(), &plan)?),
-        Err(refusal) => Err(named_refusal(alloc, graph.loaded(), &refusal)?),
-    }
+    named_answer(alloc, graph, request).unwrap_or(Err(Refusal::Memory))
 }

@@ -1,10 +1,6 @@
 //! What is asked of a plan, and what it answers.
-ghost use Rattle.std.specs.Prelude.{◌≡◌};
-ghost use Rattle.start_plan.specs.declared.requests.Refusal.TheVariants.{Memory};
-
 use plain_values::Items;
 use replica_store::HostName;
-use std::alloc::AllocError;
 use thiserror::Error;
 use unit_name::UnitName;
 
@@ -56,12 +52,4 @@ pub enum Refusal {
     Cycle(Items<UnitName>),
     #[error("out of memory")]
     Memory,
-}
-
-impl From<AllocError> for Refusal {
-    ghost from_gives = { λ _ refusal. refusal ≡ Memory };
-
-    fn from(_fault: AllocError) -> Refusal {
-        Refusal::Memory
-    }
 }

@@ -1,4 +1,4 @@
-use Rattle.std.proofs.Common.{◌≡◌, ◌<◌, ℕ, List, Result, IfOk, IfErr, false, true, map, ap, sym, subst, ◌∙◌}
+use Rattle.std.proofs.Common.{◌≡◌, ◌<◌, ℕ, List, Result, IfOk, IfErr, map, ap, sym, subst, ◌∙◌}
 use Rattle.std.specs.List.{All}
 use Rattle.std.specs.Cmp.Lexicographic.{nat_list_cmp_total}
 use Rattle.plan_choice.specs.declared.answers.RowPlan.{RowPlan}
@@ -10,11 +10,11 @@ use Rattle.unit_name.specs.Names.{Name, name_cmp}
 use Rattle.parallel_load.specs.Loads.{LoadMap}
 use Rattle.inverse_deps.specs.Numbers.{count_of, name_at}
 use Rattle.start_plan.specs.Numbered.{IsNumberedPlan, IsNumberedRefusal}
-use Rattle.start_plan.specs.Requests.{AsksTemplate, case_of}
+use Rattle.start_plan.specs.Requests.{case_of}
 use Rattle.start_plan.specs.Tellings.{IsTellable, IsToldBy}
 use Rattle.start_plan.proofs.Answering.{stops_below, starts_below, tellable, told}
 use Rattle.start_plan.proofs.Casing.{target_known}
-use Rattle.start_plan.proofs.planning.plan.Goals as goal
+use Rattle.start_plan.proofs.planning.named_answer.Goals as goal
 
 pub named_plan-requires : goal.named_plan-requires
 named_plan-requires c =
@@ -41,7 +41,7 @@ returns-in_ok-named_plan-in-Ok-clause-plan c =
     let A : List Name → Type 0 = λ xs. IsPlan name_cmp names xs c.in_ok-named_plan-in-Ok.field-0.start in
     let B : List Name → Type 0 = λ ys. IsPlan name_cmp names (map (name_at load) c.in-Ok.plan.stops.items) ys in
     record {
-      no_template = λ h. (let f : false ≡ true = c.if-asks_template.ensures.template.1 h in cc (f));
+      no_template = c.requires.whole;
       planned = subst A (sym stop) (subst B (sym start)
           (plan_named (count_of load) (name_at load) name_cmp nat_list_cmp_total c.in_ok-plan.ensures.order p.case names p.named _ _ p.planned));
     }
@@ -51,11 +51,10 @@ named_refusal-requires c =
     let load = c.args.graph.now.load in
     let P : Result RowPlan RowRefusal → Type 0 = λ o. IfErr o (λ refusal. IsNumberedRefusal load c.args.graph.now.edges c.args.request.now (refusal_of refusal)) in
     let r = subst P c.in-Err.is c.in_ok-plan.ensures.refusal in
-    let whole : ¬ AsksTemplate c.args.request.now = λ h. (let f : false ≡ true = c.if-asks_template.ensures.template.1 h in cc (f)) in
     let L : LoadMap → Type 0 = λ m. IsTellable m (refusal_of c.in-Err.refusal) in
     record {
       numbers = subst L (sym c.loaded-in-Err.ensures.load)
-          (tellable load c.args.graph.now.edges c.args.request.now c.in_ok-plan.ensures.order r.case r.named (target_known load c.args.request.now c.requires.names whole)
+          (tellable load c.args.graph.now.edges c.args.request.now c.in_ok-plan.ensures.order r.case r.named (target_known load c.args.request.now c.requires.names c.requires.whole)
           c.loaded-in-Err.ensures.units (refusal_of c.in-Err.refusal) r.refused);
     }
 
@@ -64,7 +63,6 @@ returns-in_ok-named_refusal-in-Err-clause-refusal c =
     let load = c.args.graph.now.load in
     let P : Result RowPlan RowRefusal → Type 0 = λ o. IfErr o (λ refusal. IsNumberedRefusal load c.args.graph.now.edges c.args.request.now (refusal_of refusal)) in
     let r = subst P c.in-Err.is c.in_ok-plan.ensures.refusal in
-    let whole : ¬ AsksTemplate c.args.request.now = λ h. (let f : false ≡ true = c.if-asks_template.ensures.template.1 h in cc (f)) in
     let L : LoadMap → Type 0 = λ m. IsToldBy m (refusal_of c.in-Err.refusal) c.in_ok-named_refusal-in-Err.field-0 in
-    told load c.args.graph.now.edges c.args.request.now c.in_ok-plan.ensures.order r.case r.named whole (refusal_of c.in-Err.refusal) r.refused
+    told load c.args.graph.now.edges c.args.request.now c.in_ok-plan.ensures.order r.case r.named c.requires.whole (refusal_of c.in-Err.refusal) r.refused
     c.in_ok-named_refusal-in-Err.field-0 (subst L c.loaded-in-Err.ensures.load c.in_ok-named_refusal-in-Err.ensures.told)
