@@ -1,6 +1,6 @@
 -- A snapshot of all names that a question asks for answers it as its store does.
-use Rattle.std.proofs.Common.{◌≡◌, Global, List, ◌∷◌, [], Option, Some, Vec, inl, inr, refl, subst, ◌∙◌}
-use Rattle.std.specs.Prelude.{MatchOption}
+use Rattle.std.proofs.Common.{◌≡◌, Global, List, ◌∷◌, [], Option, Some, Result, Ok, Err, IfOk, Vec, true, false, inl, inr, refl, subst, sym, ◌∙◌}
+use Rattle.std.specs.Prelude.{MatchOption, MatchResult, is_ok}
 use Rattle.std.specs.Option.{IfSome}
 use Rattle.unit_name.specs.Names.{Name}
 use Rattle.edit_sums.specs.Sums.{EntryMap}
@@ -30,6 +30,13 @@ of_some P o x e h = subst (λ (p : Option _). IfSome p P) e h
 
 of_there : {X : Type 0} (A B : Type 0) (o : Option X) (x : X) → o ≡ Some x → MatchOption o A (λ _. B) → B
 of_there A B o x e h = subst (λ (p : Option _). MatchOption p A (λ _. B)) e h
+
+-- `map_err` leaves a value as it is, and so what holds of it
+pub of_mapped : {T E F : Type 0} (P Q : T → Type 0) (R : E → Type 0) (r : Result T E) (s : Result T F) → ((x : T) → P x → Q x)
+    → MatchResult r (λ x. s ≡ Ok x) R → is_ok s ≡ is_ok r → IfOk r P → IfOk s Q
+of_mapped P Q R (Ok x) s weaker same alike p = subst (λ (t : Result _ _). IfOk t Q) (sym same) (weaker x p)
+of_mapped P Q R (Err e) (Ok x) weaker same alike p = (let f : true ≡ false = alike in cc (f))
+of_mapped P Q R (Err e) (Err f) weaker same alike p = tt
 
 -- a snapshot of all names that are asked for answers as the store does
 module _ (s : EntryMap) (extra : List Name) (question : Question) (found : Option (Vec Name Global)) (names : Vec Name Global) (is : found ≡ Some names)

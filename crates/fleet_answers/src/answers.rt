@@ -50,11 +50,14 @@ pub fn answer_question<R: Threads + Sync, G: Gate + Sync>(
     if !is_crew(workers) {
         return Err(AnswerFault::Workers);
     }
-    let Some(names) = whole_names(alloc, extra, question)? else {
+    let Ok(names) = whole_names(alloc, extra, question) else {
+        return Err(AnswerFault::Memory);
+    };
+    let Some(names) = names else {
         return Ok(Answer::Template);
     };
     match Snapshot::by_workers(rt, alloc, store, question.host(), &names, workers, gate) {
-        Ok(mut snapshot) => Ok(snapshot.answer(question)?),
+        Ok(mut snapshot) => snapshot.answer(question).map_err(|_| AnswerFault::Memory),
         Err(LoadFault::TooManyUnits) => Ok(Answer::TooManyUnits),
         Err(_) => Err(AnswerFault::Memory),
     }

@@ -1,12 +1,11 @@
 //! What is asked of a store, and what is answered.
 ghost use Rattle.std.specs.{Prelude.{◌≡◌}, Option.{option_copied}};
-ghost use Rattle.fleet_answers.specs.{Answers.{host_asked}, declared.questions.AnswerFault.TheVariants.{Memory}};
+ghost use Rattle.fleet_answers.specs.Answers.{host_asked};
 
 use plain_values::{Items, Shared};
 use replica_store::HostName;
 use setting_rules::DependencyList;
 use start_plan::{Plan, Refusal, Request};
-use std::alloc::AllocError;
 use thiserror::Error;
 use unit_loads::Unit;
 use unit_name::UnitName;
@@ -77,12 +76,4 @@ pub enum AnswerFault {
     /// Memory was refused.
     #[error("out of memory")]
     Memory,
-}
-
-impl From<AllocError> for AnswerFault {
-    ghost from_gives = { λ _ fault. fault ≡ Memory };
-
-    fn from(_fault: AllocError) -> AnswerFault {
-        AnswerFault::Memory
-    }
 }

@@ -308,7 +308,10 @@ pub fn answer_again<R: Threads + Sync, G: Gate + Sync>(
     if !is_crew(workers) {
         return Err(AnswerFault::Workers);
     }
-    let Some(names) = whole_names(alloc, &[], question)? else {
+    let Ok(names) = whole_names(alloc, &[], question) else {
+        return Err(AnswerFault::Memory);
+    };
+    let Some(names) = names else {
         return Ok(Answer::Template);
     };
     let host = question.host();
@@ -319,7 +322,9 @@ pub fn answer_again<R: Threads + Sync, G: Gate + Sync>(
         gate,
     };
     match snapshots.found(&means, node, store, host, &names) {
-        Ok(found) => Ok(snapshots.told(node, store, found, question)?),
+        Ok(found) => snapshots
+            .told(node, store, found, question)
+            .map_err(|_| AnswerFault::Memory),
         Err(LoadFault::TooManyUnits) => Ok(Answer::TooManyUnits),
         Err(_) => Err(AnswerFault::Memory),
     }

@@ -61,7 +61,9 @@ pub fn answer_in_world<R: Threads + Sync, G: Gate + Sync>(
     if !is_crew(workers) {
         return Err(AnswerFault::Workers);
     }
-    let world = run_world(alloc, writers, events)?;
+    let Ok(world) = run_world(alloc, writers, events) else {
+        return Err(AnswerFault::Memory);
+    };
     match world.replicas.get(node) {
         Some(replica) => {
             let store = replica.store();

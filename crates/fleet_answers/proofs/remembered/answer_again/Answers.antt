@@ -1,9 +1,17 @@
 use Rattle.std.proofs.Common.{[]}
 use Rattle.std.specs.Option.{option_copied}
-use Rattle.fleet_answers.proofs.Told.{own_known}
+use Rattle.fleet_answers.specs.Answers.{IsAnswer, IsTold}
+use Rattle.fleet_answers.proofs.Told.{answers, of_mapped, own_known}
 use Rattle.fleet_answers.proofs.remembered.answer_again.Goals as goal
 
 pub told-requires-clause-known : goal.told-requires-clause-known
 told-requires-clause-known g c =
-    own_known c.args.store.now [] c.args.question.now c.in_ok-names.field-0 c.in-Some.names c.in-Some.is c.in_ok-names.ensures.names c.deref.result.now
-    c.deref.ensures.value (option_copied c.host-host.result) c.host-host.ensures.host c.in-Ok.found.snapshot c.in-Ok.ensures.snapshot
+    own_known c.args.store.now [] c.args.question.now c.in-Ok.names c.in-Some.names c.in-Some.is c.in-Ok.ensures.names c.deref.result.now
+    c.deref.ensures.value (option_copied c.host-host.result) c.host-host.ensures.host c.in-Ok-found.found.snapshot c.in-Ok-found.ensures.snapshot
+
+pub returns-in-Ok-found-clause-answer : goal.returns-in-Ok-found-clause-answer
+returns-in-Ok-found-clause-answer g c =
+    of_mapped (IsTold c.in-Ok-found.found.snapshot c.args.question.now) (IsAnswer c.args.store.now [] c.args.question.now) _ c.told.result c.map_err.result
+    (answers c.args.store.now [] c.args.question.now c.in-Ok.names c.in-Some.names c.in-Some.is c.in-Ok.ensures.names c.deref.result.now c.deref.ensures.value
+    (option_copied c.host-host.result) c.host-host.ensures.host c.in-Ok-found.found.snapshot c.in-Ok-found.ensures.snapshot c.in-Ok.ensures.template)
+    c.map_err.ensures.cases c.map_err.ensures.variant c.told.ensures.told
