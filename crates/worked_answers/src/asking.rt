@@ -12,7 +12,7 @@ use plain_values::Items;
 use replica_store::{Edit, Store};
 use setting_rules::DependencyList;
 use start_plan::{Plan, Request};
-use std::alloc::Global;
+use std::alloc::{AllocError, Global};
 use std::thread::Threads;
 use worked_lines::{Answer, LineFault, Words, is};
 use worker_rounds::OpenGate;
@@ -95,7 +95,7 @@ fn text_of(alloc: Global, told: Result<Option<Told>, AnswerFault>) -> Result<Vec
         Ok(Some(told)) => append_told(&mut out, &told)?,
         Ok(None) => out.write(b"none")?,
         Err(AnswerFault::Workers) => out.write(b"L1 Workers")?,
-        Err(AnswerFault::Memory) => return Err(LineFault::Memory),
+        Err(AnswerFault::Memory) => return Err(LineFault::Memory(AllocError)),
     }
     Ok(out.bytes)
 }

@@ -6,7 +6,7 @@ use crate::tellings::append_status;
 use inverse_deps::edges;
 use parallel_load::{LoadFault, Loaded, load_here};
 use setting_rules::DepKind;
-use std::alloc::Global;
+use std::alloc::{AllocError, Global};
 use unit_graph::Graph;
 use unit_name::UnitName;
 use worked_lines::{Answer, LineFault, Words, each_of};
@@ -96,7 +96,7 @@ pub fn graph(words: &mut Words, host: Looker, out: &mut Answer) -> Done {
     let names = words.names()?;
     match load_here(words.alloc, &asked.store, asked.host.as_ref(), &asked.names) {
         Ok(load) => append_graph(out, &load, &kinds, &names),
-        Err(LoadFault::Memory) => Err(LineFault::Memory),
+        Err(LoadFault::Memory) => Err(LineFault::Memory(AllocError)),
         Err(fault) => out.print(&fault),
     }
 }

@@ -10,7 +10,7 @@ use crate::edits::{Done, Looker, asked_of};
 use crate::tellings::{append_places, is_same_load};
 use parallel_load::{LoadFault, Loaded, load_here};
 use replica_store::{Edit, HostName, Place, Store};
-use std::alloc::Global;
+use std::alloc::{AllocError, Global};
 use unit_name::UnitName;
 use worked_lines::{Answer, LineFault, Words};
 
@@ -69,7 +69,7 @@ fn append_fresh(out: &mut Answer, load: &Loaded) -> Done {
 // Writes why there is no load, unless that is want of memory.
 fn append_fault(out: &mut Answer, fault: LoadFault) -> Done {
     match fault {
-        LoadFault::Memory => Err(LineFault::Memory),
+        LoadFault::Memory => Err(LineFault::Memory(AllocError)),
         fault => out.print(&fault),
     }
 }
@@ -78,7 +78,7 @@ fn append_fault(out: &mut Answer, fault: LoadFault) -> Done {
 fn append_compared(out: &mut Answer, load: &Loaded, here: Result<Loaded, LoadFault>) -> Done {
     match here {
         Ok(here) => out.either(is_same_load(load, &here)?, b", the same", b", another"),
-        Err(LoadFault::Memory) => Err(LineFault::Memory),
+        Err(LoadFault::Memory) => Err(LineFault::Memory(AllocError)),
         Err(_) => out.write(b", where there is none"),
     }
 }

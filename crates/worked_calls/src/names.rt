@@ -1,5 +1,6 @@
 //! Calls on unit names, escapes and specifiers.
 use crate::orders::append_signs;
+use std::alloc::AllocError;
 use unit_name::{ExpandFault, NameFault, UnitName, escape, expand, unescape};
 use worked_lines::{Answer, LineFault, Words, match_word};
 
@@ -42,7 +43,7 @@ fn of_name(
 fn parse(text: &[u8], out: &mut Answer) -> Result<(), LineFault> {
     match UnitName::parse(out.alloc, text) {
         Ok(name) => out.spell(name.bytes()),
-        Err(NameFault::Memory) => Err(LineFault::Memory),
+        Err(NameFault::Memory) => Err(LineFault::Memory(AllocError)),
         Err(fault) => out.print(&fault),
     }
 }
@@ -72,7 +73,7 @@ fn append_clone(out: &mut Answer, name: &UnitName) -> Result<(), LineFault> {
 fn append_expanded(out: &mut Answer, name: &UnitName, value: &[u8]) -> Result<(), LineFault> {
     match expand(out.alloc, value, name) {
         Ok(bytes) => out.spell(&bytes),
-        Err(ExpandFault::Memory) => Err(LineFault::Memory),
+        Err(ExpandFault::Memory) => Err(LineFault::Memory(AllocError)),
         Err(fault) => out.print(&fault),
     }
 }

@@ -2,6 +2,7 @@
 use crate::edits::{append_store, append_version};
 use crate::stores::append_changed;
 use replica_store::{EditFault, Replica, Version};
+use std::alloc::AllocError;
 use worked_lines::{Answer, LineFault, Words, match_word, placed_of};
 
 /// Writes what a call on replicas answers.
@@ -46,7 +47,7 @@ fn append_edited(
             out.write(b":")?;
             append_store(out, replica.store())
         }
-        Err(EditFault::Memory) => Err(LineFault::Memory),
+        Err(EditFault::Memory) => Err(LineFault::Memory(AllocError)),
         Err(fault) => out.print(&fault),
     }
 }

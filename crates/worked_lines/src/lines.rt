@@ -28,8 +28,8 @@ fn answer_line<F: Fn(&mut Words, &mut Answer) -> Result<(), LineFault>>(
 fn append_answer(out: &mut Vec<u8>, answer: &Result<Vec<u8>, LineFault>) -> Result<(), AllocError> {
     out.extend_from_slice(match answer {
         Ok(text) => text,
-        Err(LineFault::Words) => b"no such call",
-        Err(LineFault::Memory) => b"memory",
+        Err(fault) if fault.is_memory() => b"memory",
+        Err(_) => b"no such call",
     })
 }
 

@@ -10,6 +10,7 @@ use crate::threads::{plan_of, work_threads};
 use node_histories::NodeName;
 use replica_store::{Replica, Store};
 use shared_node::{Blank, BlankFault, Node};
+use std::alloc::AllocError;
 use std::marker::Brand;
 use std::sync::Wait;
 use std::thread::Threads;
@@ -89,7 +90,7 @@ fn work_over<R: Threads + Wait + Clock + Sync>(
     match blank {
         Ok(blank) => work_blank(rt, blank, words, out),
         Err(BlankFault::Seats) => out.line(b"A1 Seats"),
-        Err(BlankFault::Memory(_)) => Err(LineFault::Memory),
+        Err(BlankFault::Memory(_)) => Err(LineFault::Memory(AllocError)),
     }
 }
 
@@ -124,7 +125,7 @@ fn answer_threads<R: Threads + Wait + Sync>(
     match Blank::new(rt, Replica::new(words.alloc, writer), seats) {
         Ok(blank) => work_threads::<Brand, R>(rt, blank, plan, out),
         Err(BlankFault::Seats) => out.line(b"A1 Seats"),
-        Err(BlankFault::Memory(_)) => Err(LineFault::Memory),
+        Err(BlankFault::Memory(_)) => Err(LineFault::Memory(AllocError)),
     }
 }
 

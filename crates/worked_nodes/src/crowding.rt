@@ -1,6 +1,7 @@
 //! Crowds at a node over nothing.
 use crowds::{Counted, CrowdFault, Gate, MOST_EDITS, ROOM, crowd};
 use replica_store::Replica;
+use std::alloc::AllocError;
 use std::sync::Wait;
 use std::thread::Threads;
 use std::time::Clock;
@@ -24,7 +25,7 @@ fn append_crowd<R: Threads + Wait + Sync, G: Gate + Sync>(
             out.line(format!(in out.alloc; "takes {takes} paths {paths}")?.as_bytes())
         }
         Err(CrowdFault::Seats) => out.line(b"A1 Seats"),
-        Err(CrowdFault::Memory) => Err(LineFault::Memory),
+        Err(CrowdFault::Memory) => Err(LineFault::Memory(AllocError)),
     }
 }
 

@@ -2,6 +2,7 @@
 use crate::bench::{Bench, append_store};
 use node_histories::NodeName;
 use shared_node::{CloseCause, CloseFault, Closed, Node, Seat};
+use std::alloc::AllocError;
 use std::sync::Wait;
 use worked_lines::LineFault;
 
@@ -96,7 +97,7 @@ fn close_again<N: NodeName, R: Wait>(
     } = fault;
     if seats.push(last).is_err() {
         node.end(rt);
-        return Err(LineFault::Memory);
+        return Err(LineFault::Memory(AllocError));
     }
     close_with(rt, node, bench, seats)
 }
@@ -109,7 +110,7 @@ pub fn close_short<N: NodeName, R: Wait>(
 ) -> Result<(), LineFault> {
     let Ok(mut seats) = seats_of(bench) else {
         node.end(rt);
-        return Err(LineFault::Memory);
+        return Err(LineFault::Memory(AllocError));
     };
     match seats.pop() {
         Some(last) => close_again(rt, node, bench, seats, last),

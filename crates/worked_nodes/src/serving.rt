@@ -4,6 +4,7 @@ use crate::edits::one_piece;
 use crossbeam_channel::{Receiver, unbounded};
 use node_histories::NodeName;
 use shared_node::{Message, Node, Served, serve};
+use std::alloc::AllocError;
 use std::sync::Wait;
 use worked_lines::{CountingGate, LineFault, Words, match_word};
 
@@ -25,7 +26,7 @@ fn inbox_of<R: Wait>(rt: &R, words: &mut Words) -> Result<Receiver<Message>, Lin
         };
         let message = message_of(word, words)?;
         if sender.send(rt, message).is_err() {
-            return Err(LineFault::Memory);
+            return Err(LineFault::Memory(AllocError));
         }
     }
     Ok(inbox)

@@ -41,14 +41,14 @@ struct Job<N: NodeName> {
 // The place of a seat's own file.
 fn place_of(alloc: Global, seat: usize) -> Result<Place, LineFault> {
     let text = format!(in alloc; "/etc/systemd/system/crowd-{seat}.service")?;
-    Place::parse(alloc, text.as_bytes()).map_err(|_| LineFault::Memory)
+    Place::parse(alloc, text.as_bytes()).map_err(|_| LineFault::Memory(AllocError))
 }
 
 // What a seat writes at its edit of this number.
 fn file_of(alloc: Global, seat: usize, number: u64) -> Result<Content, LineFault> {
     let text = format!(in alloc; "[Unit]\nDescription={seat} {number}\n")?;
     let bytes = Vec::from_slice(alloc, text.as_bytes())?;
-    Content::file(bytes).map_err(|_| LineFault::Memory)
+    Content::file(bytes).map_err(|_| LineFault::Memory(AllocError))
 }
 
 /// Makes so many edits from a seat, of its own file.
@@ -63,7 +63,7 @@ pub fn make_edits<N: NodeName, R: Wait>(
         let place = place_of(alloc, seat.number())?;
         let content = file_of(alloc, seat.number(), number)?;
         if node.edit(rt, seat, place, content).is_err() {
-            return Err(LineFault::Memory);
+            return Err(LineFault::Memory(AllocError));
         }
     }
     Ok(())
@@ -197,7 +197,7 @@ fn close_with<N: NodeName, R: Wait>(
         Ok(closed) => append_closed(out, &closed, are_fine),
         Err(fault) => {
             fault.end(rt);
-            Err(LineFault::Memory)
+            Err(LineFault::Memory(AllocError))
         }
     }
 }
