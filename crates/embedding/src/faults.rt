@@ -9,16 +9,22 @@ use unit_name::NameFault;
 /// What may go wrong here.
 #[derive(Debug, Drop, Error)]
 pub enum Fault {
+    /// A text that is no place.
     #[error("{0}")]
     Place(#[from] PlaceFault),
+    /// Bytes that are no content.
     #[error("{0}")]
     Content(#[from] ContentFault),
+    /// An edit that a replica doesn't make.
     #[error("{0}")]
     Edit(#[from] EditFault),
+    /// Bytes that are no unit's name.
     #[error("{0}")]
     Name(#[from] NameFault),
+    /// A script that isn't answered to its end.
     #[error("{0}")]
     Script(#[from] ShellFault),
+    /// A question without an answer.
     #[error("{0}")]
     Answer(#[from] AnswerFault),
     /// Bytes that are no message.
@@ -27,6 +33,7 @@ pub enum Fault {
     /// A node that threads share refused what was asked of it.
     #[error("the node refused")]
     Node,
+    /// Memory was refused.
     #[error("out of memory")]
     Memory(#[from] AllocError),
 }

@@ -3,8 +3,13 @@ use Rattle.std.proofs.Common.{◌≡◌, ◌⊎◌, ℕ, inl, inr, List, [], ◌
 use Rattle.list_laws.specs.Members.{IsAmong, IsAmong-append_left, IsAmong-append_right}
 use Rattle.index_rows.specs.ListLaws.{IsAmong-push, IsAmong-push_cases}
 use Rattle.setting_rules.specs.declared.kinds.DepKind.{DepKind}
+use Rattle.setting_rules.specs.declared.kinds.DepKind.TheVariants.{Before}
 use Rattle.parallel_load.specs.declared.loaded.Dependency.{Dependency}
 use Rattle.inverse_deps.specs.Tables.{AreNumbersBy, HasKind}
+
+-- what stands for none
+pub no_dependency : Dependency
+no_dependency = record { kind = Before; number = 0 }
 
 -- nothing was read yet
 pub none_read : (dep : DepKind) (is : List ℕ) → is ≡ [] → AreNumbersBy [] dep is

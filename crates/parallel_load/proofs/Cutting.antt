@@ -1,6 +1,6 @@
 -- Where the first components of paths are cut: at their first stop.
 use Rattle.std.proofs.Common.{◌≡◌, ◌≢◌, ◌<◌, ◌≤◌, ◌+◌, ◌-◌, ℕ, zero, suc, Bool, true, false, not, cond, Some, None, List, [], ◌∷◌, ◌++◌, drop, get_or, length, take, refl, ap, sym, ◌∙◌, ⊎_elim, subst, inl, inr, arith}
-use Rattle.std.specs.Prelude.{position}
+use Rattle.std.specs.Prelude.{◌⊎◌, position}
 use Rattle.std.specs.List.{list_any, position_or_len}
 use Rattle.std.proofs.lemmas.Bool.{cases_Bool, cond-true, cond-false, ltb-true, ltb-false, or_from}
 use Rattle.std.proofs.lemmas.List.{take_all, take_more}
@@ -50,29 +50,18 @@ cut_nowhere part e = ⊎_elim
 
 -- ---- the front
 
--- with the stop, where no dash stands before it
-pub front_with : (part : List ℕ) (i : ℕ) → IsCutAt part i → ¬ EndsInDash (take i part) → IsFrontOf part (take (i + 1) part)
-front_with part i c other = record {
-  before = take i part;
-  stop = get_or part i 0;
-  rest = drop (i + 1) part;
-  is = c.is;
-  plain = c.plain;
-  stopped = c.stopped;
-  front_is = inr (take_more part i 0 c.within, other);
-}
+module _ (part : List ℕ) (i : ℕ) (c : IsCutAt part i) where
+  front_by : (front : List ℕ) → ((front ≡ take i part) × EndsInDash (take i part)) ⊎ ((front ≡ take i part ++ get_or part i 0 ∷ []) × ¬ EndsInDash (take i part)) → IsFrontOf part front
+  front_by front is =
+      record { before = take i part; stop = get_or part i 0; rest = drop (i + 1) part; is = c.is; plain = c.plain; stopped = c.stopped; front_is = is }
 
--- without it, where one does
-pub front_without : (part : List ℕ) (i : ℕ) → IsCutAt part i → EndsInDash (take i part) → IsFrontOf part (take i part)
-front_without part i c dash = record {
-  before = take i part;
-  stop = get_or part i 0;
-  rest = drop (i + 1) part;
-  is = c.is;
-  plain = c.plain;
-  stopped = c.stopped;
-  front_is = inl (refl, dash);
-}
+  -- with the stop, where no dash stands before it
+  pub front_with : ¬ EndsInDash (take i part) → IsFrontOf part (take (i + 1) part)
+  front_with other = front_by (take (i + 1) part) (inr (take_more part i 0 c.within, other))
+
+  -- without it, where one does
+  pub front_without : EndsInDash (take i part) → IsFrontOf part (take i part)
+  front_without dash = front_by (take i part) (inl (refl, dash))
 
 -- what is taken ends in a dash just where that is its last byte
 pub dash_before : (part : List ℕ) (i : ℕ) → 0 < i → i < length part → get_or part (i - 1) 0 ≡ 45 → EndsInDash (take i part)

@@ -22,6 +22,12 @@ grown_not limit xs = record { kept = λ i a. a; within = λ h. h }
 pub grown_by : (limit : ℕ) (xs ys zs : List ℕ) → GrowsWithin limit xs ys → GrowsWithin limit ys zs → GrowsWithin limit xs zs
 grown_by limit xs ys zs g h = record { kept = λ i a. h.kept i (g.kept i a); within = λ a. h.within (g.within a) }
 
+-- where the names by which the limit is told are a load's
+pub grown_for : (names olds : List (Name × NameLoad)) (xs ys zs : List ℕ) → names ≡ olds → GrowsWithin (length names) xs ys → GrowsWithin (length names) ys zs → GrowsWithin (length olds) xs zs
+grown_for names olds xs ys zs e g h =
+    let P : List (Name × NameLoad) → Type 0 = λ ns. GrowsWithin (length ns) xs zs in
+    subst P e (grown_by (length names) xs ys zs g h)
+
 pub grown_one : (limit : ℕ) (xs ys : List ℕ) (i : ℕ) → i < limit → ys ≡ xs ++ i ∷ [] → GrowsWithin limit xs ys
 grown_one limit xs ys i l e =
     let P : ℕ → Type 0 = λ k. k < limit in
@@ -69,13 +75,9 @@ owners_noted_more limit names second old new part ending from to p g h within is
         subst (λ (q : Name × ℕ). IsNoted names new part q.1) same (one (subst (λ (q : Name × ℕ). EndsWith ending q.0) (sym same) e))
 
 -- what was noted before more is added
-pub numbers_still : (limit : ℕ) (names : List (Name × NameLoad)) (old new part ending : List ℕ) (from to : ℕ) → GrowsWithin limit old new → AreNoted names old part ending from to
+numbers_still : (limit : ℕ) (names : List (Name × NameLoad)) (old new part ending : List ℕ) (from to : ℕ) → GrowsWithin limit old new → AreNoted names old part ending from to
     → AreNoted names new part ending from to
 numbers_still limit names old new part ending from to g h i d l m e = noted_still limit names old new part i g (h i d l m e)
-
-pub owners_still : (limit : ℕ) (names : List (Name × NameLoad)) (second : List (Name × ℕ)) (old new part ending : List ℕ) (from to : ℕ) → GrowsWithin limit old new
-    → AreOwnersNoted names second old part ending from to → AreOwnersNoted names second new part ending from to
-owners_still limit names second old new part ending from to g h k d l m e = noted_still limit names old new part (get_or second k d).1 g (h k d l m e)
 
 -- so for one part more
 pub hit_more : (limit : ℕ) (parts : List (List ℕ)) (names : List (Name × NameLoad)) (old new : List ℕ) (i : ℕ) (x : List ℕ) → i < length parts → x ≡ get_or parts i x → GrowsWithin limit old new
@@ -118,27 +120,35 @@ module _ (names : List (Name × NameLoad)) (second : List (Name × ℕ)) (are : 
       by (inl s) = owned s
       by (inr a) = other ((are.each i p l h.unit h.load_is).listed m a)
 
-module _ (names : List (Name × NameLoad)) (second : List (Name × ℕ)) (are : AreSecondNames names second) (part : List ℕ) where
+-- the names of a load, as they are at hand
+module _ (names olds : List (Name × NameLoad)) (same : names ≡ olds) (second : List (Name × ℕ)) (of_olds : AreSecondNames olds second) (part old new : List ℕ)
+    (grows : GrowsWithin (length names) old new) where
+  are : AreSecondNames names second
+  are = let P : List (Name × NameLoad) → Type 0 = λ ns. AreSecondNames ns second in subst P (sym same) of_olds
+
+  all_of : AreHitBy names new part → AreHitBy olds new part
+  all_of h = let P : List (Name × NameLoad) → Type 0 = λ ns. AreHitBy ns new part in subst P same h
+
   -- by names that begin with its front
-  pub all_by_front : (front hit : List ℕ) (from to start end : ℕ) → IsOfNoType part → IsFrontOf part front → AreWithin front names from to → AreWithin front second start end
-      → AreNoted names hit part [] from to → AreOwnersNoted names second hit part [] start end → AreHitBy names hit part
-  all_by_front front hit from to start end typeless f own others noted owners i l p h =
-      let has = are.each i p l h.unit h.load_is in
+  pub all_by_front : (front : List ℕ) (from to start end : ℕ) → IsOfNoType part → IsFrontOf part front → AreWithin front names from to → AreWithin front second start end
+      → AreNoted names old part [] from to → AreOwnersNoted names second new part [] start end → AreHitBy olds new part
+  all_by_front front from to start end typeless f own others noted owners = all_of (λ i l p h.
+      (let has = are.each i p l h.unit h.load_is in
       let m = names_begin part front (get_or names i p).0 h.unit.names f typeless has.own has.lawful h.there in
-      leads names second are hit part [] from to start end i p l h noted owners m.0 m.1.0 (record { start = m.0; is = sym (append-nil m.0) })
-      (λ s. own i p l (subst (BeginsWith front) (sym s) m.1.1)) (λ k b s. others k (m.0, i) b (subst (BeginsWith front) (sym s) m.1.1))
+      leads names second are new part [] from to start end i p l h (numbers_still (length names) names old new part [] from to grows noted) owners m.0 m.1.0
+      (record { start = m.0; is = sym (append-nil m.0) })
+      (λ s. own i p l (subst (BeginsWith front) (sym s) m.1.1)) (λ k b s. others k (m.0, i) b (subst (BeginsWith front) (sym s) m.1.1))))
 
   -- by names of its type
-  pub all_by_type : (word hit : List ℕ) (to end : ℕ) → IsOfType part word → to ≡ length names → end ≡ length second → AreNoted names hit part word 0 to → AreOwnersNoted names second hit part word 0 end
-      → AreHitBy names hit part
-  all_by_type word hit to end t e f noted owners i l p h =
-      let has = are.each i p l h.unit h.load_is in
+  pub all_by_type : (word : List ℕ) → IsOfType part word → AreNoted names old part word 0 (length names) → AreOwnersNoted names second new part word 0 (length second) → AreHitBy olds new part
+  all_by_type word t noted owners = all_of (λ i l p h.
+      (let has = are.each i p l h.unit h.load_is in
       let m = names_of_type part word (get_or names i p).0 h.unit.names t has.own has.lawful h.there in
-      leads names second are hit part word 0 to 0 end i p l h noted owners m.0 (inr m.1.0) m.1.1
-      (λ s. (omega arith, omega (arith, l, e))) (λ k b s. (omega arith, omega (arith, b, f)))
+      leads names second are new part word 0 (length names) 0 (length second) i p l h (numbers_still (length names) names old new part word 0 (length names) grows noted) owners m.0 (inr m.1.0) m.1.1
+      (λ s. (omega arith, l)) (λ k b s. (omega arith, b))))
 
-  -- none has a part without a stop
-  pub none_found : (hit : List ℕ) → IsOfNoType part → HasNoStop part → AreHitBy names hit part
-  none_found hit typeless none i l p h =
-      let has = are.each i p l h.unit h.load_is in
-      absurd (stopless part (get_or names i p).0 h.unit.names none typeless has.own has.lawful h.there)
+-- none has a part without a stop
+pub none_found : (names : List (Name × NameLoad)) (second : List (Name × ℕ)) (part hit : List ℕ) → AreSecondNames names second → IsOfNoType part → HasNoStop part → AreHitBy names hit part
+none_found names second part hit are typeless none i l p h =
+    let has = are.each i p l h.unit h.load_is in
+    absurd (stopless part (get_or names i p).0 h.unit.names none typeless has.own has.lawful h.there)

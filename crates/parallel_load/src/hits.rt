@@ -22,26 +22,13 @@ pub(crate) fn numbers_hit(loaded: &Loaded, parts: &[Bytes]) -> Result<Vec<usize>
     let alloc = loaded.allocator();
     let mut hit = Vec::new(alloc);
     for part in parts {
-        add_hit(alloc, loaded, part, &mut hit)?;
+        match type_of(part.as_slice()) {
+            Some(word) => add_of_type(alloc, loaded, part, word, &mut hit)?,
+            None => add_by_front(alloc, loaded, part, &mut hit)?,
+        }
     }
     put_in_order(&mut hit);
     Ok(hit)
-}
-
-// Adds those in whose footprint one part is.
-fn add_hit(
-    alloc: Global,
-    loaded: &Loaded,
-    part: &Bytes,
-    hit: &mut Vec<usize>,
-) -> Result<(), AllocError>
-    ensures grows { OnOk result (GrowsWithin (length loaded.now.names) hit.old.items hit.new.items) }
-    ensures hit { OnOk result (AreHitBy loaded.now.names hit.new.items part.now) }
-{
-    match type_of(part.as_slice()) {
-        Some(word) => add_of_type(alloc, loaded, part, word, hit),
-        None => add_by_front(alloc, loaded, part, hit),
-    }
 }
 
 // Adds those in whose footprint a type's folder is: all of the type.
@@ -59,7 +46,7 @@ fn add_of_type(
     let names = loaded.names();
     let second = loaded.second_names();
     add_numbers(alloc, names, part, 0..names.len(), word, hit)?;
-    add_owners(alloc, names, second, part, 0..second.len(), word, hit)?;
+    add_owners(alloc, names, part, second, 0..second.len(), word, hit)?;
     Ok(())
 }
 
@@ -83,8 +70,8 @@ fn add_by_front(
     add_owners(
         alloc,
         names,
-        second,
         part,
+        second,
         places_of(second, front),
         &[],
         hit,
@@ -117,8 +104,8 @@ fn add_numbers(
 fn add_owners(
     alloc: Global,
     names: &[(UnitName, NameLoad)],
-    second: &[(UnitName, usize)],
     part: &Bytes,
+    second: &[(UnitName, usize)],
     places: Range<usize>,
     ending: &[u8],
     hit: &mut Vec<usize>,

@@ -1,7 +1,9 @@
 //! Seats at a node, and views of what it shows.
-ghost use Rattle.std.specs.Prelude.{◌≡◌, ◌<◌, IfOk, IfErr};
+ghost use Rattle.std.specs.Prelude.{◌≡◌, ◌<◌, true, IfOk, IfErr};
 ghost use mathlib.Core.List.{IsPrefix};
+ghost use Rattle.left_right.specs.Sides.{view as sight};
 ghost use Rattle.node_histories.specs.Histories.{IsLegal, store_of, takes_in};
+ghost use Rattle.shared_node.specs.{Seats.{SeatNow}, Codes.{coded_seat}, Sights.{book_of}};
 
 use crate::post::Told;
 use crate::sight::{PageReader, PageReading, Sees};
@@ -21,10 +23,6 @@ pub struct Seat<N: NodeName> {
 }
 
 impl<N: NodeName> Model for Seat<N> {
-    ghost use Rattle.std.specs.Prelude.{◌≡◌, ◌<◌, true};
-    ghost use Rattle.left_right.specs.Sides.{view as sight};
-    ghost use Rattle.shared_node.specs.{Seats.{SeatNow}, Codes.{coded_seat}, Sights.{book_of}};
-
     ghost Value = { SeatNow };
 
     ghost coded = { coded_seat };
@@ -44,10 +42,6 @@ pub struct View<N: NodeName> {
 }
 
 impl<N: NodeName> Model for View<N> {
-    ghost use Rattle.std.specs.Prelude.{◌≡◌, ◌<◌, true};
-    ghost use Rattle.left_right.specs.Sides.{view as sight};
-    ghost use Rattle.shared_node.specs.{Seats.{SeatNow}, Codes.{coded_seat}, Sights.{book_of}};
-
     ghost Value = { SeatNow };
 
     ghost coded = { coded_seat };

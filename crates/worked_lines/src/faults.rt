@@ -13,14 +13,19 @@ pub enum LineFault {
     /// It is no call: a word is missing, isn't what the call takes, or is one too many.
     #[error("no such call")]
     Words,
+    /// Its text is no path.
     #[error("{0}")]
     Path(#[from] PathFault),
+    /// Its bytes name no host.
     #[error("{0}")]
     Host(#[from] HostFault),
+    /// Its text is no place.
     #[error("{0}")]
     Place(#[from] PlaceFault),
+    /// Its bytes are no unit's name.
     #[error("{0}")]
     Name(#[from] NameFault),
+    /// Its bytes are no content.
     #[error("{0}")]
     Content(#[from] ContentFault),
     /// Memory was refused.

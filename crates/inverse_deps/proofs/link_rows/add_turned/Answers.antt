@@ -2,10 +2,10 @@ use Rattle.std.proofs.Common.{◌≡◌, ◌<◌, ◌+◌, ◌++◌, ◌∷◌, 
 use Rattle.std.specs.declared.vec.Vec.{Vec}
 use Rattle.std.specs.declared.alloc.Global.{Global}
 use Rattle.std.proofs.lemmas.List.{get_or-map, length-map, map-set, take_more, take_all}
-use Rattle.setting_rules.specs.declared.kinds.DepKind.TheVariants.{Before}
 use Rattle.parallel_load.specs.declared.loaded.Dependency.{Dependency}
 use Rattle.inverse_deps.specs.Links.{AreTurnedIn, links_in}
 use Rattle.inverse_deps.proofs.Linking.{turned_in_more, turned_in_none}
+use Rattle.inverse_deps.proofs.Listing.{no_dependency}
 use Rattle.inverse_deps.proofs.link_rows.add_turned.Goals as goal
 
 pub loop-dep-init : goal.loop-dep-init
@@ -15,15 +15,14 @@ pub loop-dep-preserved : goal.loop-dep-preserved
 loop-dep-preserved c =
     let deps : List Dependency = c.args.deps.now in
     let i = c.loop-dep.dep-index in
-    let none : Dependency = record { kind = Before; number = 0 } in
-    let x : Dependency = get_or deps i none in
+    let x : Dependency = get_or deps i no_dependency in
     let y : Dependency = record { kind = c.inverse.result; number = c.args.from } in
     let rows : List (Vec Dependency Global) = c.loop-dep.rows.items in
     let lists = links_in rows in
     let own : List Dependency = get_or lists x.number [] in
     let items : Vec Dependency Global → List Dependency = λ row. row.items in
-    let more : take (i + 1) deps ≡ take i deps ++ x ∷ [] = take_more deps i none c.loop-dep-test.true in
-    let below = c.requires.within i none c.loop-dep-test.true in
+    let more : take (i + 1) deps ≡ take i deps ++ x ∷ [] = take_more deps i no_dependency c.loop-dep-test.true in
+    let below = c.requires.within i no_dependency c.loop-dep-test.true in
     let units = c.loop-dep.invariant.units in
     let count = length-map rows items in
     let counted = length-map c.args.rows.now.items items in

@@ -4,10 +4,9 @@ use Rattle.std.specs.declared.vec.Vec.{Vec}
 use Rattle.std.specs.declared.alloc.Global.{Global}
 use Rattle.std.proofs.lemmas.List.{take_more, take_all}
 use Rattle.setting_rules.specs.contracts.kinds.DepKind as kinds
-use Rattle.setting_rules.specs.declared.kinds.DepKind.TheVariants.{Before}
 use Rattle.parallel_load.specs.declared.loaded.Dependency.{Dependency}
 use Rattle.inverse_deps.specs.Tables.{AreNumbersBy}
-use Rattle.inverse_deps.proofs.Listing.{number_passed, number_read}
+use Rattle.inverse_deps.proofs.Listing.{no_dependency, number_passed, number_read}
 use Rattle.inverse_deps.proofs.steps.numbers_by.Goals as goal
 use Rattle.inverse_deps.proofs.steps.numbers_by.Goals.{then-eq+in_ok-push, else-eq}
 
@@ -15,9 +14,8 @@ pub loop-dep-preserved : goal.loop-dep-preserved
 loop-dep-preserved c =
     let deps : List Dependency = c.args.deps.now in
     let i = c.loop-dep.dep-index in
-    let none : Dependency = record { kind = Before; number = 0 } in
-    let x : Dependency = get_or deps i none in
-    let more : take (i + 1) deps ≡ take i deps ++ x ∷ [] = take_more deps i none c.loop-dep-test.true in
+    let x : Dependency = get_or deps i no_dependency in
+    let more : take (i + 1) deps ≡ take i deps ++ x ∷ [] = take_more deps i no_dependency c.loop-dep-test.true in
     elim c.if-eq.branch [
       | then-eq+in_ok-push w ↦ number_read c.args.kind (take i deps) (take (i + 1) deps) x more c.loop-dep.numbers.items c.loop-dep.invariant _
           (same_true kinds.the_type tt x.kind c.args.kind (sym c.eq.ensures ∙ w.if-eq.true))

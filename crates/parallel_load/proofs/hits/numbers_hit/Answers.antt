@@ -1,17 +1,28 @@
-use Rattle.std.proofs.Common.{◌<◌, ℕ, List, length, get_or, subst}
+use Rattle.std.proofs.Common.{◌<◌, ◌+◌, ℕ, List, length, take, get_or, ap, sym, subst}
+use Rattle.std.specs.List.{All}
 use Rattle.std.proofs.lemmas.List.{take_all}
-use Rattle.parallel_load.specs.Hits.{AreHit}
+use Rattle.parallel_load.specs.Hits.{AreHit, AreHitBy, GrowsWithin}
 use Rattle.parallel_load.specs.UniverseLaws.{all_among}
 use Rattle.parallel_load.proofs.Keeping.{get_among}
 use Rattle.parallel_load.proofs.Seeking.{hit_more}
 use Rattle.parallel_load.proofs.hits.numbers_hit.Goals as goal
+use Rattle.parallel_load.proofs.hits.numbers_hit.Goals.{in-Some+in_ok-add_of_type-in-Some, in-None+in_ok-add_by_front-in-None}
 
 pub loop-part-preserved : goal.loop-part-preserved
-loop-part-preserved c = (
-  c.in_ok-add_hit.ensures.grows.within c.loop-part.invariant.0,
-  hit_more (length c.args.loaded.now.names) c.args.parts.now c.args.loaded.now.names c.loop-part.hit.items c.add_hit.new.hit.items c.loop-part.part-index c.part-item.result c.loop-part-test.true
-      c.part-item.is c.in_ok-add_hit.ensures.grows c.loop-part.invariant.1 c.in_ok-add_hit.ensures.hit,
-)
+loop-part-preserved c =
+    let names = c.args.loaded.now.names in
+    let parts = c.args.parts.now in
+    let i = c.loop-part.part-index in
+    let limit = length names in
+    let P : List ℕ → Type 0 = λ hit. All (λ n. n < limit) hit × AreHit (take (i + 1) parts) names hit in
+    let more : (new : List ℕ) → GrowsWithin limit c.loop-part.hit.items new → AreHitBy names new c.part-item.result → P new = λ new grows one.
+    (grows.within c.loop-part.invariant.0, hit_more limit parts names c.loop-part.hit.items new i c.part-item.result c.loop-part-test.true c.part-item.is grows c.loop-part.invariant.1 one) in
+    elim c.match-type_of.branch [
+      | in-Some+in_ok-add_of_type-in-Some w ↦
+          subst P (sym (ap (λ v. v.items) w.hit-is)) (more w.add_of_type.new.hit.items w.in_ok-add_of_type-in-Some.ensures.grows w.in_ok-add_of_type-in-Some.ensures.hit)
+      | in-None+in_ok-add_by_front-in-None w ↦
+          subst P (sym (ap (λ v. v.items) w.hit-is)) (more w.add_by_front.new.hit.items w.in_ok-add_by_front-in-None.ensures.grows w.in_ok-add_by_front-in-None.ensures.hit)
+    ]
 
 pub returns-clause-within : goal.returns-clause-within
 returns-clause-within c = λ k d l.
