@@ -8,7 +8,7 @@ use Rattle.parallel_load.specs.declared.loaded.Dependency.{Dependency}
 use Rattle.inverse_deps.specs.Tables.{AreNumbersBy, HasKind}
 
 -- what stands for none
-pub no_dependency : Dependency
+abbrev pub no_dependency : Dependency
 no_dependency = record { kind = Before; number = 0 }
 
 -- nothing was read yet
