@@ -47,18 +47,50 @@ impl Links {
     }
 }
 
-// A copy of each unit's own dependencies.
+// A copy of each unit's own dependencies, with room for those that are on it.
 fn own_rows(
     alloc: Global,
     table: &[Shared<Items<Dependency>>],
 ) -> Result<Vec<Vec<Dependency>>, AllocError>
     ensures rows { IfOk result (λ rows. links_in rows.items ≡ table.now) }
 {
+    let counts = counts_on(alloc, table)?;
     let mut rows = Vec::with_capacity(alloc, table.len())?;
-    for deps in table {
-        rows.push(Vec::from_slice(alloc, deps.get().as_slice())?)?;
+    for (number, deps) in table.iter().enumerate() {
+        rows.push(row_of(alloc, deps.get().as_slice(), counts[number])?)?;
     }
     Ok(rows)
+}
+
+// A copy of dependencies, with room for so many more.
+fn row_of(alloc: Global, deps: &[Dependency], more: usize) -> Result<Vec<Dependency>, AllocError>
+    ensures row { IfOk result (λ row. row.items ≡ deps.now) }
+{
+    let mut row = Vec::with_capacity(alloc, deps.len().saturating_add(more))?;
+    row.extend_from_slice(deps)?;
+    Ok(row)
+}
+
+// How many dependencies are on each unit, by its number.
+fn counts_on(alloc: Global, table: &[Shared<Items<Dependency>>]) -> Result<Vec<usize>, AllocError>
+    ensures one_each { IfOk result (λ counts. length counts.items ≡ length table.now) }
+{
+    let mut counts: Vec<usize> = vec![in alloc; 0; table.len()]?;
+    for deps in table {
+        count_on(&mut counts, deps.get().as_slice());
+    }
+    Ok(counts)
+}
+
+// Counts dependencies to the units that they are on.
+fn count_on(counts: &mut Vec<usize>, deps: &[Dependency])
+    ensures one_each { length counts.new.items ≡ length counts.old.items }
+{
+    for dep in deps {
+        if let Some(count) = counts.get_mut(dep.number) {
+            *count = count.saturating_add(1);
+        }
+    }
 }
 
 // Adds the dependencies of one unit, turned round, to the rows of the units that they are on.
